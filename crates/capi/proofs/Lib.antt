@@ -1,0 +1,3 @@
+-- The laws of `capi` that belong to no one function.
+-- Assumes nothing.
+pub mod Words

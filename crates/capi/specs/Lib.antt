@@ -1,0 +1,3 @@
+-- The definitions that the contracts of `capi` cite.
+-- Assumes nothing.
+pub mod Packed

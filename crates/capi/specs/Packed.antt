@@ -1,0 +1,24 @@
+-- How an answer is packed into one 64-bit word: the refusal's number in bits 56 to 63 (0: accepted), and its value, or the
+-- result, in the low 56 bits.
+use Prim.Native.Nat.{ℕ, _+_, _*_, _^_}
+use Rattle.part.specs.Outcome.{Outcome}
+use Rattle.part.specs.Outcome.Outcome.{accepted, refused}
+use Rattle.part.specs.declared.Device.{Device}
+
+abbrev pub refusalWord : (number value : ℕ) → ℕ
+refusalWord number value = number * 2 ^ 56 + value
+
+abbrev pub packed : {A : Type 0} → (A → ℕ) → Outcome A → ℕ
+packed result (accepted x) = result x
+packed result (refused number value) = refusalWord number value
+
+abbrev pub device : ℕ → ℕ → Device
+device blocks class = record { blocks = blocks; class = class }
+
+-- the result of an address and a bit: the address times 8 plus the bit
+abbrev pub addressAndBit : ℕ × ℕ → ℕ
+addressAndBit p = p .0 * 8 + p .1
+
+-- the result of a single number
+abbrev pub itself : ℕ → ℕ
+itself x = x

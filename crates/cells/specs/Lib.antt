@@ -1,0 +1,3 @@
+-- The definitions that the contracts of `cells` cite.
+-- Assumes nothing.
+pub mod Cells

@@ -1,0 +1,102 @@
+-- The two conversions are inverse: each is accepted exactly where fuse, address and bit belong to one place of the device.
+-- So each fuse has exactly one address and bit, and each valid address and bit within its width exactly one fuse.
+use mathlib.Core.Path.{_≡_, refl, sym, _∙_, ap}
+use mathlib.Core.Logic.{_↔_}
+use mathlib.Core.Bool.{Bool, true, false, cond, _&&_}
+use Prim.Native.Nat.{ℕ, _+_, _*_, _≤_, _<_}
+use native.Mathlib.Omega.{arith}
+use lib.Dec.{ltb, eqb}
+use borrow.Author.Tests.{lt-ltb, ltb-true}
+use Rattle.part.specs.Outcome.{Outcome}
+use Rattle.part.specs.Outcome.Outcome.{accepted, refused}
+use Rattle.part.specs.Device.{known, fuseCount, blockFuses}
+use Rattle.part.specs.Place.{hasPlace, hasByte, widthOf, fuseOfPlace, placeOfFuse, addressOfByte, byteOfAddress, valid}
+use Rattle.part.specs.Convert.{ifKnown, addressOfFuse, fuseOfAddress}
+use Rattle.part.specs.declared.Device.{Device}
+use Rattle.part.specs.declared.Place.{Place}
+use Rattle.part.proofs.Facts.{tests, and-iff}
+use Rattle.part.proofs.Fuses.{at-fuse, of-place}
+use Rattle.part.proofs.Addresses.{again, valid-iff}
+
+-- fuse, address and bit belong to one place of a known device
+pub record SamePlace (d : Device) (fuse address bit : ℕ) : Type 0 where
+  pub device : known d ≡ true
+  pub place : Place
+  pub there : hasPlace d place ≡ true
+  pub its-fuse : fuseOfPlace d place ≡ fuse
+  pub its-address : addressOfByte (place .byte) ≡ address
+  pub its-bit : place .bit ≡ bit
+
+-- what is accepted under a test: the test passed
+passed : {A : Type 0} (t : Bool) (x : Outcome A) (k v : ℕ) {b : A} → cond t x (refused k v) ≡ accepted b → (t ≡ true) × (x ≡ accepted b)
+passed true x k v e = (refl, e)
+passed false x k v e = let z : _≡_ {A = ℕ} 0 1 = cc in absurd (omega arith)
+
+-- the result of an accepted answer
+pub result : {A : Type 0} {x y : A} → _≡_ {A = Outcome A} (accepted x) (accepted y) → x ≡ y
+result e = cc
+
+module _ (d : Device) (fuse address bit : ℕ) where
+  address-to : addressOfFuse d fuse ≡ accepted (address, bit) → SamePlace d fuse address bit
+  unfolding addressOfFuse
+  address-to e =
+      let outer = passed (known d) _ 1 0 e in
+      let inner = passed (ltb fuse (fuseCount d)) _ 3 0 (outer .1) in
+      let lies = at-fuse d fuse (ltb-true fuse (fuseCount d) (inner .0)) in
+      record {
+        device = outer .0;
+        place = placeOfFuse d fuse;
+        there = lies .0;
+        its-fuse = lies .1;
+        its-address = ap (λ (q : ℕ × ℕ). q .0) (result (inner .1));
+        its-bit = ap (λ (q : ℕ × ℕ). q .1) (result (inner .1));
+      }
+
+  address-from : SamePlace d fuse address bit → addressOfFuse d fuse ≡ accepted (address, bit)
+  unfolding addressOfFuse
+  address-from s =
+      let found = of-place d (s .place) (s .there) in
+      let below : ltb (fuseOfPlace d (s .place)) (fuseCount d) ≡ true = lt-ltb _ _ (found .0) in
+      rw (s .device, ← s .its-fuse, below, found .1, s .its-address, s .its-bit)
+
+  fuse-to : fuseOfAddress d address bit ≡ accepted fuse → SamePlace d fuse address bit
+  unfolding fuseOfAddress hasPlace valid
+  fuse-to e =
+      let outer = passed (known d) _ 1 0 e in
+      let inner = passed (valid d address && ltb bit (widthOf (byteOfAddress address))) _ 3 0 (outer .1) in
+      let facts = and-iff (valid d address) (ltb bit (widthOf (byteOfAddress address))) .0 (inner .0) in
+      let composed = simp tests at (facts .0) in
+      record {
+        device = outer .0;
+        place = record { byte = byteOfAddress address; bit = bit };
+        there = and-iff (hasByte d (byteOfAddress address)) (ltb bit (widthOf (byteOfAddress address))) .1 (composed .1, facts .1);
+        its-fuse = cc;
+        its-address = composed .0;
+        its-bit = refl;
+      }
+
+  fuse-from : SamePlace d fuse address bit → fuseOfAddress d address bit ≡ accepted fuse
+  unfolding fuseOfAddress hasPlace
+  fuse-from s =
+      let facts = and-iff (hasByte d (s .place .byte)) (ltb (s .place .bit) (widthOf (s .place .byte))) .0 (s .there) in
+      let named : byteOfAddress address ≡ s .place .byte = ap byteOfAddress (sym (s .its-address)) ∙ again d (s .device) (s .place .byte) (facts .0) in
+      let ok : valid d address ≡ true = valid-iff d (s .device) address .1 (s .place .byte, facts .0, s .its-address) in
+      rw (s .device, ok, named, ← s .its-bit, facts .1, s .its-fuse)
+
+-- the address of a fuse is accepted exactly where the three belong to one place ..
+pub address-of-fuse-iff : (d : Device) (fuse address bit : ℕ)
+    → (addressOfFuse d fuse ≡ accepted (address, bit)) ↔ SamePlace d fuse address bit
+address-of-fuse-iff d fuse address bit = (address-to d fuse address bit, address-from d fuse address bit)
+
+-- .. and so is the fuse of an address and a bit
+pub fuse-of-address-iff : (d : Device) (fuse address bit : ℕ)
+    → (fuseOfAddress d address bit ≡ accepted fuse) ↔ SamePlace d fuse address bit
+fuse-of-address-iff d fuse address bit = (fuse-to d fuse address bit, fuse-from d fuse address bit)
+
+-- the two conversions are inverse to each other, for every device, fuse, address and bit
+pub inverse : (d : Device) (fuse address bit : ℕ)
+    → (addressOfFuse d fuse ≡ accepted (address, bit)) ↔ (fuseOfAddress d address bit ≡ accepted fuse)
+inverse d fuse address bit = (
+  λ e. fuse-from d fuse address bit (address-to d fuse address bit e),
+  λ e. address-from d fuse address bit (fuse-to d fuse address bit e),
+)

@@ -1,0 +1,61 @@
+-- The known devices: six block counts, one law for what must be shown of each, and the table of sizes.
+-- Assumes nothing.
+use mathlib.Core.Path.{_≡_, refl, sym, _∙_, subst}
+use mathlib.Core.Bool.{Bool, true, false, cond, not, _&&_, _||_}
+use Prim.Native.Nat.{ℕ, _+_, _*_, _≤_, _<_}
+use native.Mathlib.Omega.{arith}
+use native.Mathlib.Nat.{mul-le-mul, mul-le-mul-right}
+use lib.Dec.{eqb, ltb}
+use borrow.Author.Tests.{eqb-true, not-true, not-false}
+use Rattle.part.specs.Device.{isBlockCount, isClass, known, inBlock, inDevice, fuseCount, decimalDigits}
+use Rattle.part.specs.declared.Device.{Device}
+use Rattle.part.proofs.Facts.{and-iff, either, by-cases}
+
+-- what holds of the six counts holds of every block count
+pub by-count : (P : ℕ → Type 0) → P 2 → P 4 → P 6 → P 8 → P 12 → P 16 → (n : ℕ) → isBlockCount n ≡ true → P n
+by-count P p2 p4 p6 p8 p12 p16 n h =
+    either (eqb n 2 || eqb n 4 || eqb n 6 || eqb n 8 || eqb n 12) (eqb n 16) h
+    (λ h5. either (eqb n 2 || eqb n 4 || eqb n 6 || eqb n 8) (eqb n 12) h5
+    (λ h4. either (eqb n 2 || eqb n 4 || eqb n 6) (eqb n 8) h4
+    (λ h3. either (eqb n 2 || eqb n 4) (eqb n 6) h3
+    (λ h2. either (eqb n 2) (eqb n 4) h2 (is 2 p2) (is 4 p4))
+    (is 6 p6)) (is 8 p8)) (is 12 p12)) (is 16 p16)
+  where
+    is : (k : ℕ) → P k → eqb n k ≡ true → P n
+    is k p e = subst P (sym (eqb-true n k e)) p
+
+pub known-count : (d : Device) → known d ≡ true → isBlockCount (d .blocks) ≡ true
+unfolding known
+known-count d h = and-iff (isBlockCount (d .blocks)) (isClass (d .class)) .0 h .0
+
+pub blocks-small : (d : Device) → known d ≡ true → d .blocks ≤ 16
+blocks-small d h =
+    by-count (λ n. n ≤ 16) (omega arith) (omega arith) (omega arith) (omega arith) (omega arith) (omega arith) (d .blocks)
+    (known-count d h)
+
+-- what the code's test says of the device
+pub is-known : (d : Device) (t : Bool) → t ≡ known d → not t ≡ false → known d ≡ true
+is-known d t e h = sym e ∙ not-false t h
+
+pub is-unknown : (d : Device) (t : Bool) → t ≡ known d → not t ≡ true → known d ≡ false
+is-unknown d t e h = sym e ∙ not-true t h
+
+-- what a known device has of so much in each main area and subarea
+pub in-block-small : (d : Device) (main subarea : ℕ) → known d ≡ true → inBlock d main subarea ≤ main + 16 * subarea
+in-block-small d main subarea h = omega (arith, mul-le-mul-right subarea (blocks-small d h))
+
+pub in-device-small : (d : Device) (main subarea : ℕ) → known d ≡ true
+    → inDevice d main subarea ≤ 16 * (main + 16 * subarea)
+in-device-small d main subarea h = mul-le-mul (blocks-small d h) (in-block-small d main subarea h)
+
+-- the fuses of a known device are at most those of sixteen blocks
+pub fuses-small : (d : Device) → known d ≡ true → fuseCount d ≤ 290304
+unfolding fuseCount
+fuses-small d h = in-device-small d 7776 648 h
+
+pub digits-small : (x : ℕ) → decimalDigits x ≤ 7
+digits-small x =
+    small 10 (omega arith) (small 100 (omega arith) (small 1000 (omega arith) (small 10000 (omega arith) (small 100000 (omega arith) (small 1000000 (omega arith) (omega arith))))))
+  where
+    small : (k : ℕ) {a b : ℕ} → a ≤ 7 → b ≤ 7 → cond (ltb x k) a b ≤ 7
+    small k p q = by-cases (λ y. y ≤ 7) x k (λ l. p) (λ g. q)

@@ -1,0 +1,10 @@
+-- The laws of `part` that belong to no one function.
+-- Assumes nothing.
+pub mod Facts
+pub mod Rows
+pub mod Fuses
+pub mod Addresses
+pub mod Devices
+pub mod Conversions
+pub mod Readouts
+pub mod Laws

@@ -1,0 +1,75 @@
+-- `address_of_fuse` meets its contract: the tests are the definition's, and a fuse below the count lies at a byte of the device.
+-- Assumes nothing.
+use mathlib.Core.Path.{_≡_}
+use mathlib.Core.Bool.{true, false}
+use Prim.Native.Nat.{ℕ, _<_, _≤_}
+use native.Mathlib.Nat.{le-of-lt}
+use native.Mathlib.Omega.{arith}
+use borrow.Author.Needs.{needs}
+use borrow.Author.Tests.{lt-ltb, le-ltb}
+use Rattle.part.specs.Outcome.{Outcome}
+use Rattle.part.specs.Outcome.Outcome.{accepted, refused}
+use Rattle.part.specs.Device.{known, fuseCount}
+use Rattle.part.specs.Place.{hasPlace, hasByte, placeOfFuse, addressOfByte}
+use Rattle.part.specs.Convert.{addressOfFuse}
+use Rattle.part.specs.declared.Device.{Device}
+use Rattle.part.specs.declared.Place.{Place}
+use Rattle.part.proofs.Facts.{and-iff}
+use Rattle.part.proofs.Devices.{is-known, is-unknown}
+use Rattle.part.proofs.Fuses.{at-fuse}
+use Rattle.part.proofs.address_of_fuse.Statement.{statement}
+use Rattle.part.proofs.address_of_fuse.Tie as tie
+
+-- what the code has found at each return, and the definition's answer
+no-device : (d : Device) (fuse : ℕ) → known d ≡ false → refused 1 0 ≡ addressOfFuse d fuse
+unfolding addressOfFuse
+no-device d fuse h = rw h
+
+no-fuse : (d : Device) (fuse count : ℕ) → known d ≡ true → count ≡ fuseCount d → count ≤ fuse → refused 3 0 ≡ addressOfFuse d fuse
+unfolding addressOfFuse
+no-fuse d fuse count k e h = rw (k, le-ltb fuse (fuseCount d) (omega arith))
+
+below : (d : Device) (fuse count : ℕ) → count ≡ fuseCount d → fuse < count → fuse < fuseCount d
+below d fuse count e h = omega arith
+
+its-byte : (d : Device) (fuse : ℕ) (p : Place) → p ≡ placeOfFuse d fuse → fuse < fuseCount d → hasByte d (p .byte) ≡ true
+unfolding hasPlace
+its-byte d fuse p e h = rw e (and-iff _ _ .0 (at-fuse d fuse h .0) .0)
+
+the-address : (d : Device) (fuse : ℕ) (p : Place) (address : ℕ) → known d ≡ true → fuse < fuseCount d → p ≡ placeOfFuse d fuse
+    → address ≡ addressOfByte (p .byte) → accepted (address, p .bit) ≡ addressOfFuse d fuse
+unfolding addressOfFuse
+the-address d fuse p address k h e e2 = rw (k, lt-ltb fuse (fuseCount d) h, e2, e)
+
+is-known-requires : tie.Need-is-known-requires
+is-known-requires c κs = search needs
+
+returns : tie.Need-returns
+returns c = search (needs, is-unknown, no-device)
+
+fuse-count-requires : tie.Need-fuse-count-requires
+fuse-count-requires c κs = search (needs, is-known)
+
+returns-2 : tie.Need-returns-2
+returns-2 c = search (needs, is-known, no-fuse, le-of-lt)
+
+place-of-fuse-requires : tie.Need-place-of-fuse-requires
+place-of-fuse-requires c κs = search (needs, is-known, below)
+
+address-of-byte-requires : tie.Need-address-of-byte-requires
+address-of-byte-requires c κs = search (needs, is-known, below, its-byte)
+
+returns-3 : tie.Need-returns-3
+returns-3 c = search (needs, is-known, below, the-address)
+
+pub address-of-fuse-spec : {M : Type 1} → statement M
+address-of-fuse-spec =
+    tie.close
+    (tie.spec
+    is-known-requires
+    returns
+    fuse-count-requires
+    returns-2
+    place-of-fuse-requires
+    address-of-byte-requires
+    returns-3)

@@ -1,0 +1,37 @@
+-- The two conversions between fuse numbers and addresses, and the sizes of a device, with their refusals:
+-- 1 for an unknown device; 3 for a fuse at or over the count, an address that no byte has, a bit at or over its width.
+use Prim.Native.Nat.{ℕ}
+use mathlib.Core.Bool.{Bool, cond, _&&_}
+use lib.Dec.{ltb}
+use Rattle.part.specs.Outcome.{Outcome}
+use Rattle.part.specs.Outcome.Outcome.{accepted, refused}
+use Rattle.part.specs.Device.{known, fuseCount, imageBytes, readoutBytes, textBytes}
+use Rattle.part.specs.Place.{widthOf, fuseOfPlace, placeOfFuse, addressOfByte, byteOfAddress, valid}
+use Rattle.part.specs.declared.Device.{Device}
+use Rattle.part.specs.declared.Sizes.{Sizes}
+
+-- refusal 1 exactly for an unknown device
+abbrev pub ifKnown : {A : Type 0} → Device → Outcome A → Outcome A
+ifKnown d answer = cond (known d) answer (refused 1 0)
+
+-- the sizes of a device
+unfoldable pub sizesOf : Device → Outcome Sizes
+sizesOf d =
+    ifKnown d
+    (accepted (record { fuses = fuseCount d; «image_bytes» = imageBytes d; «readout_bytes» = readoutBytes d; «text_bytes» = textBytes d }))
+
+-- the address and the bit of a fuse
+unfoldable pub addressOfFuse : Device → ℕ → Outcome (ℕ × ℕ)
+addressOfFuse d fuse =
+    ifKnown d
+    (cond (ltb fuse (fuseCount d))
+    (accepted (addressOfByte (placeOfFuse d fuse .byte), placeOfFuse d fuse .bit))
+    (refused 3 0))
+
+-- the fuse of an address and a bit
+unfoldable pub fuseOfAddress : Device → ℕ → ℕ → Outcome ℕ
+fuseOfAddress d address bit =
+    ifKnown d
+    (cond (valid d address && ltb bit (widthOf (byteOfAddress address)))
+    (accepted (fuseOfPlace d (record { byte = byteOfAddress address; bit = bit })))
+    (refused 3 0))

@@ -1,0 +1,310 @@
+// What the conversions and the crates above need of the geometry, and no caller: sizes of a known device, and places.
+// A function here may require that the device is known or has the place; nothing here is part of the public interface.
+ghost use mathlib.Core.Path.{_≡_};
+ghost use mathlib.Core.Bool.{true};
+ghost use Prim.Native.Nat.{_+_, _*_, _^_, _<_, _≤_};
+ghost use Rattle.part.specs.Device.{known, columnWidth, columnStart, inBlock, inDevice, fuseCount, imageBytes, readoutBytes, textBytes, decimalDigits};
+ghost use Rattle.part.specs.Place.{hasByte, widthOf, columnOf, bitOf, firstFuse, placeOfFuse, field, addressOfByte, byteOfAddress};
+use super::BytePlace;
+use super::Device;
+use super::DeviceAddress;
+use super::FuseNumber;
+use super::Place;
+
+const MAIN_ROWS: u32 = 72;
+
+const MAIN_COLUMNS: u32 = 15;
+
+const WIRE_AND_ROWS: u32 = 18;
+
+const WIRE_AND_COLUMNS: u32 = 5;
+
+const MAIN_ROW_FUSES: u32 = 9 * 8 + 6 * 6;
+
+const WIRE_AND_ROW_FUSES: u32 = 8 + 4 * 7;
+
+const MAIN_FUSES: u32 = 72 * 108;
+
+const SUBAREA_FUSES: u32 = 18 * 36;
+
+const MAIN_BYTES: u32 = 72 * 15;
+
+const SUBAREA_BYTES: u32 = 18 * 5;
+// Three lines of five columns a main row, one line a wire-AND row; a line has ten bytes besides its blanks and bits.
+const MAIN_TEXT: u32 = 72 * (3 * 10 + 15 + 108);
+
+const SUBAREA_TEXT: u32 = 18 * (10 + 5 + 36);
+// What a text has besides its L lines and the digits of the count.
+const TEXT_FRAME: u32 = 3 + (2 + 2) + 4 + (1 + 4 + 2) + (1 + 4);
+
+// What a block of a known device has, of so much in its main area and so much in each of its subareas ..
+fn in_block(d: Device, main: u32, subarea: u32) -> u32
+    requires { ⌜ (known d ≡ true) × (main ≤ 65535) × (subarea ≤ 65535) ⌝ }
+    ensures { λ r. ⌜ r ≡ inBlock d main subarea ⌝ }
+{
+    main + d.blocks * subarea
+}
+
+// .. and what all of its blocks have.
+fn in_device(d: Device, main: u32, subarea: u32) -> u32
+    requires { ⌜ (known d ≡ true) × (main ≤ 65535) × (subarea ≤ 65535) ⌝ }
+    ensures { λ r. ⌜ r ≡ inDevice d main subarea ⌝ }
+{
+    let each = in_block(d, main, subarea);
+    d.blocks * each
+}
+
+// The sizes of a known device.
+pub fn fuse_count(d: Device) -> u32
+    requires { ⌜ known d ≡ true ⌝ }
+    ensures { λ r. ⌜ r ≡ fuseCount d ⌝ }
+{
+    in_device(d, MAIN_FUSES, SUBAREA_FUSES)
+}
+
+pub fn image_bytes(d: Device) -> u32
+    requires { ⌜ known d ≡ true ⌝ }
+    ensures { λ r. ⌜ r ≡ imageBytes d ⌝ }
+{
+    (fuse_count(d) + 7) / 8
+}
+
+pub fn readout_bytes(d: Device) -> u32
+    requires { ⌜ known d ≡ true ⌝ }
+    ensures { λ r. ⌜ r ≡ readoutBytes d ⌝ }
+{
+    in_device(d, MAIN_BYTES, SUBAREA_BYTES)
+}
+
+fn decimal_digits(x: u32) -> u32
+    ensures { λ r. ⌜ r ≡ decimalDigits x ⌝ }
+{
+    if x < 10 {
+        1
+    } else if x < 100 {
+        2
+    } else if x < 1000 {
+        3
+    } else if x < 10000 {
+        4
+    } else if x < 100000 {
+        5
+    } else if x < 1000000 {
+        6
+    } else {
+        7
+    }
+}
+
+pub fn text_bytes(d: Device) -> u32
+    requires { ⌜ known d ≡ true ⌝ }
+    ensures { λ r. ⌜ r ≡ textBytes d ⌝ }
+{
+    let lines = in_device(d, MAIN_TEXT, SUBAREA_TEXT);
+    let digits = decimal_digits(fuse_count(d));
+    TEXT_FRAME + digits + lines
+}
+
+// Whether the device has the byte.
+pub fn has_byte(d: Device, byte: BytePlace) -> bool
+    ensures { λ r. ⌜ r ≡ hasByte d byte ⌝ }
+{
+    let n = d.blocks;
+    match byte {
+        BytePlace::Main { block, row, column } => {
+            (block < n) & (row < MAIN_ROWS) & (column < MAIN_COLUMNS)
+        }
+        BytePlace::WireAnd {
+            block,
+            subarea,
+            row,
+            column,
+        } => (block < n) & (subarea < n) & (row < WIRE_AND_ROWS) & (column < WIRE_AND_COLUMNS),
+    }
+}
+
+// The bits of a column of such a row ..
+fn column_width(wide: u32, narrow: u32, column: u32) -> u32
+    ensures { λ r. ⌜ r ≡ columnWidth wide narrow column ⌝ }
+{
+    if column < wide {
+        return 8;
+    }
+    narrow
+}
+
+// .. and the bits of the row before it.
+fn column_start(wide: u32, narrow: u32, column: u32) -> u32
+    requires { ⌜ (wide ≤ 9) × (narrow ≤ 8) × (column < 15) ⌝ }
+    ensures { λ r. ⌜ r ≡ columnStart wide narrow column ⌝ }
+{
+    if column < wide {
+        return column * 8;
+    }
+    wide * 8 + (column - wide) * narrow
+}
+
+// The bits of a byte.
+pub fn width_of(byte: BytePlace) -> u32
+    ensures { λ r. ⌜ r ≡ widthOf byte ⌝ }
+{
+    match byte {
+        BytePlace::Main {
+            block: _,
+            row: _,
+            column,
+        } => column_width(9, 6, column),
+        BytePlace::WireAnd {
+            block: _,
+            subarea: _,
+            row: _,
+            column,
+        } => column_width(1, 7, column),
+    }
+}
+
+// The number of the first fuse of a byte.
+pub fn first_fuse(d: Device, byte: BytePlace) -> FuseNumber
+    requires { ⌜ (known d ≡ true) × (hasByte d byte ≡ true) ⌝ }
+    ensures { λ r. ⌜ r .0 ≡ firstFuse d byte ⌝ }
+{
+    let per_block = in_block(d, MAIN_FUSES, SUBAREA_FUSES);
+    match byte {
+        BytePlace::Main { block, row, column } => {
+            let start = column_start(9, 6, column);
+            FuseNumber(block * per_block + (row * MAIN_ROW_FUSES + start))
+        }
+        BytePlace::WireAnd {
+            block,
+            subarea,
+            row,
+            column,
+        } => {
+            let start = column_start(1, 7, column);
+            let in_subarea = row * WIRE_AND_ROW_FUSES + start;
+            FuseNumber(block * per_block + (MAIN_FUSES + (subarea * SUBAREA_FUSES + in_subarea)))
+        }
+    }
+}
+
+// A column of a row, and a bit of it.
+struct ColumnBit {
+    column: u32,
+    bit: u32,
+}
+
+// The column and the bit of what is left in a row of `wide` columns of 8 bits and then columns of `narrow` bits.
+fn column_and_bit(wide: u32, narrow: u32, rest: u32) -> ColumnBit
+    requires { ⌜ (wide ≤ 9) × (0 < narrow) × (rest < 108) ⌝ }
+    ensures { λ r. ⌜ (r .column ≡ columnOf wide narrow rest) × (r .bit ≡ bitOf wide narrow rest) ⌝ }
+{
+    if rest < wide * 8 {
+        return ColumnBit {
+            column: rest / 8,
+            bit: rest % 8,
+        };
+    }
+    let past = rest - wide * 8;
+    ColumnBit {
+        column: wide + past / narrow,
+        bit: past % narrow,
+    }
+}
+
+// The place of a fuse, by the steps of the forward routine of document 003.
+pub fn place_of_fuse(d: Device, fuse: FuseNumber) -> Place
+    requires { ⌜ (known d ≡ true) × (fuse .0 < fuseCount d) ⌝ }
+    ensures { λ r. ⌜ r ≡ placeOfFuse d (fuse .0) ⌝ }
+{
+    let f = fuse.0;
+    let per_block = in_block(d, MAIN_FUSES, SUBAREA_FUSES);
+    let block = f / per_block;
+    let rest = f % per_block;
+    if rest < MAIN_FUSES {
+        let at = column_and_bit(9, 6, rest % MAIN_ROW_FUSES);
+        return Place {
+            byte: BytePlace::Main {
+                block,
+                row: rest / MAIN_ROW_FUSES,
+                column: at.column,
+            },
+            bit: at.bit,
+        };
+    }
+    let past = rest - MAIN_FUSES;
+    let left = past % SUBAREA_FUSES;
+    let at = column_and_bit(1, 7, left % WIRE_AND_ROW_FUSES);
+    Place {
+        byte: BytePlace::WireAnd {
+            block,
+            subarea: past / SUBAREA_FUSES,
+            row: left / WIRE_AND_ROW_FUSES,
+            column: at.column,
+        },
+        bit: at.bit,
+    }
+}
+
+// A number with `value` put above its low `from` bits, which are all that it has.
+fn with_field(low: u32, from: u32, value: u32) -> u32
+    requires { ⌜ (from < 32) × (low < 2 ^ from) × (value * 2 ^ from < 2 ^ 32) ⌝ }
+    ensures { λ r. ⌜ r ≡ value * 2 ^ from + low ⌝ }
+{
+    low | value << from
+}
+
+// The `width` bits of a number from bit `from` on.
+fn field_of(x: u32, from: u32, width: u32) -> u32
+    requires { ⌜ (from < 32) × (width < 64) ⌝ }
+    ensures { λ r. ⌜ r ≡ field x from width ⌝ }
+{
+    cells::internal::low_bits((x >> from) as u64, width) as u32
+}
+
+// The address of a byte of the device.
+pub fn address_of_byte(d: Device, byte: BytePlace) -> DeviceAddress
+    requires { ⌜ (known d ≡ true) × (hasByte d byte ≡ true) ⌝ }
+    ensures { λ r. ⌜ r .0 ≡ addressOfByte byte ⌝ }
+{
+    match byte {
+        BytePlace::Main { block, row, column } => {
+            let columns = with_field(column % 5, 3, column / 5);
+            let rows = with_field(columns, 5, row);
+            let area = with_field(rows, 12, 0);
+            DeviceAddress(with_field(area, 13, block))
+        }
+        BytePlace::WireAnd {
+            block,
+            subarea,
+            row,
+            column,
+        } => {
+            let rows = with_field(column, 3, row);
+            let subareas = with_field(rows, 8, subarea);
+            let area = with_field(subareas, 12, 1);
+            DeviceAddress(with_field(area, 13, block))
+        }
+    }
+}
+
+// The byte that an address names, if any device has it.
+pub fn byte_of_address(a: DeviceAddress) -> BytePlace
+    ensures { λ r. ⌜ r ≡ byteOfAddress (a .0) ⌝ }
+{
+    let address = a.0;
+    let block = address >> 13;
+    if field_of(address, 12, 1) == 0 {
+        BytePlace::Main {
+            block,
+            row: field_of(address, 5, 7),
+            column: field_of(address, 3, 2) * 5 + field_of(address, 0, 3),
+        }
+    } else {
+        BytePlace::WireAnd {
+            block,
+            subarea: field_of(address, 8, 4),
+            row: field_of(address, 3, 5),
+            column: field_of(address, 0, 3),
+        }
+    }
+}

@@ -1,0 +1,194 @@
+// The geometry of a part: which devices there are, how large each is, and where each fuse lies.
+// The definitions that the contracts cite stand in specs/, the laws about them in proofs/Laws.antt.
+ghost use mathlib.Core.Path.{_≡_};
+ghost use Rattle.part.specs.Device.{known};
+ghost use Rattle.part.specs.Answer.{sizesOutcome, addressOutcome, fuseOutcome, number, value};
+ghost use Rattle.part.specs.Convert.{sizesOf, addressOfFuse, fuseOfAddress};
+
+pub mod internal;
+
+// A device of the family: its number of function blocks, and its output-enable class (0 small, 1 large).
+// Any two numbers; twelve pairs are known.
+pub struct Device {
+    pub blocks: u32,
+    pub class: u32,
+}
+
+// The number of a fuse, as a fuse file counts them.
+pub struct FuseNumber(pub u32);
+
+// The address of a byte of the device, as the programmer sends it.
+pub struct DeviceAddress(pub u32);
+
+// Where a byte of the device lies: block, area, row and column; in the wire-AND area also the subarea.
+pub enum BytePlace {
+    Main {
+        block: u32,
+        row: u32,
+        column: u32,
+    },
+    WireAnd {
+        block: u32,
+        subarea: u32,
+        row: u32,
+        column: u32,
+    },
+}
+
+// Where a fuse lies: a byte and one of its bits.
+pub struct Place {
+    pub byte: BytePlace,
+    pub bit: u32,
+}
+
+// Why a call was refused: a variant for each numbered refusal, with what it returns besides.
+pub enum Refusal {
+    // 1: the block count or the class is unknown
+    UnknownDevice,
+    // 2: an image or a readout is not of the exact length
+    WrongLength,
+    // 3: a fuse at or over the count, an address that no byte has, or a bit at or over the byte's width
+    NoSuchFuse,
+    // 4: no such setting on this device
+    NoSuchSetting,
+    // 5: a value that is not one of that setting's
+    NoSuchValue,
+    // 6: a readout byte has a bit above its width: the lowest such index
+    StrayBit(u32),
+    // 7: the text is too long or of bad form: where
+    BadForm(u32),
+    // 8: QF is not the device's count, or absent: its field, or ETX
+    WrongFuseCount(u32),
+    // 9: an L starts before the end of the L before it, or runs past the count: its field
+    MisplacedFuseList(u32),
+    // 10: C differs from the fuse sum: its field
+    WrongFuseSum(u32),
+    // 11: the transmission sum differs and is not 0000: ETX
+    WrongTransmissionSum(u32),
+    // 12: the room for the text is too short: the bytes needed
+    RoomTooShort(u32),
+}
+
+// How many fuses a device has, and how many bytes an image, a readout and a JEDEC text of it.
+pub struct Sizes {
+    pub fuses: u32,
+    pub image_bytes: u32,
+    pub readout_bytes: u32,
+    pub text_bytes: u32,
+}
+
+pub enum SizesAnswer {
+    Of(Sizes),
+    Refused(Refusal),
+}
+
+pub enum AddressAnswer {
+    At(DeviceAddress, u32),
+    Refused(Refusal),
+}
+
+pub enum FuseAnswer {
+    Fuse(FuseNumber),
+    Refused(Refusal),
+}
+
+// The refusal's number in the table of refusals.
+pub fn refusal_number(r: Refusal) -> u32
+    ensures { λ k. ⌜ k ≡ number r ⌝ }
+{
+    match r {
+        Refusal::UnknownDevice => 1,
+        Refusal::WrongLength => 2,
+        Refusal::NoSuchFuse => 3,
+        Refusal::NoSuchSetting => 4,
+        Refusal::NoSuchValue => 5,
+        Refusal::StrayBit(_) => 6,
+        Refusal::BadForm(_) => 7,
+        Refusal::WrongFuseCount(_) => 8,
+        Refusal::MisplacedFuseList(_) => 9,
+        Refusal::WrongFuseSum(_) => 10,
+        Refusal::WrongTransmissionSum(_) => 11,
+        Refusal::RoomTooShort(_) => 12,
+    }
+}
+
+// What the refusal returns besides its number: 0 where the table says 0.
+pub fn refusal_value(r: Refusal) -> u32
+    ensures { λ v. ⌜ v ≡ value r ⌝ }
+{
+    match r {
+        Refusal::UnknownDevice => 0,
+        Refusal::WrongLength => 0,
+        Refusal::NoSuchFuse => 0,
+        Refusal::NoSuchSetting => 0,
+        Refusal::NoSuchValue => 0,
+        Refusal::StrayBit(index) => index,
+        Refusal::BadForm(at) => at,
+        Refusal::WrongFuseCount(at) => at,
+        Refusal::MisplacedFuseList(at) => at,
+        Refusal::WrongFuseSum(at) => at,
+        Refusal::WrongTransmissionSum(at) => at,
+        Refusal::RoomTooShort(needed) => needed,
+    }
+}
+
+// Whether the device is one of the twelve.
+pub fn is_known(d: Device) -> bool
+    ensures { λ r. ⌜ r ≡ known d ⌝ }
+{
+    let n = d.blocks;
+    let c = d.class;
+    ((n == 2) | (n == 4) | (n == 6) | (n == 8) | (n == 12) | (n == 16)) & ((c == 0) | (c == 1))
+}
+
+// The sizes of a device. Refused: 1.
+pub fn sizes_of(d: Device) -> SizesAnswer
+    ensures { λ r. ⌜ sizesOutcome r ≡ sizesOf d ⌝ }
+{
+    if !is_known(d) {
+        return SizesAnswer::Refused(Refusal::UnknownDevice);
+    }
+    SizesAnswer::Of(Sizes {
+        fuses: internal::fuse_count(d),
+        image_bytes: internal::image_bytes(d),
+        readout_bytes: internal::readout_bytes(d),
+        text_bytes: internal::text_bytes(d),
+    })
+}
+
+// The address and the bit of a fuse. Refused: 1, 3.
+pub fn address_of_fuse(d: Device, fuse: FuseNumber) -> AddressAnswer
+    ensures { λ r. ⌜ addressOutcome r ≡ addressOfFuse d (fuse .0) ⌝ }
+{
+    if !is_known(d) {
+        return AddressAnswer::Refused(Refusal::UnknownDevice);
+    }
+    if internal::fuse_count(d) <= fuse.0 {
+        return AddressAnswer::Refused(Refusal::NoSuchFuse);
+    }
+    let place = internal::place_of_fuse(d, fuse);
+    let byte = place.byte;
+    AddressAnswer::At(internal::address_of_byte(d, byte), place.bit)
+}
+
+// The fuse of an address and a bit. Refused: 1, 3.
+pub fn fuse_of_address(d: Device, address: DeviceAddress, bit: u32) -> FuseAnswer
+    ensures { λ r. ⌜ fuseOutcome r ≡ fuseOfAddress d (address .0) bit ⌝ }
+{
+    if !is_known(d) {
+        return FuseAnswer::Refused(Refusal::UnknownDevice);
+    }
+    let byte = internal::byte_of_address(address);
+    if !internal::has_byte(d, byte) {
+        return FuseAnswer::Refused(Refusal::NoSuchFuse);
+    }
+    let composed = internal::address_of_byte(d, byte);
+    if composed.0 != address.0 {
+        return FuseAnswer::Refused(Refusal::NoSuchFuse);
+    }
+    if internal::width_of(byte) <= bit {
+        return FuseAnswer::Refused(Refusal::NoSuchFuse);
+    }
+    let first = internal::first_fuse(d, byte);
+    FuseAnswer::Fuse(FuseNumber(first.0 + bit))
+}

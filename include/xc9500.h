@@ -1,0 +1,29 @@
+/* The C interface of the XC9500 fuse-map library; link with the archive that `rt staticlib capi` makes.
+   Every function takes any numbers and any slices, and always returns. */
+#ifndef XC9500_H
+#define XC9500_H
+
+#include <stddef.h>
+#include <stdint.h>
+
+#ifdef __cplusplus
+extern "C" {
+#endif
+
+/* A device is a number of function blocks (2, 4, 6, 8, 12 or 16) and an output-enable class (0 small, 1 large).
+   Every answer is one word: the number of the refusal in bits 56 to 63 (0: accepted), and in the low 56 bits the
+   refusal's value, or the result. */
+#define XC9500_REFUSAL(word) ((uint32_t)((uint64_t)(word) >> 56))
+#define XC9500_RESULT(word) ((uint64_t)(word) & (((uint64_t)1 << 56) - 1))
+
+/* The address times 8, plus the bit, of a fuse. Refused: 1 unknown device; 3 no such fuse. */
+uint64_t xc9500_address_of_fuse(uint32_t blocks, uint32_t class_, uint32_t fuse);
+
+/* The fuse of an address and a bit. Refused: 1 unknown device; 3 no such address, or no such bit of it. */
+uint64_t xc9500_fuse_of_address(uint32_t blocks, uint32_t class_, uint32_t address, uint32_t bit);
+
+#ifdef __cplusplus
+}
+#endif
+
+#endif

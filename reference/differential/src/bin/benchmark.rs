@@ -1,0 +1,217 @@
+// The benchmark: each operation by the library, the plain reference and the optimised Rust, same input.
+// Processor time, the median of repeated runs; an operation is one line of rows().
+
+use std::hint::black_box;
+use xc9500_differential::{library, optimised};
+use xc9500_reference as reference;
+use xc9500_reference::{Answer, Device, LARGE};
+
+/// Timed runs of each program; odd, so that there is a middle one.
+const RUNS: usize = 31;
+
+/// The least processor time of a run; a short pass is repeated to fill it.
+const RUN_NANOSECONDS: u64 = 10_000_000;
+
+/// One program's pass over a row's input; it answers a sum of all that it gave.
+type Pass = Box<dyn FnMut() -> u64>;
+
+/// One operation on one part.
+struct Row {
+    operation: &'static str,
+    device: Device,
+    /// The calls in a pass, and what the table calls one of them.
+    calls: u64,
+    call: &'static str,
+    library: Pass,
+    reference: Pass,
+    optimised: Pass,
+}
+
+/// The rows of the table.
+fn rows() -> Vec<Row> {
+    let of_two_and_sixteen = |row: fn(Device) -> Row| {
+        [2, 16].map(|blocks| {
+            row(Device {
+                blocks,
+                class: LARGE,
+            })
+        })
+    };
+    let mut rows = Vec::new();
+    rows.extend(of_two_and_sixteen(fuse_to_address));
+    rows
+}
+
+/// The conversion of every fuse, in order.
+fn fuse_to_address(device: Device) -> Row {
+    let fuses = reference::fuse_count(device).expect("the device is known");
+    Row {
+        operation: "fuse to address",
+        device,
+        calls: u64::from(fuses),
+        call: "fuse",
+        library: each(fuses, move |fuse| {
+            library::xc9500_address_of_fuse(black_box(device), fuse)
+        }),
+        reference: each(fuses, move |fuse| {
+            reference::address_of_fuse(black_box(device), fuse).map(place)
+        }),
+        optimised: each(fuses, move |fuse| {
+            optimised::address_of_fuse(black_box(device), fuse).map(place)
+        }),
+    }
+}
+
+/// An address and bit as the C interface gives them.
+fn place((address, bit): (u32, u32)) -> u64 {
+    u64::from(address) * 8 + u64::from(bit)
+}
+
+/// A pass of calls with each number below a count, none of which the compiler may foresee.
+fn each(count: u32, call: impl Fn(u32) -> Answer<u64> + 'static) -> Pass {
+    Box::new(move || {
+        let mut sum: u64 = 0;
+        for number in 0..count {
+            sum = sum
+                .wrapping_mul(3)
+                .wrapping_add(match call(black_box(number)) {
+                    Ok(result) => result,
+                    Err(refusal) => refusal.value << 8 | u64::from(refusal.number),
+                });
+        }
+        sum
+    })
+}
+
+/// The processor time that this process has used, in nanoseconds.
+fn processor_time() -> u64 {
+    #[repr(C)]
+    struct Time {
+        seconds: i64,
+        nanoseconds: i64,
+    }
+    extern "C" {
+        fn clock_gettime(clock: i32, time: *mut Time) -> i32;
+    }
+    const CLOCK_PROCESS_CPUTIME_ID: i32 = 2;
+    let mut time = Time {
+        seconds: 0,
+        nanoseconds: 0,
+    };
+    // Safe: the structure is the one that the function fills on 64-bit Linux.
+    let status = unsafe { clock_gettime(CLOCK_PROCESS_CPUTIME_ID, &mut time) };
+    assert_eq!(status, 0, "the process has no clock");
+    time.seconds as u64 * 1_000_000_000 + time.nanoseconds as u64
+}
+
+/// The processor time of a number of passes.
+fn time_of(pass: &mut Pass, passes: u64) -> u64 {
+    let start = processor_time();
+    for _ in 0..passes {
+        black_box(pass());
+    }
+    processor_time() - start
+}
+
+/// How many passes fill a run.
+fn passes_of_run(pass: &mut Pass) -> u64 {
+    let mut passes = 1;
+    while time_of(pass, passes) < RUN_NANOSECONDS {
+        passes *= 2;
+    }
+    passes
+}
+
+/// The median time of a call in nanoseconds: library, reference, optimised.
+fn measure(row: Row) -> [f64; 3] {
+    let mut programs = [row.library, row.reference, row.optimised];
+
+    // The first pass warms up, and shows that all three do the same work.
+    let sums = programs.each_mut().map(|pass| pass());
+    assert!(
+        sums.iter().all(|sum| *sum == sums[0]),
+        "{}: the programs disagree",
+        row.operation
+    );
+
+    // The runs take turns, so that a change of the processor's speed meets all three.
+    let passes = programs.each_mut().map(passes_of_run);
+    let mut times = [const { Vec::new() }; 3];
+    for _ in 0..RUNS {
+        for program in 0..3 {
+            let time = time_of(&mut programs[program], passes[program]);
+            times[program].push(time as f64 / (passes[program] * row.calls) as f64);
+        }
+    }
+    times.map(|mut times| {
+        times.sort_by(f64::total_cmp);
+        times[RUNS / 2]
+    })
+}
+
+/// A time in the unit that suits it.
+fn shown(nanoseconds: f64) -> String {
+    if nanoseconds < 1000.0 {
+        format!("{nanoseconds:.2} ns")
+    } else {
+        format!("{:.2} us", nanoseconds / 1000.0)
+    }
+}
+
+/// Prints the lines with their cells in columns, numbers to the right.
+fn print_table(lines: &[[String; 8]]) {
+    for line in lines {
+        let mut text = String::new();
+        for (column, cell) in line.iter().enumerate() {
+            let width = lines.iter().map(|line| line[column].len()).max();
+            let width = width.unwrap_or(0);
+            if column == 0 {
+                text += &format!("{cell:<width$}");
+            } else {
+                text += &format!("  {cell:>width$}");
+            }
+        }
+        println!("{text}");
+    }
+}
+
+fn processor_name() -> String {
+    let about = std::fs::read_to_string("/proc/cpuinfo").unwrap_or_default();
+    let line = about.lines().find(|line| line.starts_with("model name"));
+    match line.and_then(|line| line.split_once(':')) {
+        Some((_, name)) => name.trim().to_string(),
+        None => "unknown".to_string(),
+    }
+}
+
+fn main() {
+    println!("processor: {}", processor_name());
+    println!("processor time of a call, median of {RUNS} runs");
+    println!();
+    let mut lines = vec![[
+        "operation",
+        "blocks",
+        "a call is",
+        "library",
+        "reference",
+        "optimised",
+        "library/optimised",
+        "reference/optimised",
+    ]
+    .map(String::from)];
+    for row in rows() {
+        let (operation, blocks, call) = (row.operation, row.device.blocks, row.call);
+        let [library, reference, optimised] = measure(row);
+        lines.push([
+            operation.to_string(),
+            blocks.to_string(),
+            call.to_string(),
+            shown(library),
+            shown(reference),
+            shown(optimised),
+            format!("{:.2}", library / optimised),
+            format!("{:.2}", reference / optimised),
+        ]);
+    }
+    print_table(&lines);
+}

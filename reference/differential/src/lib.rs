@@ -1,0 +1,8 @@
+// What the differential tests and the benchmark share.
+// The library is called through its archive, as any C or Rust program would call it.
+
+//! Differential tests and benchmark of the XC9500 fuse-map library against the reference.
+
+pub mod library;
+pub mod optimised;
+pub mod tally;

@@ -1,0 +1,57 @@
+// The comparison of one library function with the reference, with a count of each outcome.
+// A test that never saw some refusal has not tested it, so the counts are asserted at the end.
+
+use std::fmt::Debug;
+use xc9500_reference::Answer;
+
+/// The least count of each outcome that a function can have.
+pub const ENOUGH: u64 = 100;
+
+/// What one function answered so far, by refusal number; 0 is acceptance.
+pub struct Tally {
+    function: &'static str,
+    seen: [u64; 256],
+}
+
+impl Tally {
+    pub fn new(function: &'static str) -> Tally {
+        Tally {
+            function,
+            seen: [0; 256],
+        }
+    }
+
+    /// Counts the library's answer and panics, naming the call, unless it is the reference's.
+    pub fn compare(&mut self, call: impl Debug, library: Answer<u64>, reference: Answer<u64>) {
+        assert_eq!(
+            library, reference,
+            "{}, {call:?}: library left, reference right",
+            self.function
+        );
+        let number = match library {
+            Ok(_) => 0,
+            Err(refusal) => refusal.number,
+        };
+        self.seen[number as usize] += 1;
+    }
+
+    /// Panics unless each of the refusals occurred often enough, acceptance too, and no other did.
+    pub fn assert_refusals(&self, refusals: &[u32]) {
+        for (number, seen) in (0..).zip(self.seen) {
+            if number == 0 || refusals.contains(&number) {
+                println!("{}: outcome {number} seen {seen} times", self.function);
+                assert!(
+                    seen >= ENOUGH,
+                    "{}: outcome {number} seen only {seen} times",
+                    self.function
+                );
+            } else {
+                assert_eq!(
+                    seen, 0,
+                    "{}: outcome {number} is not one of its",
+                    self.function
+                );
+            }
+        }
+    }
+}

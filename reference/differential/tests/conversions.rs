@@ -1,0 +1,160 @@
+// The differential test of the two conversions: the library's answers against the reference's.
+// Every fuse and every address of 17 bits, then edges, random numbers and unknown devices.
+
+use xc9500_differential::library::{xc9500_address_of_fuse, xc9500_fuse_of_address};
+use xc9500_differential::tally::Tally;
+use xc9500_reference::random::Random;
+use xc9500_reference::{
+    address_of_fuse, all_devices, fuse_count, fuse_of_address, Device, BLOCK_COUNTS,
+};
+
+const ROUNDS: u32 = 300_000;
+
+/// Numbers where a width, a mask or a sign could go wrong: around 0 and around each power of two.
+fn edges() -> Vec<u32> {
+    let mut edges = vec![0, u32::MAX];
+    for power in 0..32 {
+        let edge = 1u32 << power;
+        edges.extend([
+            edge - 1,
+            edge,
+            edge.saturating_add(1),
+            !edge,
+            u32::MAX - edge + 1,
+        ]);
+    }
+    edges.sort();
+    edges.dedup();
+    edges
+}
+
+/// A number with a random number of bits, so that small ones are as likely as large ones.
+fn random_number(random: &mut Random) -> u32 {
+    let bits = random.below(33);
+    random.below(1 << bits) as u32
+}
+
+/// Every pair of small numbers, and pairs that a narrower number would take for a known device.
+fn odd_devices(random: &mut Random) -> Vec<Device> {
+    let mut devices = Vec::new();
+    for blocks in 0..=40 {
+        for class in 0..=4 {
+            devices.push(Device { blocks, class });
+        }
+    }
+    for device in all_devices() {
+        for power in [5, 6, 7, 8, 9, 15, 16, 17, 24, 31] {
+            let (blocks, class) = (device.blocks, device.class);
+            devices.push(Device {
+                blocks: blocks + (1 << power),
+                class,
+            });
+            devices.push(Device {
+                blocks,
+                class: class + (1 << power),
+            });
+        }
+        devices.push(Device {
+            blocks: device.blocks.wrapping_neg(),
+            class: device.class,
+        });
+        devices.push(Device {
+            blocks: device.blocks,
+            class: !device.class,
+        });
+    }
+    for _ in 0..1000 {
+        let blocks = random_number(random);
+        let class = random_number(random);
+        devices.push(Device { blocks, class });
+        devices.push(Device {
+            blocks: random.pick(&BLOCK_COUNTS),
+            class,
+        });
+        devices.push(Device {
+            blocks,
+            class: random.below(2) as u32,
+        });
+    }
+    devices
+}
+
+#[test]
+fn address_of_fuse_agrees() {
+    let mut tally = Tally::new("xc9500_address_of_fuse");
+    let mut compare = |device: Device, fuse: u32| {
+        let library = xc9500_address_of_fuse(device, fuse);
+        let reference = address_of_fuse(device, fuse)
+            .map(|(address, bit)| u64::from(address) * 8 + u64::from(bit));
+        tally.compare((device, fuse), library, reference);
+    };
+
+    let mut random = Random::new(0x9500_0001);
+    for device in all_devices() {
+        let count = fuse_count(device).unwrap();
+        for fuse in 0..count {
+            compare(device, fuse);
+        }
+        for edge in edges() {
+            for fuse in [edge, count.wrapping_add(edge), count.wrapping_sub(edge)] {
+                compare(device, fuse);
+            }
+        }
+        for _ in 0..ROUNDS / 12 {
+            compare(device, random.next_u64() as u32);
+            compare(device, random_number(&mut random));
+        }
+    }
+    for device in odd_devices(&mut random) {
+        for fuse in edges() {
+            compare(device, fuse);
+        }
+        compare(device, random_number(&mut random));
+    }
+    tally.assert_refusals(&[1, 3]);
+}
+
+#[test]
+fn fuse_of_address_agrees() {
+    let mut tally = Tally::new("xc9500_fuse_of_address");
+    let mut compare = |device: Device, address: u32, bit: u32| {
+        let library = xc9500_fuse_of_address(device, address, bit);
+        let reference = fuse_of_address(device, address, bit).map(u64::from);
+        tally.compare((device, address, bit), library, reference);
+    };
+
+    let mut random = Random::new(0x9500_0002);
+    for device in all_devices() {
+        for address in 0..1 << 17 {
+            for bit in 0..=8 {
+                compare(device, address, bit);
+            }
+        }
+        for address in edges() {
+            for bit in edges() {
+                compare(device, address, bit);
+            }
+        }
+        let count = u64::from(fuse_count(device).unwrap());
+        for _ in 0..ROUNDS / 12 {
+            let address = random_number(&mut random);
+            compare(device, address, random_number(&mut random));
+            compare(device, random.next_u64() as u32, random.next_u64() as u32);
+
+            // A valid pair, and the same with one bit of either number turned over.
+            let (address, bit) = address_of_fuse(device, random.below(count) as u32).unwrap();
+            let turned = 1 << random.below(32);
+            compare(device, address, bit);
+            compare(device, address ^ turned, bit);
+            compare(device, address, bit ^ turned);
+        }
+    }
+    for device in odd_devices(&mut random) {
+        for address in edges() {
+            compare(device, address, 0);
+            compare(device, address, random_number(&mut random));
+        }
+        compare(device, random_number(&mut random), random.below(9) as u32);
+    }
+    tally.assert_refusals(&[1, 3]);
+}

@@ -1,0 +1,122 @@
+// What each vectors program prints, worked out by the reference alone.
+// A program is one line of PROGRAMS; write_vectors stores or checks them all.
+
+use crate::conversion::{address_of_fuse, fuse_of_address};
+use crate::device::{Answer, Device, Refusal, SMALL};
+use crate::image::{fuse_count, image_bytes, readout_bytes};
+use crate::jedec_writer::text_bytes;
+use std::fmt::Write;
+
+/// A program's name, and what it prints.
+type Program = (&'static str, fn() -> String);
+
+/// Every vectors program.
+pub const PROGRAMS: &[Program] = &[("part_vectors", part_vectors)];
+
+/// A digest of many words: for each, 1000003 times the digest plus the word, modulo a prime.
+struct Digest {
+    value: u64,
+}
+
+impl Digest {
+    const PRIME: u64 = 4_294_967_291;
+
+    fn new() -> Digest {
+        Digest { value: 0 }
+    }
+
+    fn take_in(&mut self, word: u64) {
+        self.value = (1_000_003 * self.value + word % Digest::PRIME) % Digest::PRIME;
+    }
+}
+
+/// The word that the C interface gives for an answer.
+fn word(answer: Answer<u64>) -> u64 {
+    match answer {
+        Ok(result) => result,
+        Err(refusal) => (u64::from(refusal.number) << 56) + refusal.value,
+    }
+}
+
+fn word_of_fuse(device: Device, fuse: u32) -> u64 {
+    let place = address_of_fuse(device, fuse);
+    word(place.map(|(address, bit)| u64::from(address) * 8 + u64::from(bit)))
+}
+
+fn word_of_address(device: Device, address: u32, bit: u32) -> u64 {
+    word(fuse_of_address(device, address, bit).map(u64::from))
+}
+
+/// Every block count below 18, known or not, with the two classes and one that is none.
+fn devices_and_others() -> Vec<Device> {
+    let mut devices = Vec::new();
+    for blocks in 0..18 {
+        for class in 0..3 {
+            devices.push(Device { blocks, class });
+        }
+    }
+    devices
+}
+
+fn sizes(device: Device) -> Answer<String> {
+    Ok(format!(
+        "fuses {} image {} readout {} text {}",
+        fuse_count(device)?,
+        image_bytes(device)?,
+        readout_bytes(device)?,
+        text_bytes(device)?,
+    ))
+}
+
+/// The sizes, the bench cases of two blocks, and digests over all fuses and addresses.
+fn part_vectors() -> String {
+    let mut lines = String::new();
+    for device in devices_and_others() {
+        let Device { blocks, class } = device;
+        let answer = match sizes(device) {
+            Ok(sizes) => sizes,
+            Err(Refusal { number, value }) => format!("refused {number} value {value}"),
+        };
+        writeln!(lines, "blocks {blocks} class {class} {answer}").unwrap();
+    }
+
+    let smallest = Device {
+        blocks: 2,
+        class: SMALL,
+    };
+    let halves = |word: u64| format!("refused {} result {}", word >> 56, word % (1 << 56));
+    for fuse in [0, 71, 72, 107, 108, 7775, 7776, 7784, 9072, 18143, 18144] {
+        let answer = halves(word_of_fuse(smallest, fuse));
+        writeln!(lines, "fuse {fuse} {answer}").unwrap();
+    }
+    for address in [5, 24, 2304, 16384] {
+        let answer = halves(word_of_address(smallest, address, 0));
+        writeln!(lines, "address {address} {answer}").unwrap();
+    }
+
+    // More fuses than the largest part has, and nine bits for each address of 17 bits.
+    const FUSES: u32 = 300_000;
+    const ADDRESSES: u32 = 1 << 17;
+    for device in devices_and_others() {
+        let Device { blocks, class } = device;
+        let mut by_fuse = Digest::new();
+        for fuse in 0..FUSES {
+            by_fuse.take_in(word_of_fuse(device, fuse));
+        }
+        let mut by_address = Digest::new();
+        for address in 0..ADDRESSES {
+            for bit in 0..9 {
+                by_address.take_in(word_of_address(device, address, bit));
+            }
+        }
+        writeln!(
+            lines,
+            "blocks {blocks} class {class} fuses {FUSES} digest {} addresses {} digest {}",
+            by_fuse.value,
+            9 * ADDRESSES,
+            by_address.value,
+        )
+        .unwrap();
+    }
+    lines
+}
