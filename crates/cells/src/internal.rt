@@ -16,7 +16,7 @@ pub fn low_bits(x: u64, width: u32) -> u64
 
 // `count` cells from index `at` on, joined into one word; of each cell the low `width` bits count.
 pub fn joined(cells: &[u8], at: usize, width: u32, count: usize) -> u64
-    requires { ⌜ (at + count ≤ length (now cells)) × (width ≤ 8) × (count ≤ 7) ⌝ }
+    requires { ⌜ (at + count ≤ length (now cells)) × (width ≤ 8) × (count ≤ 8) ⌝ }
     ensures { λ r. ⌜ r ≡ join (replicate count width) (drop at (now (cells .entry))) ⌝ }
 {
     let mut word: u64 = 0;

@@ -2,12 +2,12 @@
 -- Assumes nothing.
 use mathlib.Core.Path.{_≡_, refl, sym, _∙_, subst}
 use mathlib.Core.Bool.{Bool, true, false, cond, not, _&&_, _||_}
-use Prim.Native.Nat.{ℕ, _+_, _*_, _≤_, _<_}
+use Prim.Native.Nat.{ℕ, _+_, _*_, _/_, _≤_, _<_}
 use native.Mathlib.Omega.{arith}
 use native.Mathlib.Nat.{mul-le-mul, mul-le-mul-right}
 use lib.Dec.{eqb, ltb}
 use borrow.Author.Tests.{eqb-true, not-true, not-false}
-use Rattle.part.specs.Device.{isBlockCount, isClass, known, inBlock, inDevice, fuseCount, decimalDigits}
+use Rattle.part.specs.Device.{isBlockCount, isClass, known, inBlock, inDevice, fuseCount, imageBytes, decimalDigits}
 use Rattle.part.specs.declared.Device.{Device}
 use Rattle.part.proofs.Facts.{and-iff, either, by-cases}
 
@@ -52,6 +52,12 @@ in-device-small d main subarea h = mul-le-mul (blocks-small d h) (in-block-small
 pub fuses-small : (d : Device) → known d ≡ true → fuseCount d ≤ 290304
 unfolding fuseCount
 fuses-small d h = in-device-small d 7776 648 h
+
+-- the fuses of a known device fill its image bytes
+pub image-whole : (d : Device) → known d ≡ true → fuseCount d ≡ imageBytes d * 8
+unfolding fuseCount imageBytes
+image-whole d h =
+    by-count (λ n. n * (7776 + n * 648) ≡ (n * (7776 + n * 648) + 7) / 8 * 8) refl refl refl refl refl refl (d .blocks) (known-count d h)
 
 pub digits-small : (x : ℕ) → decimalDigits x ≤ 7
 digits-small x =

@@ -1,4 +1,4 @@
-// The operations as they would be shipped in Rust, for the benchmark: small tables, multiply and shift.
+// The operations as they would be shipped in Rust, for the benchmark: tables, multiply and shift.
 // The tests hold them to the reference, fuse by fuse.
 
 use xc9500_reference::{Answer, Device, Refusal, LARGE};

@@ -1,4 +1,4 @@
-// Stores what each vectors program must print in DIR/PROGRAM/stdout, or checks what is stored there.
+// Stores what each vectors program must print in DIR/PROGRAM/stdout, or checks the stored files.
 // Exit status: 0 all is as the reference says; 1 a file differs or cannot be used; 2 bad usage.
 
 use std::fs;

@@ -1,5 +1,5 @@
-// The benchmark: each operation by the library, the plain reference and the optimised Rust, same input.
-// Processor time, the median of repeated runs; an operation is one line of rows().
+// The benchmark: each operation by the library, the plain reference and the optimised Rust.
+// Same input, processor time, the median of repeated runs; an operation is one line of rows().
 
 use std::hint::black_box;
 use xc9500_differential::{library, optimised};

@@ -16,31 +16,31 @@ use Rattle.cells.proofs.Laws.{join-small, total-replicate}
 use Rattle.cells.proofs.internal.joined.Statement.{statement}
 use Rattle.cells.proofs.internal.joined.Tie as tie
 
--- at most seven cells of at most 8 bits have at most 56 bits
-small : (k width : ℕ) (cells : List ℕ) → k ≤ 7 → width ≤ 8 → join (replicate k width) cells < 2 ^ 56
-small k width cells hk hw =
+-- at most so many cells of at most 8 bits have at most so many bytes
+small : (k width most : ℕ) (cells : List ℕ) → k ≤ most → width ≤ 8 → join (replicate k width) cells < 2 ^ (most * 8)
+small k width most cells hk hw =
     lt-of-lt-of-le (join-small (replicate k width) cells)
-    (pow-mono {i = total (replicate k width)} {j = 56} (rw (total-replicate k width) (mul-le-mul {n₁ = k} {m₁ = width} {n₂ = 7} {m₂ = 8} hk hw)))
+    (pow-mono {i = total (replicate k width)} {j = most * 8} (rw (total-replicate k width) (mul-le-mul {n₁ = k} {m₁ = width} {n₂ = most} {m₂ = 8} hk hw)))
 
 start : (cells : List ℕ) (at width count : ℕ) → 0 ≡ join (replicate (count - count) width) (drop (at + count) cells)
 unfolding join
 start cells at width count = let e : count - count ≡ 0 = omega arith in rw e
 
-step : (cells : List ℕ) (at width count i word low : ℕ) → 0 < i → i ≤ count → count ≤ 7 → width ≤ 8
+step : (cells : List ℕ) (at width count i word low : ℕ) → 0 < i → i ≤ count → count ≤ 8 → width ≤ 8
     → word ≡ join (replicate (count - i) width) (drop (at + i) cells) → low ≡ getD cells (at + (i - 1)) 0 % 2 ^ width
     → word * 2 ^ width % 2 ^ 64 + low ≡ join (replicate (count - (i - 1)) width) (drop (at + (i - 1)) cells)
 unfolding join
 step cells at width count i word low h0 hi hc hw e1 e2 =
     let more : count - (i - 1) ≡ suc (count - i) = omega arith in
     let next : at + (i - 1) + 1 ≡ at + i = omega arith in
-    let exact : word * 2 ^ width % 2 ^ 64 ≡ word * 2 ^ width = shl-exact 56 width 64 (rw e1 (small (count - i) width (drop (at + i) cells) (omega arith) hw)) (omega arith) in
+    let exact : word * 2 ^ width % 2 ^ 64 ≡ word * 2 ^ width = shl-exact 56 width 64 (rw e1 (small (count - i) width 7 (drop (at + i) cells) (omega arith) hw)) (omega arith) in
     rw (exact, e1, e2, more, drop-drop 1 (at + (i - 1)) cells, next, getD-drop (at + (i - 1)) cells 0 0, add-zero)
 
-fits : (cells : List ℕ) (at width count i word low : ℕ) → 0 < i → i ≤ count → count ≤ 7 → width ≤ 8
+fits : (cells : List ℕ) (at width count i word low : ℕ) → 0 < i → i ≤ count → count ≤ 8 → width ≤ 8
     → word ≡ join (replicate (count - i) width) (drop (at + i) cells) → low ≡ getD cells (at + (i - 1)) 0 % 2 ^ width
     → Fits w64 (word * 2 ^ width % 2 ^ 64 + low)
 fits cells at width count i word low h0 hi hc hw e1 e2 =
-    let s = small (count - (i - 1)) width (drop (at + (i - 1)) cells) (omega arith) hw in
+    let s = small (count - (i - 1)) width 8 (drop (at + (i - 1)) cells) (omega arith) hw in
     let e = step cells at width count i word low h0 hi hc hw e1 e2 in
     rw e (omega arith)
 

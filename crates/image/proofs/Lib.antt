@@ -1,0 +1,5 @@
+-- The laws of `image` that belong to no one function.
+-- Assumes nothing.
+pub mod Bits
+pub mod Counts
+pub mod Checks

@@ -1,0 +1,52 @@
+-- Image: one bit a fuse; fuse f is bit f mod 8 (bit 0 lowest) of byte f div 8. The fuse sum and the zero count over it.
+-- Document 01, "Three pictures of one part" and "Reading and writing the text".
+use Prim.Native.Nat.{ℕ, zero, suc, _+_, _*_, _-_, _/_, _%_, _^_}
+use mathlib.Core.Bool.{Bool, cond}
+use mathlib.Core.List.{List, [], _∷_}
+use lib.Dec.{eqb}
+use lib.ListN.{length}
+use Rattle.part.specs.Outcome.{Outcome}
+use Rattle.part.specs.Outcome.Outcome.{accepted, refused}
+use Rattle.part.specs.Answer.{number, value}
+use Rattle.part.specs.Device.{fuseCount, imageBytes}
+use Rattle.part.specs.Convert.{ifKnown}
+use Rattle.part.specs.declared.Device.{Device}
+use Rattle.image.specs.Bits.{bitAt, gathered, tabulate}
+use Rattle.image.specs.declared.NumberAnswer.{NumberAnswer}
+use Rattle.image.specs.declared.NumberAnswer.the-variants as answer
+
+-- the state of a fuse
+unfoldable pub state : List ℕ → ℕ → ℕ
+state image fuse = bitAt image (fuse / 8) (fuse % 8)
+
+-- the image in which each fuse has the state given
+unfoldable pub imageFrom : Device → (ℕ → ℕ) → List ℕ
+imageFrom d states = tabulate (imageBytes d) (λ index. gathered (λ bit. states (index * 8 + bit)) 8)
+
+-- image bytes are summed as unsigned bytes and only the low 16 bits kept
+unfoldable pub byteSum : List ℕ → ℕ
+byteSum [] = 0
+byteSum (b ∷ bytes) = b + byteSum bytes
+
+unfoldable pub sum16 : List ℕ → ℕ
+sum16 bytes = byteSum bytes % 2 ^ 16
+
+-- the zero count is the number of fuses at 0
+unfoldable pub zerosBelow : List ℕ → ℕ → ℕ
+zerosBelow image zero = 0
+zerosBelow image (suc fuse) = zerosBelow image fuse + (1 - state image fuse)
+
+-- refusal 2 exactly where the image has not the exact length
+abbrev pub ifLength : {A : Type 0} → (bytes exact : ℕ) → Outcome A → Outcome A
+ifLength bytes exact answer = cond (eqb bytes exact) answer (refused 2 0)
+
+unfoldable pub fuseSum : Device → List ℕ → Outcome ℕ
+fuseSum d image = ifKnown d (ifLength (length image) (imageBytes d) (accepted (sum16 image)))
+
+unfoldable pub zeroCount : Device → List ℕ → Outcome ℕ
+zeroCount d image = ifKnown d (ifLength (length image) (imageBytes d) (accepted (zerosBelow image (fuseCount d))))
+
+-- what an answer that is a number says
+abbrev pub numberOutcome : NumberAnswer → Outcome ℕ
+numberOutcome (answer.Number x) = accepted x
+numberOutcome (answer.Refused r) = refused (number r) (value r)

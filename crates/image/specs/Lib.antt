@@ -1,0 +1,4 @@
+-- The definitions that the contracts of `image` cite.
+-- Assumes nothing.
+pub mod Bits
+pub mod Image

@@ -1,0 +1,58 @@
+// Bits and bytes of a list, image or readout alike: for the crates above.
+// A function here may require that an index or a bit is there.
+ghost use mathlib.Core.Path.{_≡_};
+ghost use Prim.Native.Nat.{_<_, _≤_};
+ghost use lib.ListN.{length};
+ghost use Rattle.image.specs.Bits.{bitAt, withBit, onesIn};
+ghost use Rattle.image.specs.Image.{sum16};
+
+// A bit of a byte.
+pub fn bit_of(bytes: &[u8], index: usize, bit: u32) -> u32
+    requires { ⌜ (index < length (now bytes)) × (bit < 8) ⌝ }
+    ensures { λ r. ⌜ r ≡ bitAt (now (bytes .entry)) index bit ⌝ }
+{
+    (bytes[index] >> bit) as u32 % 2
+}
+
+// One bit of one byte put in place.
+pub fn set_bit(bytes: &mut [u8], index: usize, bit: u32, state: u32)
+    requires { ⌜ (index < length (now bytes)) × (bit < 8) × (state < 2) ⌝ }
+    ensures { λ _. ⌜ now (bytes .exit) ≡ withBit (now (bytes .entry)) index bit state ⌝ }
+{
+    let x = bytes[index] as u64;
+    let above = x >> bit;
+    let below = cells::internal::low_bits(x, bit);
+    let changed = above / 2 * 2 + state as u64;
+    bytes[index] = ((changed << bit) + below) as u8;
+}
+
+// The sum of the bytes, of which the low 16 bits are kept.
+pub fn sum_of(bytes: &[u8]) -> u16
+    ensures { λ r. ⌜ r ≡ sum16 (now (bytes .entry)) ⌝ }
+{
+    let mut sum: u16 = 0;
+    let mut i: usize = 0;
+    while i < bytes.len() {
+        sum = std::num::wrapping_add_u16(sum, bytes[i] as u16);
+        i += 1;
+    }
+    sum
+}
+
+// The ones among the bits of the bytes, eight bytes at a time and then one at a time.
+pub fn ones_of(bytes: &[u8]) -> u64
+    requires { ⌜ length (now bytes) ≤ 65536 ⌝ }
+    ensures { λ r. ⌜ r ≡ onesIn (now (bytes .entry)) ⌝ }
+{
+    let mut ones: u64 = 0;
+    let mut i: usize = 0;
+    while 8 <= bytes.len() - i {
+        ones += u64::count_ones(cells::internal::joined(bytes, i, 8, 8)) as u64;
+        i += 8;
+    }
+    while i < bytes.len() {
+        ones += u64::count_ones(cells::internal::joined(bytes, i, 8, 1)) as u64;
+        i += 1;
+    }
+    ones
+}

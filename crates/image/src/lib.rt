@@ -1,0 +1,40 @@
+// The fuse image: the fuse sum and the zero count over it. The state of a fuse and the change of one stand in `internal`.
+// The definitions stand in specs/Image.antt.
+ghost use mathlib.Core.Path.{_≡_};
+ghost use Rattle.image.specs.Image.{numberOutcome, fuseSum, zeroCount};
+use part::Device;
+use part::Refusal;
+
+pub mod internal;
+
+pub enum NumberAnswer {
+    Number(u32),
+    Refused(Refusal),
+}
+
+// The sum of the image's bytes, of which the low 16 bits are kept. Refused: 1, 2.
+pub fn fuse_sum(d: Device, image: &[u8]) -> NumberAnswer
+    ensures { λ r. ⌜ numberOutcome r ≡ fuseSum d (now (image .entry)) ⌝ }
+{
+    if !part::is_known(d) {
+        return NumberAnswer::Refused(Refusal::UnknownDevice);
+    }
+    if image.len() != part::internal::image_bytes(d) as usize {
+        return NumberAnswer::Refused(Refusal::WrongLength);
+    }
+    NumberAnswer::Number(internal::sum_of(image) as u32)
+}
+
+// How many fuses of the image are at 0. Refused: 1, 2.
+pub fn zero_count(d: Device, image: &[u8]) -> NumberAnswer
+    ensures { λ r. ⌜ numberOutcome r ≡ zeroCount d (now (image .entry)) ⌝ }
+{
+    if !part::is_known(d) {
+        return NumberAnswer::Refused(Refusal::UnknownDevice);
+    }
+    if image.len() != part::internal::image_bytes(d) as usize {
+        return NumberAnswer::Refused(Refusal::WrongLength);
+    }
+    let fuses = part::internal::fuse_count(d);
+    NumberAnswer::Number(fuses - internal::ones_of(image) as u32)
+}
