@@ -4,17 +4,20 @@
 --   cut-at, cut-length          a cell of what is cut
 --   join-small, join-cut        a joined number has no more bits than the widths; what was cut is joined again
 --   cut-join                    joined cells are cut again, to their low bits
---   total-replicate             the bits of k cells of one width
+--   total-replicate, total-append, total-repeat, length-repeat   the bits and the number of cells
 --   sets-append                 stores one after another
-use mathlib.Core.Path.{_≡_, refl, sym, _∙_, ap, ap₂}
+--   cut-sets                    cells stored part by part
+--   word-at                     the bytes from an index on, joined, are a part of the number of all
+--   piece                       cells cut from such a word are cut from the number of all
+use mathlib.Core.Path.{_≡_, refl, sym, _∙_, ap, ap₂, subst}
 use mathlib.Core.List.{List, [], _∷_, _++_}
-use Prim.Native.Nat.{ℕ, zero, suc, _+_, _*_, _/_, _%_, _^_, _≤_, _<_, zero-le}
+use Prim.Native.Nat.{ℕ, zero, suc, _+_, _*_, _-_, _/_, _%_, _^_, _≤_, _<_}
 use native.Mathlib.Omega.{arith}
-use native.Mathlib.Nat.{div-one, mod-one, mul-one, add-zero, zero-add, add-suc, suc-add, add-comm, mod-mod, zero-mod, zero-div, mod-lt, div-add-mod', not-suc-le-zero, le-of-suc-le-suc, add-mul, mul-assoc, mul-comm, zero-mul, suc-mul}
+use native.Mathlib.Nat.{div-one, mod-one, mul-one, add-zero, zero-add, add-suc, suc-add, add-comm, mod-mod, zero-mod, zero-div, mod-lt, div-add-mod', not-suc-le-zero, le-of-suc-le-suc, add-mul, mul-assoc, mul-comm, zero-mul, suc-mul, add-assoc}
 use native.Mathlib.Numerals.{one-add}
 use lib.Pow.{pow-pos, pow-add, shr-shr, high, low, mod-pow-add, split, field, mod-mod-pow}
 use lib.Arith.{digits-lt}
-use lib.ListN.{length, getD, take, drop, replicate, length-append, set}
+use lib.ListN.{length, getD, take, drop, replicate, length-append, length-replicate, replicate-append-replicate, set}
 use lib.Seq.{sets, drop-drop, getD-drop}
 use Rattle.cells.specs.Cells.{cut, join, total, repeat, number}
 
@@ -88,7 +91,58 @@ unfolding total
 total-replicate zero w = sym (zero-mul w)
 total-replicate (suc k) w = ap (λ (x : ℕ). w + x) (total-replicate k w) ∙ add-comm w (k * w) ∙ sym (suc-mul k w)
 
+pub total-append : (ws vs : List ℕ) → total (ws ++ vs) ≡ total ws + total vs
+unfolding total
+total-append [] vs = sym (zero-add (total vs))
+total-append (w ∷ ws) vs = ap (λ (x : ℕ). w + x) (total-append ws vs) ∙ sym (add-assoc w (total ws) (total vs))
+
+pub total-repeat : (k : ℕ) (ws : List ℕ) → total (repeat k ws) ≡ k * total ws
+unfolding total repeat
+total-repeat zero ws = sym (zero-mul (total ws))
+total-repeat (suc k) ws = total-append ws (repeat k ws) ∙ rw (total-repeat k ws) (add-comm (total ws) (k * total ws) ∙ sym (suc-mul k (total ws)))
+
+pub length-repeat : (k : ℕ) (ws : List ℕ) → length (repeat k ws) ≡ k * length ws
+unfolding repeat
+length-repeat zero ws = sym (zero-mul (length ws))
+length-repeat (suc k) ws = length-append ws (repeat k ws) ∙ rw (length-repeat k ws) (add-comm (length ws) (k * length ws) ∙ sym (suc-mul k (length ws)))
+
 pub sets-append : {A : Type 0} (l : List A) (i : ℕ) (vs us : List A) → sets l i (vs ++ us) ≡ sets (sets l i vs) (i + length vs) us
 sets-append l i [] us = ap (λ (k : ℕ). sets l k us) (sym (add-zero i))
 sets-append l i (v ∷ vs) us =
     sets-append (set l i v) (suc i) vs us ∙ ap (λ (k : ℕ). sets (sets (set l i v) (suc i) vs) k us) (suc-add i (length vs) ∙ sym (add-suc i (length vs)))
+
+pub cut-sets : (out ws vs : List ℕ) (at x n t : ℕ) → length ws ≡ n → total ws ≡ t
+    → sets (sets out at (cut ws x)) (at + n) (cut vs (x / 2 ^ t)) ≡ sets out at (cut (ws ++ vs) x)
+cut-sets out ws vs at x n t e f =
+    rw (cut-append ws vs x, sets-append out at (cut ws x) (cut vs (x / 2 ^ total ws)), cut-length ws x, e, f)
+
+replicate-add : (n m a : ℕ) → replicate (n + m) a ≡ replicate n a ++ replicate m a
+replicate-add n m a = sym (replicate-append-replicate n m a)
+
+pub word-at : (bytes : List ℕ) (p k : ℕ) → p + k ≤ length bytes → join (replicate k 8) (drop p bytes) ≡ number bytes / 2 ^ (p * 8) % 2 ^ (k * 8)
+unfolding number
+word-at bytes p k h =
+    let rest = length bytes - (p + k) in
+    let whole : length bytes ≡ p + (k + rest) = omega arith in
+    let a = join (replicate p 8) bytes in
+    let b = join (replicate k 8) (drop p bytes) in
+    let c = join (replicate rest 8) (drop k (drop p bytes)) in
+    let inner : join (replicate (k + rest) 8) (drop p bytes) ≡ c * 2 ^ (k * 8) + b = ap (λ (ws : List ℕ). join ws (drop p bytes)) (replicate-add k rest 8) ∙ join-append (replicate k 8) (replicate rest 8) (drop p bytes) ∙ rw (length-replicate {A = ℕ} k 8, total-replicate k 8) (add-comm _ _) in
+    let outer : join (replicate (length bytes) 8) bytes ≡ (c * 2 ^ (k * 8) + b) * 2 ^ (p * 8) + a = ap (λ (n : ℕ). join (replicate n 8) bytes) whole ∙ ap (λ (ws : List ℕ). join ws bytes) (replicate-add p (k + rest) 8) ∙ join-append (replicate p 8) (replicate (k + rest) 8) bytes ∙ rw (length-replicate {A = ℕ} p 8, total-replicate p 8, inner) (add-comm _ _) in
+    let small-a : a < 2 ^ (p * 8) = subst (λ (t : ℕ). a < 2 ^ t) (total-replicate p 8) (join-small (replicate p 8) bytes) in
+    let small-b : b < 2 ^ (k * 8) = subst (λ (t : ℕ). b < 2 ^ t) (total-replicate k 8) (join-small (replicate k 8) (drop p bytes)) in
+    sym (rw outer (ap (λ (y : ℕ). y % 2 ^ (k * 8)) (high (c * 2 ^ (k * 8) + b) (p * 8) small-a) ∙ low c (k * 8) small-b))
+
+pub piece : (bytes ws : List ℕ) (p s k : ℕ) → p + k ≤ length bytes → s + total ws ≤ k * 8
+    → cut ws (join (replicate k 8) (drop p bytes) / 2 ^ s) ≡ cut ws (number bytes / 2 ^ (p * 8 + s))
+piece bytes ws p s k h g =
+    let j = k * 8 - s in
+    let e : k * 8 ≡ j + s = omega arith in
+    let f : j ≡ j - total ws + total ws = omega arith in
+    let x = number bytes / 2 ^ (p * 8) in
+    rw (word-at bytes p k h)
+    (ap (λ (t : ℕ). cut ws (x % 2 ^ t / 2 ^ s)) e
+    ∙ ap (cut ws) (field x j s)
+    ∙ ap (λ (t : ℕ). cut ws (x / 2 ^ s % 2 ^ t)) f
+    ∙ cut-low ws (x / 2 ^ s) (j - total ws)
+    ∙ ap (cut ws) (shr-shr (number bytes) (p * 8) s))

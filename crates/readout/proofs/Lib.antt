@@ -1,0 +1,6 @@
+-- The laws of `readout` that belong to no one function.
+-- Assumes nothing.
+pub mod Rows
+pub mod Widths
+pub mod Passages
+pub mod Targets

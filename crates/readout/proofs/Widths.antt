@@ -1,0 +1,111 @@
+-- The list of widths is that of the device's bytes: `widths-at` says that the width at an index is the byte's, and that the bits
+-- before it are the fuses before the byte's first.
+use mathlib.Core.Path.{_≡_, refl, sym, _∙_, ap, ap₂, subst}
+use mathlib.Core.Bool.{Bool, true, false, cond}
+use mathlib.Core.List.{List, [], _∷_, _++_}
+use Prim.Native.Nat.{ℕ, zero, suc, _+_, _*_, _-_, _/_, _%_, _^_, _≤_, _<_, zero-le}
+use native.Mathlib.Omega.{arith}
+use native.Mathlib.Nat.{zero-add, add-zero, add-assoc, zero-mul, suc-mul, add-comm, mod-lt, div-add-mod', div-lt-iff-lt-mul, not-suc-le-zero, le-of-suc-le-suc, le-of-lt}
+use lib.Dec.{ltb}
+use lib.ListN.{length, getD, take, drop, replicate, length-append, length-replicate, getD-replicate, List·getD-append}
+use lib.Seq.{take-append-le, take-append-add, getD-append-add}
+use borrow.Author.Tests.{lt-ltb, le-ltb}
+use Rattle.cells.specs.Cells.{total, repeat}
+use Rattle.cells.proofs.Laws.{total-append, total-repeat, total-replicate, length-repeat}
+use Rattle.part.specs.Device.{readoutBytes, blockBytes, blockFuses, columnWidth, columnStart}
+use Rattle.part.specs.Place.{widthOf, firstFuse, byteOfIndex, byteInBlock}
+use Rattle.part.specs.declared.Device.{Device}
+use Rattle.part.specs.declared.BytePlace.{BytePlace}
+use Rattle.part.specs.declared.BytePlace.the-variants.{Main, WireAnd}
+use Rattle.part.proofs.Facts.{compared, by-cases}
+use Rattle.readout.specs.Widths.{rowWidths, blockWidths, widths}
+use Rattle.readout.proofs.Rows.{main-size, wire-and-size, block-size}
+
+-- an index of a list of widths: the width there, and the bits before it
+abbrev pub At : List ℕ → (index width before : ℕ) → Type 0
+At ws index width before = (getD ws index 0 ≡ width) × (total (take index ws) ≡ before)
+
+at-left : (ws vs : List ℕ) (i w b : ℕ) → i < length ws → At ws i w b → At (ws ++ vs) i w b
+at-left ws vs i w b h a =
+    (List·getD-append ws vs 0 i h ∙ a .0, ap total (take-append-le i ws vs (le-of-lt h)) ∙ a .1)
+
+at-right : (ws vs : List ℕ) (j w b : ℕ) → At vs j w b → At (ws ++ vs) (length ws + j) w (total ws + b)
+at-right ws vs j w b a =
+    (getD-append-add ws vs j 0 ∙ a .0, ap total (take-append-add ws vs j) ∙ total-append ws (take j vs) ∙ ap (λ (x : ℕ). total ws + x) (a .1))
+
+pub at-replicate : (n a i : ℕ) → i < n → At (replicate n a) i a (i * a)
+unfolding total
+at-replicate zero a i h = absurd (not-suc-le-zero h)
+at-replicate (suc n) a zero h = (refl, sym (zero-mul a))
+at-replicate (suc n) a (suc i) h =
+    let r = at-replicate n a i (le-of-suc-le-suc h) in
+    (r .0, ap (λ (x : ℕ). a + x) (r .1) ∙ add-comm a (i * a) ∙ sym (suc-mul i a))
+
+at-repeat : (m : ℕ) (ws : List ℕ) (q r w b : ℕ) → q < m → r < length ws → At ws r w b
+    → At (repeat m ws) (q * length ws + r) w (q * total ws + b)
+unfolding repeat
+at-repeat zero ws q r w b hq hr a = absurd (not-suc-le-zero hq)
+at-repeat (suc m) ws zero r w b hq hr a = rw (zero-mul, zero-mul, zero-add, zero-add) (at-left ws (repeat m ws) r w b hr a)
+at-repeat (suc m) ws (suc q) r w b hq hr a =
+    let e : suc q * length ws + r ≡ length ws + (q * length ws + r) = omega (arith, suc-mul q (length ws)) in
+    let f : suc q * total ws + b ≡ total ws + (q * total ws + b) = omega (arith, suc-mul q (total ws)) in
+    rw (e, f) (at-right ws (repeat m ws) (q * length ws + r) w (q * total ws + b) (at-repeat m ws q r w b (le-of-suc-le-suc hq) hr a))
+
+-- a row of wide columns of 8 bits and more columns of narrow bits
+at-row : (wide narrow more c : ℕ) → c < wide + more → At (replicate wide 8 ++ replicate more narrow) c (columnWidth wide narrow c) (columnStart wide narrow c)
+at-row wide narrow more c h =
+    compared c wide
+    (λ l. rw (lt-ltb c wide l) (at-left (replicate wide 8) (replicate more narrow) c 8 (c * 8) (rw (length-replicate {A = ℕ} wide 8) l) (at-replicate wide 8 c l)))
+    (λ g.
+    let e : c ≡ wide + (c - wide) = omega arith in
+    let right = at-right (replicate wide 8) (replicate more narrow) (c - wide) narrow ((c - wide) * narrow) (at-replicate more narrow (c - wide) (omega arith)) in
+    rw (le-ltb c wide g)
+    (subst (λ (k : ℕ). At (replicate wide 8 ++ replicate more narrow) k narrow (wide * 8 + (c - wide) * narrow)) (sym e)
+    (rw (length-replicate {A = ℕ} wide 8, total-replicate wide 8) at right)))
+
+-- an index of a block: the byte there, in any block
+abbrev InBlock : Device → ℕ → ℕ → BytePlace → Type 0
+InBlock d block rest byte = (x : ℕ) × At (blockWidths d) rest (widthOf byte) x × (block * blockFuses d + x ≡ firstFuse d byte)
+
+at-block : (d : Device) (block rest : ℕ) → rest < blockBytes d → InBlock d block rest (byteInBlock block rest)
+unfolding blockWidths rowWidths
+at-block d block rest h =
+    let ms = rowWidths true in
+    let vs = rowWidths false in
+    let m = main-size true refl in
+    let w = wire-and-size false refl in
+    let rows = repeat 72 ms in
+    let rows-length : length rows ≡ 1080 = length-repeat 72 ms ∙ ap (λ (k : ℕ). 72 * k) (m .1) in
+    let rows-total : total rows ≡ 7776 = total-repeat 72 ms ∙ ap (λ (k : ℕ). 72 * k) (m .0) in
+    by-cases (InBlock d block rest) rest 1080
+    (λ l.
+    let c = rest % 15 in
+    let here = at-repeat 72 ms (rest / 15) c (columnWidth 9 6 c) (columnStart 9 6 c) (omega arith) (omega (arith, m .1)) (at-row 9 6 6 c (omega arith)) in
+    let there = rw (m .0, m .1) at here in
+    let e : rest / 15 * 15 + c ≡ rest = omega arith in
+    (rest / 15 * 108 + columnStart 9 6 c, at-left rows (repeat (d .blocks * 18) vs) rest _ _ (rw rows-length l) (rw e at there), refl))
+    (λ g.
+    let r = rest - 1080 in
+    let c = r % 5 in
+    let here = at-repeat (d .blocks * 18) vs (r / 5) c (columnWidth 1 7 c) (columnStart 1 7 c) (omega arith) (omega (arith, w .1)) (at-row 1 7 4 c (omega arith)) in
+    let there = rw (w .0, w .1) at here in
+    let e : r / 5 * 5 + c ≡ r = omega arith in
+    let past : 1080 + r ≡ rest = omega arith in
+    let c' : r % 90 % 5 ≡ c = omega arith in
+    let right = rw (rows-length, rows-total, past) at (at-right rows (repeat (d .blocks * 18) vs) r _ _ (rw e at there)) in
+    (7776 + (r / 5 * 36 + columnStart 1 7 c), rw c' right, rw c' (omega arith)))
+
+-- the width at an index is that of its byte, and the bits before it are the fuses before it
+pub widths-at : (d : Device) (index : ℕ) → index < readoutBytes d → At (widths d) index (widthOf (byteOfIndex d index)) (firstFuse d (byteOfIndex d index))
+unfolding widths readoutBytes byteOfIndex
+widths-at d index h =
+    let B = blockBytes d in
+    let block = index / B in
+    let rest = index % B in
+    let size = block-size d in
+    let left : rest < B = mod-lt index (omega arith) in
+    let inside : block < d .blocks = div-lt-iff-lt-mul {k = B} {x = index} {y = d .blocks} (omega arith) .1 h in
+    let whole : block * B + rest ≡ index = div-add-mod' index B in
+    let here = at-block d block rest left in
+    let there = at-repeat (d .blocks) (blockWidths d) block rest (widthOf (byteInBlock block rest)) (here .0) inside (rw (size .1) left) (here .1) in
+    rw (size .0, size .1, whole, here .2) at there

@@ -1,0 +1,47 @@
+-- `wire_and_row_out` meets its contract: the words are the row's, and so are the cells.
+-- Assumes nothing.
+use Rattle.readout.proofs.Rows.{wire-and-row}
+use borrow.Author.Needs.{needs}
+use Rattle.readout.proofs.internal.wire_and_row_out.Statement.{statement}
+use Rattle.readout.proofs.internal.wire_and_row_out.Tie as tie
+
+cast-shift : tie.Need-cast-shift
+cast-shift c = search needs
+
+joined-requires : tie.Need-joined-requires
+joined-requires c κs = search needs
+
+cast-word : tie.Need-cast-word
+cast-word c = search needs
+
+shr-word : tie.Need-shr-word
+shr-word c = search needs
+
+put-cells-requires : tie.Need-put-cells-requires
+put-cells-requires c κs = search needs
+
+add-put-cells : tie.Need-add-put-cells
+add-put-cells c = search needs
+
+put-cells-requires-2 : tie.Need-put-cells-requires-2
+put-cells-requires-2 c κs = search needs
+
+same-length : tie.Need-same-length
+same-length c = search needs
+
+returns : tie.Need-returns
+returns c = search (needs, wire-and-row)
+
+pub wire-and-row-out-spec : {M : Type 1} → statement M
+wire-and-row-out-spec =
+    tie.close
+    (tie.spec
+    cast-shift
+    joined-requires
+    cast-word
+    shr-word
+    put-cells-requires
+    add-put-cells
+    put-cells-requires-2
+    same-length
+    returns)

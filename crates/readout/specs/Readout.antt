@@ -1,0 +1,73 @@
+-- Readout: one byte for each valid address, in ascending address order, value in the low bits, bits above the byte's width 0.
+-- The two passages between image and readout, refusals and target bytes included. Document 01, "Three pictures of one part".
+use Prim.Native.Nat.{ℕ, zero, suc, _+_, _*_, _/_, _%_, _^_}
+use mathlib.Core.Bool.{Bool, cond}
+use mathlib.Core.List.{List}
+use lib.Dec.{ltb, leb}
+use lib.ListN.{length, getD}
+use Rattle.part.specs.Outcome.{Outcome}
+use Rattle.part.specs.Outcome.Outcome.{accepted, refused}
+use Rattle.part.specs.Answer.{number, value}
+use Rattle.part.specs.Device.{imageBytes, readoutBytes}
+use Rattle.part.specs.Place.{widthOf, fuseOfPlace, placeOfFuse, indexOfByte, byteOfIndex}
+use Rattle.part.specs.Convert.{ifKnown}
+use Rattle.part.specs.declared.Device.{Device}
+use Rattle.image.specs.Bits.{bitAt, gathered, tabulate}
+use Rattle.image.specs.Image.{state, imageFrom, ifLength}
+use Rattle.readout.specs.declared.DoneAnswer.{DoneAnswer}
+use Rattle.readout.specs.declared.DoneAnswer.the-variants as answer
+
+-- the width of the byte at an index, and the fuse of one of its bits
+abbrev pub widthAt : Device → ℕ → ℕ
+widthAt d index = widthOf (byteOfIndex d index)
+
+abbrev pub fuseAt : Device → (index bit : ℕ) → ℕ
+fuseAt d index bit = fuseOfPlace d (record { byte = byteOfIndex d index; bit = bit })
+
+-- in an image's readout, each bit b within a byte's width is the state of the fuse with that byte's address and bit b
+unfoldable pub readoutFrom : Device → (ℕ → ℕ) → List ℕ
+readoutFrom d states = tabulate (readoutBytes d) (λ index. gathered (λ bit. states (fuseAt d index bit)) (widthAt d index))
+
+unfoldable pub readoutOf : Device → List ℕ → List ℕ
+readoutOf d image = readoutFrom d (state image)
+
+-- the state of a fuse in a readout: the bit of the byte with its address
+unfoldable pub stateIn : Device → List ℕ → ℕ → ℕ
+stateIn d readout fuse = bitAt readout (indexOfByte d (placeOfFuse d fuse .byte)) (placeOfFuse d fuse .bit)
+
+unfoldable pub imageOf : Device → List ℕ → List ℕ
+imageOf d readout = imageFrom d (stateIn d readout)
+
+-- a byte has a bit above its width
+unfoldable pub strayAt : Device → List ℕ → ℕ → Bool
+strayAt d readout index = leb (2 ^ widthAt d index) (getD readout index 0)
+
+-- the lowest number below n that passes a test, or n
+unfoldable pub lowest : (ℕ → Bool) → ℕ → ℕ
+lowest test zero = zero
+lowest test (suc n) = cond (ltb (lowest test n) n) (lowest test n) (cond (test n) n (suc n))
+
+abbrev pub firstStray : Device → List ℕ → ℕ
+firstStray d readout = lowest (strayAt d readout) (readoutBytes d)
+
+-- image to readout, readout to image: refusals 1, 2 of both slices, and 6 with the lowest such index
+unfoldable pub toReadout : Device → (image target : List ℕ) → Outcome (Unit {0})
+toReadout d image target =
+    ifKnown d (ifLength (length image) (imageBytes d) (ifLength (length target) (readoutBytes d) (accepted tt)))
+
+unfoldable pub toImage : Device → (readout target : List ℕ) → Outcome (Unit {0})
+toImage d readout target =
+    ifKnown d
+    (ifLength (length readout) (readoutBytes d)
+    (ifLength (length target) (imageBytes d)
+    (cond (ltb (firstStray d readout) (readoutBytes d)) (refused 6 (firstStray d readout)) (accepted tt))))
+
+-- what a target holds after a call: the result where it is accepted, and else what it held
+abbrev pub written : {A : Type 0} → Outcome A → (result before : List ℕ) → List ℕ
+written (accepted x) result before = result
+written (refused number value) result before = before
+
+-- what an answer without a result says
+abbrev pub doneOutcome : DoneAnswer → Outcome (Unit {0})
+doneOutcome answer.Done = accepted tt
+doneOutcome (answer.Refused r) = refused (number r) (value r)

@@ -1,0 +1,32 @@
+// The passages between an image and a device readout.
+// The definitions stand in specs/Readout.antt.
+ghost use mathlib.Core.Path.{_≡_};
+ghost use Rattle.readout.specs.Readout.{doneOutcome, written, toReadout, readoutOf};
+
+use part::Device;
+use part::Refusal;
+
+pub mod internal;
+
+pub enum DoneAnswer {
+    Done,
+    Refused(Refusal),
+}
+
+// The readout of an image, put into `readout`. Refused: 1, 2.
+pub fn image_to_readout(d: Device, image: &[u8], readout: &mut [u8]) -> DoneAnswer
+    ensures { λ r. ⌜ doneOutcome r ≡ toReadout d (now (image .entry)) (now (readout .entry)) ⌝ }
+    ensures { λ _. ⌜ now (readout .exit) ≡ written (toReadout d (now (image .entry)) (now (readout .entry))) (readoutOf d (now (image .entry))) (now (readout .entry)) ⌝ }
+{
+    if !part::is_known(d) {
+        return DoneAnswer::Refused(Refusal::UnknownDevice);
+    }
+    if image.len() != part::internal::image_bytes(d) as usize {
+        return DoneAnswer::Refused(Refusal::WrongLength);
+    }
+    if readout.len() != part::internal::readout_bytes(d) as usize {
+        return DoneAnswer::Refused(Refusal::WrongLength);
+    }
+    internal::blocks_out(d, image, readout);
+    DoneAnswer::Done
+}
