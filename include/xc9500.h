@@ -22,6 +22,25 @@ uint64_t xc9500_address_of_fuse(uint32_t blocks, uint32_t class_, uint32_t fuse)
 /* The fuse of an address and a bit. Refused: 1 unknown device; 3 no such address, or no such bit of it. */
 uint64_t xc9500_fuse_of_address(uint32_t blocks, uint32_t class_, uint32_t address, uint32_t bit);
 
+/* Image: one bit a fuse; fuse f is bit f mod 8 (bit 0 lowest) of byte f div 8.
+   Readout: one byte for each valid address in ascending order, value in the low bits.
+   Refused by the functions below: 1 unknown device; 2 an image or a readout that has not the exact length. */
+
+/* The sum of the image's bytes, of which the low 16 bits are kept. */
+uint64_t xc9500_fuse_sum(uint32_t blocks, uint32_t class_, const uint8_t *image, size_t image_len);
+
+/* The number of fuses at 0. */
+uint64_t xc9500_zero_count(uint32_t blocks, uint32_t class_, const uint8_t *image, size_t image_len);
+
+/* The readout of an image, put into `readout`: 0. The two do not overlap. */
+uint64_t xc9500_image_to_readout(uint32_t blocks, uint32_t class_, const uint8_t *image, size_t image_len,
+                                 uint8_t *readout, size_t readout_len);
+
+/* The image of a readout, put into `image`: 0. Also refused: 6 a byte has a bit above its width, with the lowest index
+   of such a byte. The two do not overlap. */
+uint64_t xc9500_readout_to_image(uint32_t blocks, uint32_t class_, const uint8_t *readout, size_t readout_len,
+                                 uint8_t *image, size_t image_len);
+
 #ifdef __cplusplus
 }
 #endif

@@ -22,3 +22,7 @@ addressAndBit p = p .0 * 8 + p .1
 -- the result of a single number
 abbrev pub itself : ℕ → ℕ
 itself x = x
+
+-- the result of a call that has none
+abbrev pub nothing : Unit {0} → ℕ
+nothing x = 0

@@ -1,15 +1,19 @@
 // The C interface, declared in include/xc9500.h: numbers are u32, a slice is a pointer and a length, every answer is one u64.
 // Each function only calls its library function and packs the answer: specs/Packed.antt says how.
 ghost use mathlib.Core.Path.{_≡_};
-ghost use Rattle.part.specs.Answer.{number, value};
+ghost use Rattle.part.specs.Answer.{number, value, addressOutcome, fuseOutcome};
 ghost use Rattle.part.specs.Convert.{addressOfFuse, fuseOfAddress};
-ghost use Rattle.capi.specs.Packed.{packed, refusalWord, device, addressAndBit, itself};
+ghost use Rattle.image.specs.Image.{numberOutcome, fuseSum, zeroCount};
+ghost use Rattle.readout.specs.Readout.{doneOutcome, written, toReadout, readoutOf};
+ghost use Rattle.capi.specs.Packed.{packed, refusalWord, device, addressAndBit, itself, nothing};
+use image::NumberAnswer;
 use part::AddressAnswer;
 use part::Device;
 use part::DeviceAddress;
 use part::FuseAnswer;
 use part::FuseNumber;
 use part::Refusal;
+use readout::DoneAnswer;
 
 const BIT_56: u64 = 1 << 56;
 
@@ -19,16 +23,49 @@ fn refusal_word(r: Refusal) -> u64
     part::refusal_number(r) as u64 * BIT_56 + part::refusal_value(r) as u64
 }
 
+// The words of the answers.
+fn address_word(answer: AddressAnswer) -> u64
+    ensures { λ w. ⌜ w ≡ packed addressAndBit (addressOutcome answer) ⌝ }
+{
+    match answer {
+        AddressAnswer::At(address, bit) => address.0 as u64 * 8 + bit as u64,
+        AddressAnswer::Refused(r) => refusal_word(r),
+    }
+}
+
+fn fuse_word(answer: FuseAnswer) -> u64
+    ensures { λ w. ⌜ w ≡ packed itself (fuseOutcome answer) ⌝ }
+{
+    match answer {
+        FuseAnswer::Fuse(fuse) => fuse.0 as u64,
+        FuseAnswer::Refused(r) => refusal_word(r),
+    }
+}
+
+fn number_word(answer: NumberAnswer) -> u64
+    ensures { λ w. ⌜ w ≡ packed itself (numberOutcome answer) ⌝ }
+{
+    match answer {
+        NumberAnswer::Number(x) => x as u64,
+        NumberAnswer::Refused(r) => refusal_word(r),
+    }
+}
+
+fn done_word(answer: DoneAnswer) -> u64
+    ensures { λ w. ⌜ w ≡ packed nothing (doneOutcome answer) ⌝ }
+{
+    match answer {
+        DoneAnswer::Done => 0,
+        DoneAnswer::Refused(r) => refusal_word(r),
+    }
+}
+
 // The address times 8 plus the bit of a fuse.
 #[no_mangle]
 pub extern "C" fn xc9500_address_of_fuse(blocks: u32, class: u32, fuse: u32) -> u64
     ensures { λ w. ⌜ w ≡ packed addressAndBit (addressOfFuse (device blocks class) fuse) ⌝ }
 {
-    let answer = part::address_of_fuse(Device { blocks, class }, FuseNumber(fuse));
-    match answer {
-        AddressAnswer::At(address, bit) => address.0 as u64 * 8 + bit as u64,
-        AddressAnswer::Refused(r) => refusal_word(r),
-    }
+    address_word(part::address_of_fuse(Device { blocks, class }, FuseNumber(fuse)))
 }
 
 // The fuse of an address and a bit.
@@ -36,9 +73,30 @@ pub extern "C" fn xc9500_address_of_fuse(blocks: u32, class: u32, fuse: u32) -> 
 pub extern "C" fn xc9500_fuse_of_address(blocks: u32, class: u32, address: u32, bit: u32) -> u64
     ensures { λ w. ⌜ w ≡ packed itself (fuseOfAddress (device blocks class) address bit) ⌝ }
 {
-    let answer = part::fuse_of_address(Device { blocks, class }, DeviceAddress(address), bit);
-    match answer {
-        FuseAnswer::Fuse(fuse) => fuse.0 as u64,
-        FuseAnswer::Refused(r) => refusal_word(r),
-    }
+    fuse_word(part::fuse_of_address(Device { blocks, class }, DeviceAddress(address), bit))
+}
+
+// The fuse sum of an image.
+#[no_mangle]
+pub extern "C" fn xc9500_fuse_sum(blocks: u32, class: u32, image: &[u8]) -> u64
+    ensures { λ w. ⌜ w ≡ packed itself (fuseSum (device blocks class) (now (image .entry))) ⌝ }
+{
+    number_word(image::fuse_sum(Device { blocks, class }, image))
+}
+
+// The number of fuses at 0 of an image.
+#[no_mangle]
+pub extern "C" fn xc9500_zero_count(blocks: u32, class: u32, image: &[u8]) -> u64
+    ensures { λ w. ⌜ w ≡ packed itself (zeroCount (device blocks class) (now (image .entry))) ⌝ }
+{
+    number_word(image::zero_count(Device { blocks, class }, image))
+}
+
+// The readout of an image, put into `readout`.
+#[no_mangle]
+pub extern "C" fn xc9500_image_to_readout(blocks: u32, class: u32, image: &[u8], readout: &mut [u8]) -> u64
+    ensures { λ w. ⌜ w ≡ packed nothing (toReadout (device blocks class) (now (image .entry)) (now (readout .entry))) ⌝ }
+    ensures { λ _. ⌜ now (readout .exit) ≡ written (toReadout (device blocks class) (now (image .entry)) (now (readout .entry))) (readoutOf (device blocks class) (now (image .entry))) (now (readout .entry)) ⌝ }
+{
+    done_word(readout::image_to_readout(Device { blocks, class }, image, readout))
 }

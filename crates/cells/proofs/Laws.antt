@@ -2,6 +2,7 @@
 --   cut-append, join-append     a list of widths in two parts
 --   cut-low                     only the bits that the widths have count
 --   cut-at, cut-length          a cell of what is cut
+--   join-few                    the same, in bytes
 --   join-small, join-cut        a joined number has no more bits than the widths; what was cut is joined again
 --   cut-join                    joined cells are cut again, to their low bits
 --   total-replicate, total-append, total-repeat, length-repeat   the bits and the number of cells
@@ -13,9 +14,9 @@ use mathlib.Core.Path.{_≡_, refl, sym, _∙_, ap, ap₂, subst}
 use mathlib.Core.List.{List, [], _∷_, _++_}
 use Prim.Native.Nat.{ℕ, zero, suc, _+_, _*_, _-_, _/_, _%_, _^_, _≤_, _<_}
 use native.Mathlib.Omega.{arith}
-use native.Mathlib.Nat.{div-one, mod-one, mul-one, add-zero, zero-add, add-suc, suc-add, add-comm, mod-mod, zero-mod, zero-div, mod-lt, div-add-mod', not-suc-le-zero, le-of-suc-le-suc, add-mul, mul-assoc, mul-comm, zero-mul, suc-mul, add-assoc}
+use native.Mathlib.Nat.{div-one, mod-one, mul-one, add-zero, zero-add, add-suc, suc-add, add-comm, mod-mod, zero-mod, zero-div, mod-lt, div-add-mod', not-suc-le-zero, le-of-suc-le-suc, add-mul, mul-assoc, mul-comm, zero-mul, suc-mul, add-assoc, mul-le-mul, lt-of-lt-of-le}
 use native.Mathlib.Numerals.{one-add}
-use lib.Pow.{pow-pos, pow-add, shr-shr, high, low, mod-pow-add, split, field, mod-mod-pow}
+use lib.Pow.{pow-pos, pow-mono, pow-add, shr-shr, high, low, mod-pow-add, split, field, mod-mod-pow}
 use lib.Arith.{digits-lt}
 use lib.ListN.{length, getD, take, drop, replicate, length-append, length-replicate, replicate-append-replicate, set}
 use lib.Seq.{sets, drop-drop, getD-drop}
@@ -50,7 +51,7 @@ cut-low (w ∷ ws) x more =
     (ap₂ _∷_ (mod-mod-pow x (more + total ws) w) (ap (cut ws) (field x (more + total ws) w) ∙ cut-low ws (x / 2 ^ w) more))
 
 -- two digits, where the high one is a sum
-regrouped : (a b c t w : ℕ) → (a + b * 2 ^ t) * 2 ^ w + c ≡ a * 2 ^ w + c + b * 2 ^ (w + t)
+pub regrouped : (a b c t w : ℕ) → (a + b * 2 ^ t) * 2 ^ w + c ≡ a * 2 ^ w + c + b * 2 ^ (w + t)
 regrouped a b c t w =
     let e : (a + b * 2 ^ t) * 2 ^ w ≡ a * 2 ^ w + b * (2 ^ t * 2 ^ w) = add-mul a (b * 2 ^ t) (2 ^ w) ∙ ap (λ (y : ℕ). a * 2 ^ w + y) (mul-assoc b (2 ^ t) (2 ^ w)) in
     let f : b * (2 ^ t * 2 ^ w) ≡ b * 2 ^ (w + t) = ap (λ (y : ℕ). b * y) (mul-comm (2 ^ t) (2 ^ w) ∙ sym (pow-add 2 w t)) in
@@ -105,6 +106,12 @@ pub length-repeat : (k : ℕ) (ws : List ℕ) → length (repeat k ws) ≡ k * l
 unfolding repeat
 length-repeat zero ws = sym (zero-mul (length ws))
 length-repeat (suc k) ws = length-append ws (repeat k ws) ∙ rw (length-repeat k ws) (add-comm (length ws) (k * length ws) ∙ sym (suc-mul k (length ws)))
+
+-- at most so many cells of at most 8 bits have at most so many bytes
+pub join-few : (k width most : ℕ) (cells : List ℕ) → k ≤ most → width ≤ 8 → join (replicate k width) cells < 2 ^ (most * 8)
+join-few k width most cells hk hw =
+    lt-of-lt-of-le (join-small (replicate k width) cells)
+    (pow-mono {i = total (replicate k width)} {j = most * 8} (rw (total-replicate k width) (mul-le-mul {n₁ = k} {m₁ = width} {n₂ = most} {m₂ = 8} hk hw)))
 
 pub sets-append : {A : Type 0} (l : List A) (i : ℕ) (vs us : List A) → sets l i (vs ++ us) ≡ sets (sets l i vs) (i + length vs) us
 sets-append l i [] us = ap (λ (k : ℕ). sets l k us) (sym (add-zero i))

@@ -4,3 +4,5 @@ pub mod Rows
 pub mod Widths
 pub mod Passages
 pub mod Targets
+pub mod RowsIn
+pub mod Strays

@@ -62,7 +62,7 @@ pub begun : (ws image out : List ℕ) (fuse at count : ℕ) → fuse % 4 ≡ 0 �
 begun ws image out fuse at count h f g = record { aligned = h; fuses-left = f; bytes-left = g; same = refl; rest = refl }
 
 -- what one turn and the turns that are left take
-room : (left each here end : ℕ) → 0 < left → here + left * each ≤ end → (here + each ≤ end) × (here + each + (left - 1) * each ≤ end)
+pub room : (left each here end : ℕ) → 0 < left → here + left * each ≤ end → (here + each ≤ end) × (here + each + (left - 1) * each ≤ end)
 room left each here end h g =
     let more : left ≡ suc (left - 1) = omega arith in
     let product : left * each ≡ (left - 1) * each + each = ap (λ (k : ℕ). k * each) more ∙ suc-mul (left - 1) each in

@@ -2,12 +2,12 @@
 // Nothing here is part of the public interface.
 ghost use mathlib.Core.Path.{_≡_};
 ghost use mathlib.Core.Bool.{true, false};
-ghost use Prim.Native.Nat.{_+_, _*_, _/_, _%_, _^_, _≤_};
-ghost use lib.ListN.{length};
+ghost use Prim.Native.Nat.{_+_, _*_, _/_, _%_, _^_, _<_, _≤_};
+ghost use lib.ListN.{length, drop, replicate};
 ghost use lib.Seq.{sets};
-ghost use Rattle.cells.specs.Cells.{cut, total, repeat, number};
+ghost use Rattle.cells.specs.Cells.{cut, join, total, repeat, number};
 ghost use Rattle.part.specs.Device.{known, imageBytes, readoutBytes};
-ghost use Rattle.readout.specs.Widths.{rowWidths, blockWidths, widths};
+ghost use Rattle.readout.specs.Widths.{rowWidths, pairWidths, blockWidths, widths, wholeBytes, bytesIn, fine};
 
 use part::Device;
 use cells::internal::joined;
@@ -128,4 +128,195 @@ pub fn blocks_out(d: Device, image: &[u8], out: &mut [u8])
         a += bytes;
         left -= 1;
     }
+}
+
+// Some cells joined above the bits that the cells before left over, and of that whole bytes put into an image. Answers what is
+// left over now.
+fn push(readout: &[u8], at: usize, width: u32, count: usize, carry: u64, shift: u32, image: &mut [u8], byte: usize, bytes: usize) -> u64
+    requires { ⌜ (at + count ≤ length (now readout)) × (width ≤ 8) × (count ≤ 6) × (carry < 2 ^ shift) × (shift ≤ 4) × (byte + bytes ≤ length (now image)) × (bytes ≤ 7) ⌝ }
+    ensures { λ r. ⌜ r ≡ (join (replicate count width) (drop at (now (readout .entry))) * 2 ^ shift + carry) / 2 ^ (bytes * 8) ⌝ }
+    ensures { λ _. ⌜ now (image .exit) ≡ sets (now (image .entry)) byte (cut (replicate bytes 8) (join (replicate count width) (drop at (now (readout .entry))) * 2 ^ shift + carry)) ⌝ }
+{
+    let word = (joined(readout, at, width, count) << shift) + carry;
+    put_cells(word, 8, bytes, image, byte);
+    word >> (bytes * 8)
+}
+
+// The 27 image bytes of two main rows of a readout.
+fn main_rows_in(readout: &[u8], at: usize, image: &mut [u8], byte: usize)
+    requires { ⌜ (at + 30 ≤ length (now readout)) × (byte + 27 ≤ length (now image)) ⌝ }
+    ensures { λ _. ⌜ now (image .exit) ≡ sets (now (image .entry)) byte (bytesIn (pairWidths true) (drop at (now (readout .entry)))) ⌝ }
+{
+    let one = push(readout, at, 8, 4, 0, 0, image, byte, 4);
+    let two = push(readout, at + 4, 8, 5, one, 0, image, byte + 4, 5);
+    let three = push(readout, at + 9, 6, 6, two, 0, image, byte + 9, 4);
+    let four = push(readout, at + 15, 8, 4, three, 4, image, byte + 13, 4);
+    let five = push(readout, at + 19, 8, 5, four, 4, image, byte + 17, 5);
+    push(readout, at + 24, 6, 6, five, 4, image, byte + 22, 5);
+}
+
+// The 9 image bytes of two wire-AND rows of a readout.
+fn wire_and_rows_in(readout: &[u8], at: usize, image: &mut [u8], byte: usize)
+    requires { ⌜ (at + 10 ≤ length (now readout)) × (byte + 9 ≤ length (now image)) ⌝ }
+    ensures { λ _. ⌜ now (image .exit) ≡ sets (now (image .entry)) byte (bytesIn (pairWidths false) (drop at (now (readout .entry)))) ⌝ }
+{
+    let one = push(readout, at, 8, 1, 0, 0, image, byte, 1);
+    let two = push(readout, at + 1, 7, 4, one, 0, image, byte + 1, 3);
+    let three = push(readout, at + 5, 8, 1, two, 4, image, byte + 4, 1);
+    push(readout, at + 6, 7, 4, three, 4, image, byte + 5, 4);
+}
+
+// The image bytes of two rows, and the bytes of two rows in a readout.
+fn pair_image_bytes(main: bool) -> usize
+    ensures { λ r. ⌜ (r ≡ wholeBytes (pairWidths main)) × (r ≤ 27) ⌝ }
+{
+    if main {
+        return 27;
+    }
+    9
+}
+
+fn pair_readout_bytes(main: bool) -> usize
+    ensures { λ r. ⌜ (r ≡ length (pairWidths main)) × (r ≤ 30) ⌝ }
+{
+    if main {
+        return 30;
+    }
+    10
+}
+
+fn pair_in(main: bool, readout: &[u8], at: usize, image: &mut [u8], byte: usize)
+    requires { ⌜ (at + length (pairWidths main) ≤ length (now readout)) × (byte + wholeBytes (pairWidths main) ≤ length (now image)) ⌝ }
+    ensures { λ _. ⌜ now (image .exit) ≡ sets (now (image .entry)) byte (bytesIn (pairWidths main) (drop at (now (readout .entry)))) ⌝ }
+{
+    if main {
+        main_rows_in(readout, at, image, byte);
+    } else {
+        wire_and_rows_in(readout, at, image, byte);
+    }
+}
+
+// The image bytes of some pairs of rows of a readout, one after another.
+fn pairs_in(main: bool, readout: &[u8], at: usize, image: &mut [u8], byte: usize, count: usize)
+    requires { ⌜ (at + count * length (pairWidths main) ≤ length (now readout)) × (byte + count * wholeBytes (pairWidths main) ≤ length (now image)) ⌝ }
+    ensures { λ _. ⌜ now (image .exit) ≡ sets (now (image .entry)) byte (bytesIn (repeat count (pairWidths main)) (drop at (now (readout .entry)))) ⌝ }
+{
+    let whole = pair_image_bytes(main);
+    let bytes = pair_readout_bytes(main);
+    let mut a = at;
+    let mut b = byte;
+    let mut left = count;
+    while 0 < left {
+        pair_in(main, readout, a, image, b);
+        a += bytes;
+        b += whole;
+        left -= 1;
+    }
+}
+
+// The image bytes of a block of a readout.
+fn block_in(d: Device, readout: &[u8], at: usize, image: &mut [u8], byte: usize)
+    requires { ⌜ (known d ≡ true) × (at + length (blockWidths d) ≤ length (now readout)) × (byte + wholeBytes (blockWidths d) ≤ length (now image)) ⌝ }
+    ensures { λ _. ⌜ now (image .exit) ≡ sets (now (image .entry)) byte (bytesIn (blockWidths d) (drop at (now (readout .entry)))) ⌝ }
+{
+    pairs_in(true, readout, at, image, byte, 36);
+    let pairs = d.blocks as usize * 9;
+    pairs_in(false, readout, at + 1080, image, byte + 972, pairs);
+}
+
+// The image bytes of all blocks of a readout.
+pub fn blocks_in(d: Device, readout: &[u8], image: &mut [u8])
+    requires { ⌜ (known d ≡ true) × (length (now readout) ≡ readoutBytes d) × (length (now image) ≡ imageBytes d) ⌝ }
+    ensures { λ _. ⌜ now (image .exit) ≡ sets (now (image .entry)) 0 (bytesIn (widths d) (drop 0 (now (readout .entry)))) ⌝ }
+{
+    let whole = block_fuses(d) / 8;
+    let bytes = block_bytes(d);
+    let mut a: usize = 0;
+    let mut b: usize = 0;
+    let mut left = d.blocks;
+    while 0 < left {
+        block_in(d, readout, a, image, b);
+        a += bytes;
+        b += whole;
+        left -= 1;
+    }
+}
+
+// The index of the first of `count` bytes from index `at` on that has a bit above `width`, or the index behind them.
+fn run_stray(readout: &[u8], at: usize, width: u32, count: usize) -> usize
+    requires { ⌜ (at + count ≤ length (now readout)) × (width ≤ 8) ⌝ }
+    ensures { λ r. ⌜ r ≡ at + fine (replicate count width) (drop at (now (readout .entry))) ⌝ }
+{
+    let mut a = at;
+    let mut left = count;
+    while 0 < left {
+        if readout[a] as u64 >> width != 0 {
+            return a;
+        }
+        a += 1;
+        left -= 1;
+    }
+    a
+}
+
+// The same of a row: bytes of 8 bits have none above.
+fn row_stray(main: bool, readout: &[u8], at: usize) -> usize
+    requires { ⌜ at + length (rowWidths main) ≤ length (now readout) ⌝ }
+    ensures { λ r. ⌜ r ≡ at + fine (rowWidths main) (drop at (now (readout .entry))) ⌝ }
+{
+    if main {
+        return run_stray(readout, at + 9, 6, 6);
+    }
+    run_stray(readout, at + 1, 7, 4)
+}
+
+// The same of some rows, one after another.
+fn rows_stray(main: bool, readout: &[u8], at: usize, count: usize) -> usize
+    requires { ⌜ at + count * length (rowWidths main) ≤ length (now readout) ⌝ }
+    ensures { λ r. ⌜ r ≡ at + fine (repeat count (rowWidths main)) (drop at (now (readout .entry))) ⌝ }
+{
+    let bytes = row_bytes(main);
+    let mut a = at;
+    let mut left = count;
+    while 0 < left {
+        let found = row_stray(main, readout, a);
+        a += bytes;
+        if found < a {
+            return found;
+        }
+        left -= 1;
+    }
+    a
+}
+
+// The same of a block.
+fn block_stray(d: Device, readout: &[u8], at: usize) -> usize
+    requires { ⌜ (known d ≡ true) × (at + length (blockWidths d) ≤ length (now readout)) ⌝ }
+    ensures { λ r. ⌜ r ≡ at + fine (blockWidths d) (drop at (now (readout .entry))) ⌝ }
+{
+    let found = rows_stray(true, readout, at, 72);
+    if found < at + 1080 {
+        return found;
+    }
+    let rows = d.blocks as usize * 18;
+    rows_stray(false, readout, at + 1080, rows)
+}
+
+// The index of the first byte of a readout that has a bit above its width, or its length.
+pub fn first_stray(d: Device, readout: &[u8]) -> usize
+    requires { ⌜ (known d ≡ true) × (length (now readout) ≡ readoutBytes d) ⌝ }
+    ensures { λ r. ⌜ r ≡ 0 + fine (widths d) (drop 0 (now (readout .entry))) ⌝ }
+{
+    let bytes = block_bytes(d);
+    let mut a: usize = 0;
+    let mut left = d.blocks;
+    while 0 < left {
+        let found = block_stray(d, readout, a);
+        a += bytes;
+        if found < a {
+            return found;
+        }
+        left -= 1;
+    }
+    a
 }

@@ -68,4 +68,8 @@ macro_rules! header {
 header! {
     fn xc9500_address_of_fuse(device: Device, fuse: u32);
     fn xc9500_fuse_of_address(device: Device, address: u32, bit: u32);
+    fn xc9500_fuse_sum(device: Device, image: &[u8]);
+    fn xc9500_zero_count(device: Device, image: &[u8]);
+    fn xc9500_image_to_readout(device: Device, image: &[u8], readout: &mut [u8]);
+    fn xc9500_readout_to_image(device: Device, readout: &[u8], image: &mut [u8]);
 }

@@ -1,9 +1,12 @@
 // The benchmark: each operation by the library, the plain reference and the optimised Rust.
 // Same input, processor time, the median of repeated runs; an operation is one line of rows().
 
+use std::cell::RefCell;
 use std::hint::black_box;
+use std::rc::Rc;
 use xc9500_differential::{library, optimised};
 use xc9500_reference as reference;
+use xc9500_reference::random::Random;
 use xc9500_reference::{Answer, Device, LARGE};
 
 /// Timed runs of each program; odd, so that there is a middle one.
@@ -39,6 +42,10 @@ fn rows() -> Vec<Row> {
     };
     let mut rows = Vec::new();
     rows.extend(of_two_and_sixteen(fuse_to_address));
+    rows.extend(of_two_and_sixteen(fuse_sum));
+    rows.extend(of_two_and_sixteen(zero_count));
+    rows.extend(of_two_and_sixteen(image_to_readout));
+    rows.extend(of_two_and_sixteen(readout_to_image));
     rows
 }
 
@@ -62,6 +69,110 @@ fn fuse_to_address(device: Device) -> Row {
     }
 }
 
+fn fuse_sum(device: Device) -> Row {
+    whole_part(
+        "fuse sum",
+        device,
+        random_image(device),
+        0,
+        |device, image, _| library::xc9500_fuse_sum(device, image),
+        |device, image, _| reference::fuse_sum(device, image).map(u64::from),
+        |device, image, _| optimised::fuse_sum(device, image).map(u64::from),
+    )
+}
+
+fn zero_count(device: Device) -> Row {
+    whole_part(
+        "zero count",
+        device,
+        random_image(device),
+        0,
+        |device, image, _| library::xc9500_zero_count(device, image),
+        |device, image, _| reference::zero_count(device, image).map(u64::from),
+        |device, image, _| optimised::zero_count(device, image).map(u64::from),
+    )
+}
+
+fn image_to_readout(device: Device) -> Row {
+    whole_part(
+        "image to readout",
+        device,
+        random_image(device),
+        reference::readout_bytes(device).expect("the device is known"),
+        library::xc9500_image_to_readout,
+        |device, image, readout| reference::image_to_readout(device, image, readout).map(|()| 0),
+        |device, image, readout| optimised::image_to_readout(device, image, readout).map(|()| 0),
+    )
+}
+
+fn readout_to_image(device: Device) -> Row {
+    let image = random_image(device);
+    let mut readout = vec![0; reference::readout_bytes(device).expect("the device is known")];
+    reference::image_to_readout(device, &image, &mut readout).expect("the lengths are right");
+    whole_part(
+        "readout to image",
+        device,
+        readout,
+        image.len(),
+        library::xc9500_readout_to_image,
+        |device, readout, image| reference::readout_to_image(device, readout, image).map(|()| 0),
+        |device, readout, image| optimised::readout_to_image(device, readout, image).map(|()| 0),
+    )
+}
+
+fn random_image(device: Device) -> Vec<u8> {
+    let length = reference::image_bytes(device).expect("the device is known");
+    Random::new(0x9500_1000).bytes(length)
+}
+
+/// One call on a whole part, from a source into a target.
+type Call = fn(Device, &[u8], &mut [u8]) -> Answer<u64>;
+
+/// The row of an operation of which a pass is one call; the target is empty where it has none.
+fn whole_part(
+    operation: &'static str,
+    device: Device,
+    source: Vec<u8>,
+    target_bytes: usize,
+    library: Call,
+    reference: Call,
+    optimised: Call,
+) -> Row {
+    // The sum of a pass leaves out the target, to be no part of the time; it is compared here.
+    let [by_library, by_reference, by_optimised] = [library, reference, optimised].map(|call| {
+        let mut target = vec![0x5A; target_bytes];
+        (call(device, &source, &mut target), target)
+    });
+    assert!(
+        by_library == by_reference && by_optimised == by_reference,
+        "{operation}: the programs disagree"
+    );
+
+    // All three have the same source and target, so that where these lie favours none.
+    let source: Rc<[u8]> = source.into();
+    let target = Rc::new(RefCell::new(by_reference.1));
+    let pass = |call: Call| -> Pass {
+        let (source, target) = (source.clone(), target.clone());
+        Box::new(move || {
+            let mut target = target.borrow_mut();
+            as_number(call(
+                black_box(device),
+                black_box(&source),
+                black_box(&mut target),
+            ))
+        })
+    };
+    Row {
+        operation,
+        device,
+        calls: 1,
+        call: "part",
+        library: pass(library),
+        reference: pass(reference),
+        optimised: pass(optimised),
+    }
+}
+
 /// An address and bit as the C interface gives them.
 fn place((address, bit): (u32, u32)) -> u64 {
     u64::from(address) * 8 + u64::from(bit)
@@ -74,13 +185,18 @@ fn each(count: u32, call: impl Fn(u32) -> Answer<u64> + 'static) -> Pass {
         for number in 0..count {
             sum = sum
                 .wrapping_mul(3)
-                .wrapping_add(match call(black_box(number)) {
-                    Ok(result) => result,
-                    Err(refusal) => refusal.value << 8 | u64::from(refusal.number),
-                });
+                .wrapping_add(as_number(call(black_box(number))));
         }
         sum
     })
+}
+
+/// A number for an answer, other for every other one.
+fn as_number(answer: Answer<u64>) -> u64 {
+    match answer {
+        Ok(result) => result,
+        Err(refusal) => refusal.value << 8 | u64::from(refusal.number),
+    }
 }
 
 /// The processor time that this process has used, in nanoseconds.

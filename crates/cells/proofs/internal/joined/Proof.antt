@@ -4,23 +4,17 @@ use mathlib.Core.Path.{_≡_, refl, sym, _∙_, ap, ap₂}
 use mathlib.Core.List.{List}
 use Prim.Native.Nat.{ℕ, zero, suc, _+_, _*_, _-_, _%_, _^_, _<_, _≤_}
 use native.Mathlib.Omega.{arith}
-use native.Mathlib.Nat.{mul-le-mul, lt-of-lt-of-le, add-zero}
+use native.Mathlib.Nat.{add-zero}
 use lib.ListN.{length, getD, drop, replicate}
-use lib.Pow.{pow-mono, shl-exact}
+use lib.Pow.{shl-exact}
 use lib.Seq.{drop-drop, getD-drop}
 use mir.Syntax.{w64}
 use mir.Val.{Fits}
 use borrow.Author.Needs.{needs}
-use Rattle.cells.specs.Cells.{join, total}
-use Rattle.cells.proofs.Laws.{join-small, total-replicate}
+use Rattle.cells.specs.Cells.{join}
+use Rattle.cells.proofs.Laws.{join-few}
 use Rattle.cells.proofs.internal.joined.Statement.{statement}
 use Rattle.cells.proofs.internal.joined.Tie as tie
-
--- at most so many cells of at most 8 bits have at most so many bytes
-small : (k width most : ℕ) (cells : List ℕ) → k ≤ most → width ≤ 8 → join (replicate k width) cells < 2 ^ (most * 8)
-small k width most cells hk hw =
-    lt-of-lt-of-le (join-small (replicate k width) cells)
-    (pow-mono {i = total (replicate k width)} {j = most * 8} (rw (total-replicate k width) (mul-le-mul {n₁ = k} {m₁ = width} {n₂ = most} {m₂ = 8} hk hw)))
 
 start : (cells : List ℕ) (at width count : ℕ) → 0 ≡ join (replicate (count - count) width) (drop (at + count) cells)
 unfolding join
@@ -33,14 +27,14 @@ unfolding join
 step cells at width count i word low h0 hi hc hw e1 e2 =
     let more : count - (i - 1) ≡ suc (count - i) = omega arith in
     let next : at + (i - 1) + 1 ≡ at + i = omega arith in
-    let exact : word * 2 ^ width % 2 ^ 64 ≡ word * 2 ^ width = shl-exact 56 width 64 (rw e1 (small (count - i) width 7 (drop (at + i) cells) (omega arith) hw)) (omega arith) in
+    let exact : word * 2 ^ width % 2 ^ 64 ≡ word * 2 ^ width = shl-exact 56 width 64 (rw e1 (join-few (count - i) width 7 (drop (at + i) cells) (omega arith) hw)) (omega arith) in
     rw (exact, e1, e2, more, drop-drop 1 (at + (i - 1)) cells, next, getD-drop (at + (i - 1)) cells 0 0, add-zero)
 
 fits : (cells : List ℕ) (at width count i word low : ℕ) → 0 < i → i ≤ count → count ≤ 8 → width ≤ 8
     → word ≡ join (replicate (count - i) width) (drop (at + i) cells) → low ≡ getD cells (at + (i - 1)) 0 % 2 ^ width
     → Fits w64 (word * 2 ^ width % 2 ^ 64 + low)
 fits cells at width count i word low h0 hi hc hw e1 e2 =
-    let s = small (count - (i - 1)) width 8 (drop (at + (i - 1)) cells) (omega arith) hw in
+    let s = join-few (count - (i - 1)) width 8 (drop (at + (i - 1)) cells) (omega arith) hw in
     let e = step cells at width count i word low h0 hi hc hw e1 e2 in
     rw e (omega arith)
 

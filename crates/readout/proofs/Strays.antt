@@ -1,0 +1,187 @@
+-- Bits above a byte's width: the scan of a readout finds the lowest index of a byte that has one.
+-- Assumes nothing.
+use mathlib.Core.Path.{_≡_, refl, sym, _∙_, ap, subst}
+use mathlib.Core.Bool.{Bool, true, false, cond}
+use mathlib.Core.List.{List, [], _∷_, _++_}
+use Prim.Native.Nat.{ℕ, zero, suc, _+_, _*_, _-_, _/_, _%_, _^_, _≤_, _<_, suc-le-suc}
+use native.Mathlib.Omega.{arith}
+use native.Mathlib.Nat.{zero-add, add-zero, add-suc, suc-add, suc-mul, div-eq-of-lt, add-assoc, not-suc-le-zero, le-of-suc-le-suc}
+use native.Mathlib.Numerals.{one-add}
+use lib.Dec.{eqb, ltb, leb}
+use lib.ListN.{length, getD, drop, replicate, length-replicate}
+use mir.Syntax.{w8}
+use mir.Val.{Fits}
+use lib.Seq.{drop-drop, getD-drop}
+use borrow.Author.Tests.{eq-eqb, ne-eqb, eqb-true, eqb-false}
+use Rattle.cells.specs.Cells.{repeat}
+use Rattle.readout.specs.Widths.{rowWidths, blockWidths, widths, fine}
+use Rattle.cells.proofs.Laws.{length-repeat}
+use Rattle.part.specs.Device.{known, readoutBytes}
+use Rattle.part.specs.declared.Device.{Device}
+use Rattle.readout.proofs.Rows.{room, main-size, device-size}
+
+-- the two cases of a cell
+cell-case : (P : ℕ → Type 0) (w : ℕ) (ws cells : List ℕ) → (getD cells 0 0 / 2 ^ w ≡ 0 → P (suc (fine ws (drop 1 cells))))
+    → ((getD cells 0 0 / 2 ^ w ≡ 0 → ⊥) → P 0) → P (fine (w ∷ ws) cells)
+unfolding fine
+cell-case P w ws cells good bad = go (eqb (getD cells 0 0 / 2 ^ w) 0) refl
+  where
+    go : (t : Bool) → eqb (getD cells 0 0 / 2 ^ w) 0 ≡ t → P (cond t (suc (fine ws (drop 1 cells))) 0)
+    go true e = good (eqb-true _ _ e)
+    go false e = bad (eqb-false _ _ e)
+
+pub fine-le : (ws cells : List ℕ) → fine ws cells ≤ length ws
+unfolding fine
+fine-le [] cells = omega arith
+fine-le (w ∷ ws) cells =
+    cell-case (λ x. x ≤ suc (length ws)) w ws cells (λ g. omega (arith, fine-le ws (drop 1 cells))) (λ b. omega arith)
+
+-- in two parts: all of the first are fine, or not
+pub fine-on : (ws vs cells : List ℕ) → length ws ≤ fine ws cells → fine (ws ++ vs) cells ≡ length ws + fine vs (drop (length ws) cells)
+unfolding fine
+fine-on [] vs cells h = sym (zero-add (fine vs cells))
+fine-on (w ∷ ws) vs cells h = go (fine-on ws vs (drop 1 cells)) (eqb (getD cells 0 0 / 2 ^ w) 0) h
+  where
+    go : (length ws ≤ fine ws (drop 1 cells) → fine (ws ++ vs) (drop 1 cells) ≡ length ws + fine vs (drop (length ws) (drop 1 cells))) → (t : Bool)
+        → suc (length ws) ≤ cond t (suc (fine ws (drop 1 cells))) 0
+        → cond t (suc (fine (ws ++ vs) (drop 1 cells))) 0 ≡ suc (length ws) + fine vs (drop (suc (length ws)) cells)
+    go ih true g = rw (suc-add, ← one-add (length ws), ← drop-drop (length ws) 1 cells) (ap suc (ih (le-of-suc-le-suc g)))
+    go ih false g = absurd (not-suc-le-zero g)
+
+pub fine-found : (ws vs cells : List ℕ) → fine ws cells < length ws → fine (ws ++ vs) cells ≡ fine ws cells
+unfolding fine
+fine-found [] vs cells h = absurd (not-suc-le-zero h)
+fine-found (w ∷ ws) vs cells h = go (fine-found ws vs (drop 1 cells)) (eqb (getD cells 0 0 / 2 ^ w) 0) h
+  where
+    go : (fine ws (drop 1 cells) < length ws → fine (ws ++ vs) (drop 1 cells) ≡ fine ws (drop 1 cells)) → (t : Bool)
+        → cond t (suc (fine ws (drop 1 cells))) 0 < suc (length ws)
+        → cond t (suc (fine (ws ++ vs) (drop 1 cells))) 0 ≡ cond t (suc (fine ws (drop 1 cells))) 0
+    go ih true g = ap suc (ih (le-of-suc-le-suc g))
+    go ih false g = refl
+
+-- A scan of `count` times the cells of `ws`: what holds when `left` times are still to come.
+pub record Scan (ws cells : List ℕ) (at count a left : ℕ) : Type 0 where
+  pub cells-left : a + left * length ws ≤ length cells
+  pub rest : a + fine (repeat left ws) (drop a cells) ≡ at + fine (repeat count ws) (drop at cells)
+
+pub scan-begun : (ws cells : List ℕ) (at count : ℕ) → at + count * length ws ≤ length cells → Scan ws cells at count at count
+scan-begun ws cells at count h = record { cells-left = h; rest = refl }
+
+module _ {ws cells : List ℕ} {at count a left : ℕ} (now : Scan ws cells at count a left) where
+  pub scan-room : 0 < left → a + length ws ≤ length cells
+  scan-room h = room left (length ws) a (length cells) h (now .cells-left) .0
+
+  next-of : 0 < left → a + fine (ws ++ repeat (left - 1) ws) (drop a cells) ≡ at + fine (repeat count ws) (drop at cells)
+  unfolding repeat
+  next-of h = let more : left ≡ suc (left - 1) = omega arith in rw more at (now .rest)
+
+  pub scan-found : (bytes found : ℕ) → 0 < left → bytes ≡ length ws → found ≡ a + fine ws (drop a cells) → found < a + bytes
+      → found ≡ at + fine (repeat count ws) (drop at cells)
+  scan-found bytes found h e f g =
+      let short : fine ws (drop a cells) < length ws = omega arith in
+      f ∙ rw (← fine-found ws (repeat (left - 1) ws) (drop a cells) short) (next-of h)
+
+  pub scan-turned : (bytes found : ℕ) → 0 < left → bytes ≡ length ws → found ≡ a + fine ws (drop a cells) → a + bytes ≤ found
+      → Scan ws cells at count (a + bytes) (left - 1)
+  scan-turned bytes found h e f g =
+      let all : length ws ≤ fine ws (drop a cells) = omega arith in
+      let on : fine (ws ++ repeat (left - 1) ws) (drop a cells) ≡ length ws + fine (repeat (left - 1) ws) (drop (length ws) (drop a cells)) = fine-on ws (repeat (left - 1) ws) (drop a cells) all in
+      record {
+        cells-left = rw e (room left (length ws) a (length cells) h (now .cells-left) .1);
+        rest = rw (e, ← drop-drop (length ws) a cells) (add-assoc a (length ws) _ ∙ ap (λ (x : ℕ). a + x) (sym on) ∙ next-of h)
+      }
+
+  pub scan-ended : left ≤ 0 → a ≡ at + fine (repeat count ws) (drop at cells)
+  unfolding repeat fine
+  scan-ended h = let none : left ≡ 0 = omega arith in sym (add-zero a) ∙ (rw none at (now .rest))
+
+-- single cells of one width
+repeat-one : (k w : ℕ) → repeat k (w ∷ []) ≡ replicate k w
+unfolding repeat
+repeat-one zero w = refl
+repeat-one (suc k) w = ap (λ (l : List ℕ). w ∷ l) (repeat-one k w)
+
+pub run-begun : (cells : List ℕ) (at width count : ℕ) → at + count ≤ length cells → Scan (width ∷ []) cells at count at count
+run-begun cells at width count h = scan-begun (width ∷ []) cells at count (omega arith)
+
+pub run-room : {cells : List ℕ} {at width count a left : ℕ} → Scan (width ∷ []) cells at count a left → 0 < left → a < length cells
+run-room now h = omega (arith, scan-room now h)
+
+pub run-found : (cells : List ℕ) (at width count a left : ℕ) → Scan (width ∷ []) cells at count a left → 0 < left
+    → (getD cells a 0 / 2 ^ width ≡ 0 → ⊥) → a ≡ at + fine (replicate count width) (drop at cells)
+unfolding fine
+run-found cells at width count a left now h bad =
+    let here : getD (drop a cells) 0 0 ≡ getD cells a 0 = getD-drop a cells 0 0 ∙ ap (λ (i : ℕ). getD cells i 0) (add-zero a) in
+    let none : fine (width ∷ []) (drop a cells) ≡ 0 = rw (here, ne-eqb (getD cells a 0 / 2 ^ width) 0 bad) in
+    scan-found now 1 a h refl (rw none (sym (add-zero a))) (omega arith) ∙ ap (λ (ws : List ℕ). at + fine ws (drop at cells)) (repeat-one count width)
+
+pub run-turned : (cells : List ℕ) (at width count a left : ℕ) → Scan (width ∷ []) cells at count a left → 0 < left
+    → getD cells a 0 / 2 ^ width ≡ 0 → Scan (width ∷ []) cells at count (a + 1) (left - 1)
+unfolding fine
+run-turned cells at width count a left now h good =
+    let here : getD (drop a cells) 0 0 ≡ getD cells a 0 = getD-drop a cells 0 0 ∙ ap (λ (i : ℕ). getD cells i 0) (add-zero a) in
+    let one : fine (width ∷ []) (drop a cells) ≡ 1 = rw (here, eq-eqb (getD cells a 0 / 2 ^ width) 0 good) in
+    scan-turned now 1 (a + 1) h refl (rw one) (omega arith)
+
+pub run-ended : (cells : List ℕ) (at width count a left : ℕ) → Scan (width ∷ []) cells at count a left → left ≤ 0
+    → a ≡ at + fine (replicate count width) (drop at cells)
+run-ended cells at width count a left now h = scan-ended now h ∙ ap (λ (ws : List ℕ). at + fine ws (drop at cells)) (repeat-one count width)
+
+-- bytes of 8 bits have no bit above
+fine-bytes : (k : ℕ) (cells : List ℕ) → ((i : ℕ) → Fits w8 (getD cells i 0)) → k ≤ fine (replicate k 8) cells
+unfolding fine
+fine-bytes zero cells h = omega arith
+fine-bytes (suc k) cells h =
+    let none : getD cells 0 0 / 2 ^ 8 ≡ 0 = div-eq-of-lt (h 0 .fits) in
+    rw (eq-eqb (getD cells 0 0 / 2 ^ 8) 0 none)
+    (suc-le-suc (fine-bytes k (drop 1 cells) (λ i. rw (getD-drop 1 cells i 0) (h (1 + i)))))
+
+-- a row: wide bytes and then narrow ones
+pub row-fine : (readout : List ℕ) (at wide narrow more found : ℕ) → ((i : ℕ) → Fits w8 (getD readout i 0))
+    → found ≡ at + wide + fine (replicate more narrow) (drop (at + wide) readout)
+    → found ≡ at + fine (replicate wide 8 ++ replicate more narrow) (drop at readout)
+row-fine readout at wide narrow more found h e =
+    let cells = drop at readout in
+    let bytes : (i : ℕ) → Fits w8 (getD cells i 0) = λ i. rw (getD-drop at readout i 0) (h (at + i)) in
+    let size : length {A = ℕ} (replicate wide 8) ≡ wide = length-replicate {A = ℕ} wide 8 in
+    let on = fine-on (replicate wide 8) (replicate more narrow) cells (rw size (fine-bytes wide cells bytes)) in
+    e ∙ rw (on, size, drop-drop wide at readout) (add-assoc at wide _)
+
+pub main-row-fine : (readout : List ℕ) (main : Bool) (at found : ℕ) → ((i : ℕ) → Fits w8 (getD readout i 0)) → main ≡ true
+    → found ≡ at + 9 + fine (replicate 6 6) (drop (at + 9) readout) → found ≡ at + fine (rowWidths main) (drop at readout)
+unfolding rowWidths
+main-row-fine readout main at found h e f = rw e (row-fine readout at 9 6 6 found h f)
+
+pub wire-and-row-fine : (readout : List ℕ) (main : Bool) (at found : ℕ) → ((i : ℕ) → Fits w8 (getD readout i 0)) → main ≡ false
+    → found ≡ at + 1 + fine (replicate 4 7) (drop (at + 1) readout) → found ≡ at + fine (rowWidths main) (drop at readout)
+unfolding rowWidths
+wire-and-row-fine readout main at found h e f = rw e (row-fine readout at 1 7 4 found h f)
+
+-- a block: the main rows, and the wire-AND rows behind them
+pub block-fine-found : (d : Device) (readout : List ℕ) (at found : ℕ) → found ≡ at + fine (repeat 72 (rowWidths true)) (drop at readout) → found < at + 1080
+    → found ≡ at + fine (blockWidths d) (drop at readout)
+unfolding blockWidths
+block-fine-found d readout at found e h =
+    let size : length (repeat 72 (rowWidths true)) ≡ 1080 = length-repeat 72 (rowWidths true) ∙ ap (λ (k : ℕ). 72 * k) (main-size true refl .1) in
+    e ∙ ap (λ (x : ℕ). at + x) (sym (fine-found (repeat 72 (rowWidths true)) (repeat (d .blocks * 18) (rowWidths false)) (drop at readout) (omega arith)))
+
+pub block-fine-on : (d : Device) (readout : List ℕ) (at found last : ℕ) → found ≡ at + fine (repeat 72 (rowWidths true)) (drop at readout) → at + 1080 ≤ found
+    → last ≡ at + 1080 + fine (repeat (d .blocks * 18) (rowWidths false)) (drop (at + 1080) readout) → last ≡ at + fine (blockWidths d) (drop at readout)
+unfolding blockWidths
+block-fine-on d readout at found last e h f =
+    let size : length (repeat 72 (rowWidths true)) ≡ 1080 = length-repeat 72 (rowWidths true) ∙ ap (λ (k : ℕ). 72 * k) (main-size true refl .1) in
+    let on = fine-on (repeat 72 (rowWidths true)) (repeat (d .blocks * 18) (rowWidths false)) (drop at readout) (omega arith) in
+    f ∙ rw (on, size, drop-drop 1080 at readout) (add-assoc at 1080 _)
+
+pub blocks-scan : (d : Device) (readout : List ℕ) → known d ≡ true → length readout ≡ readoutBytes d → Scan (blockWidths d) readout 0 (d .blocks) 0 (d .blocks)
+blocks-scan d readout k e = scan-begun (blockWidths d) readout 0 (d .blocks) (omega (arith, device-size d k .1))
+
+pub blocks-found : (d : Device) (readout : List ℕ) (a left bytes found : ℕ) → Scan (blockWidths d) readout 0 (d .blocks) a left → 0 < left → bytes ≡ length (blockWidths d)
+    → found ≡ a + fine (blockWidths d) (drop a readout) → found < a + bytes → found ≡ 0 + fine (widths d) (drop 0 readout)
+unfolding widths
+blocks-found d readout a left bytes found now h e f g = scan-found now bytes found h e f g
+
+pub blocks-none : (d : Device) (readout : List ℕ) (a left : ℕ) → Scan (blockWidths d) readout 0 (d .blocks) a left → left ≤ 0
+    → a ≡ 0 + fine (widths d) (drop 0 readout)
+unfolding widths
+blocks-none d readout a left now h = scan-ended now h

@@ -1,0 +1,48 @@
+-- `block_stray` meets its contract: the main rows, and the wire-AND rows behind them.
+-- Assumes nothing.
+use mathlib.Core.Path.{refl}
+use mathlib.Core.Bool.{true, false}
+use native.Mathlib.Omega.{arith}
+use borrow.Author.Needs.{needs}
+use Rattle.readout.proofs.Rows.{main-size, wire-and-size, block-size}
+use Rattle.readout.proofs.Strays.{block-fine-found, block-fine-on}
+use Rattle.readout.proofs.internal.block_stray.Statement.{statement}
+use Rattle.readout.proofs.internal.block_stray.Tie as tie
+
+rows-stray-requires : tie.Need-rows-stray-requires
+rows-stray-requires c κs = omega (arith, block-size (c .before .args .d), main-size true refl, c .before .pre)
+
+add-if1 : tie.Need-add-if1
+add-if1 c = search needs
+
+returns : tie.Need-returns
+returns c = search (needs, block-fine-found)
+
+cast-rows : tie.Need-cast-rows
+cast-rows c = search needs
+
+mul-rows : tie.Need-mul-rows
+mul-rows c = search needs
+
+add-rows-stray : tie.Need-add-rows-stray
+add-rows-stray c = search needs
+
+rows-stray-requires-2 : tie.Need-rows-stray-requires-2
+rows-stray-requires-2 c κs =
+    rw (wire-and-size false refl .1) (omega (arith, block-size (c .before .before .before .before .args .d), c .before .before .before .before .pre))
+
+returns-2 : tie.Need-returns-2
+returns-2 c = search (needs, block-fine-on)
+
+pub block-stray-spec : {M : Type 1} → statement M
+block-stray-spec =
+    tie.close
+    (tie.spec
+    rows-stray-requires
+    add-if1
+    returns
+    cast-rows
+    mul-rows
+    add-rows-stray
+    rows-stray-requires-2
+    returns-2)

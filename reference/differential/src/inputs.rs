@@ -1,0 +1,208 @@
+// What the tests put in: odd devices, images, readouts with and without stray bits, wrong lengths.
+// All that is random comes from the generator that is handed over, so a run can be repeated.
+
+use xc9500_reference::random::Random;
+use xc9500_reference::{
+    address_of_fuse, all_devices, fuse_count, fuse_of_address, image_bytes, image_to_readout,
+    readout_bytes, Device, BLOCK_COUNTS,
+};
+
+/// The bytes of an image or a readout, with a name that tells them from the others.
+pub type Input = (String, Vec<u8>);
+
+/// Random images of each device, and random readouts.
+const RANDOM_INPUTS: u32 = 8;
+
+/// Random places of stray bits, one at a time and several at a time.
+const RANDOM_STRAYS: u32 = 40;
+
+/// A number with a random number of bits, so that small ones are as likely as large ones.
+pub fn random_number(random: &mut Random) -> u32 {
+    let bits = random.below(33);
+    random.below(1 << bits) as u32
+}
+
+/// Every pair of small numbers, and pairs that a narrower number would take for a known device.
+pub fn odd_devices(random: &mut Random) -> Vec<Device> {
+    let mut devices = Vec::new();
+    for blocks in 0..=40 {
+        for class in 0..=4 {
+            devices.push(Device { blocks, class });
+        }
+    }
+    for device in all_devices() {
+        for power in [5, 6, 7, 8, 9, 15, 16, 17, 24, 31] {
+            let (blocks, class) = (device.blocks, device.class);
+            devices.push(Device {
+                blocks: blocks + (1 << power),
+                class,
+            });
+            devices.push(Device {
+                blocks,
+                class: class + (1 << power),
+            });
+        }
+        devices.push(Device {
+            blocks: device.blocks.wrapping_neg(),
+            class: device.class,
+        });
+        devices.push(Device {
+            blocks: device.blocks,
+            class: !device.class,
+        });
+    }
+    for _ in 0..1000 {
+        let blocks = random_number(random);
+        let class = random_number(random);
+        devices.push(Device { blocks, class });
+        devices.push(Device {
+            blocks: random.pick(&BLOCK_COUNTS),
+            class,
+        });
+        devices.push(Device {
+            blocks,
+            class: random.below(2) as u32,
+        });
+    }
+    devices
+}
+
+/// Lengths other than the right one: none, a little or much off, and all of the other devices.
+pub fn wrong_lengths(right: usize) -> Vec<usize> {
+    let mut lengths = vec![0, 1, right / 2, right - 8, right - 1, right + 1, right + 8];
+    // The right length again, to a number of 8, of 16 or of 20 bits.
+    lengths.extend([right + (1 << 8), right + (1 << 16), right + (1 << 20)]);
+    for device in all_devices() {
+        lengths.push(image_bytes(device).unwrap());
+        lengths.push(readout_bytes(device).unwrap());
+    }
+    lengths.sort();
+    lengths.dedup();
+    lengths.retain(|length| *length != right);
+    lengths
+}
+
+/// Images of all 0, of all 1, and random ones.
+pub fn images(device: Device, random: &mut Random) -> Vec<Input> {
+    let length = image_bytes(device).unwrap();
+    let mut images = vec![
+        ("all 0".to_string(), vec![0; length]),
+        ("all 1".to_string(), vec![0xFF; length]),
+    ];
+    for number in 0..RANDOM_INPUTS {
+        images.push((format!("random {number}"), random.bytes(length)));
+    }
+    images
+}
+
+/// Images with one fuse at 1, at a corner.
+pub fn corner_images(device: Device) -> Vec<Input> {
+    let one_fuse = |fuse: u32| {
+        let mut image = vec![0; image_bytes(device).unwrap()];
+        image[fuse as usize / 8] = 1 << (fuse % 8);
+        (format!("fuse {fuse}"), image)
+    };
+    corners(device).into_iter().map(one_fuse).collect()
+}
+
+/// Readouts without a stray bit: all 0, all 1, and random ones.
+pub fn readouts(device: Device, random: &mut Random) -> Vec<Input> {
+    let widths = all_ones(device);
+    let mut readouts = vec![
+        ("all 0".to_string(), vec![0; widths.len()]),
+        ("all 1".to_string(), widths.clone()),
+    ];
+    for number in 0..RANDOM_INPUTS {
+        let readout = random_readout(&widths, random);
+        readouts.push((format!("random {number}"), readout));
+    }
+    readouts
+}
+
+/// Readouts with one bit at 1, at a corner.
+pub fn corner_readouts(device: Device) -> Vec<Input> {
+    let has_byte = |address: &u32| fuse_of_address(device, *address, 0).is_ok();
+    let addresses: Vec<u32> = (0..1 << 17).filter(has_byte).collect();
+    let one_fuse = |fuse: u32| {
+        let (address, bit) = address_of_fuse(device, fuse).unwrap();
+        let mut readout = vec![0; addresses.len()];
+        readout[addresses.binary_search(&address).unwrap()] = 1 << bit;
+        (format!("fuse {fuse}"), readout)
+    };
+    corners(device).into_iter().map(one_fuse).collect()
+}
+
+/// Readouts with stray bits: one at the first, a middle and the last byte that can have one, and at
+/// random ones; then several at once.
+pub fn damaged_readouts(device: Device, random: &mut Random) -> Vec<Input> {
+    let widths = all_ones(device);
+    let can_have: Vec<usize> = (0..widths.len()).filter(|i| widths[*i] != 0xFF).collect();
+    let (first, last) = (can_have[0], can_have[can_have.len() - 1]);
+    let middle = can_have[can_have.len() / 2];
+
+    let mut places: Vec<Vec<usize>> = Vec::new();
+    // The smallest part has them everywhere once.
+    if device.blocks == BLOCK_COUNTS[0] {
+        places.extend(can_have.iter().map(|index| vec![*index]));
+    }
+    places.extend([vec![first], vec![middle], vec![last]]);
+    places.extend([vec![first, last], vec![middle, last], can_have.clone()]);
+    for _ in 0..RANDOM_STRAYS {
+        places.push(vec![random.pick(&can_have)]);
+        let several = 2 + random.below(8);
+        places.push((0..several).map(|_| random.pick(&can_have)).collect());
+    }
+
+    let mut damaged = Vec::new();
+    for places in places {
+        let sound = [
+            vec![0; widths.len()],
+            widths.clone(),
+            random_readout(&widths, random),
+        ];
+        for mut readout in sound {
+            for index in &places {
+                // One bit above the width, or all of them.
+                let above = !widths[*index];
+                readout[*index] |= random.pick(&[above, above & 0x80, above & 0x40 | 0x80 & (above << 1)]);
+            }
+            let lowest = places.iter().min();
+            damaged.push((format!("{} stray, lowest {lowest:?}", places.len()), readout));
+        }
+    }
+    damaged
+}
+
+/// The first and last fuse of each block's main area, of its first and last row, of the wire-AND
+/// area and of each subarea.
+fn corners(device: Device) -> Vec<u32> {
+    const ROW: u32 = 108;
+    const MAIN: u32 = 72 * ROW;
+    const SUBAREA: u32 = 18 * 36;
+    let mut fuses = Vec::new();
+    let mut first = 0;
+    for _ in 0..device.blocks {
+        fuses.extend([first, first + ROW - 1, first + MAIN - ROW, first + MAIN - 1]);
+        first += MAIN;
+        for _ in 0..device.blocks {
+            fuses.extend([first, first + SUBAREA - 1]);
+            first += SUBAREA;
+        }
+    }
+    assert_eq!(fuse_count(device), Ok(first));
+    fuses
+}
+
+/// The readout of the image of all 1: each byte has the bits of its width.
+fn all_ones(device: Device) -> Vec<u8> {
+    let image = vec![0xFF; image_bytes(device).unwrap()];
+    let mut readout = vec![0; readout_bytes(device).unwrap()];
+    image_to_readout(device, &image, &mut readout).unwrap();
+    readout
+}
+
+/// Random bytes, of each the bits of its width.
+fn random_readout(widths: &[u8], random: &mut Random) -> Vec<u8> {
+    let bytes = random.bytes(widths.len());
+    bytes.iter().zip(widths).map(|(byte, width)| byte & width).collect()
+}
