@@ -5,20 +5,24 @@ use mathlib.Core.Bool.{Bool, true, false, cond}
 use mathlib.Core.List.{List, [], _∷_, _++_}
 use Prim.Native.Nat.{ℕ, zero, suc, _+_, _*_, _-_, _/_, _%_, _^_, _≤_, _<_, suc-le-suc}
 use native.Mathlib.Omega.{arith}
-use native.Mathlib.Nat.{zero-add, add-zero, add-suc, suc-add, suc-mul, div-eq-of-lt, add-assoc, not-suc-le-zero, le-of-suc-le-suc}
+use native.Mathlib.Nat.{zero-add, add-zero, add-suc, suc-add, suc-mul, div-eq-of-lt, add-assoc, not-suc-le-zero, le-of-suc-le-suc, le-of-lt, zero-mul, mod-lt}
 use native.Mathlib.Numerals.{one-add}
 use lib.Dec.{eqb, ltb, leb}
 use lib.ListN.{length, getD, drop, replicate, length-replicate}
 use mir.Syntax.{w8}
 use mir.Val.{Fits}
 use lib.Seq.{drop-drop, getD-drop}
-use borrow.Author.Tests.{eq-eqb, ne-eqb, eqb-true, eqb-false}
+use borrow.Author.Tests.{eq-eqb, ne-eqb, eqb-true, eqb-false, lt-ltb, le-ltb, lt-leb, le-leb}
+use lib.Pow.{pow-pos, split}
 use Rattle.cells.specs.Cells.{repeat}
+use Rattle.part.proofs.Facts.{compared}
+use Rattle.readout.specs.Readout.{widthAt, strayAt, lowest}
 use Rattle.readout.specs.Widths.{rowWidths, blockWidths, widths, fine}
 use Rattle.cells.proofs.Laws.{length-repeat}
 use Rattle.part.specs.Device.{known, readoutBytes}
 use Rattle.part.specs.declared.Device.{Device}
 use Rattle.readout.proofs.Rows.{room, main-size, device-size}
+use Rattle.readout.proofs.Widths.{widths-at, widths-length}
 
 -- the two cases of a cell
 cell-case : (P : ℕ → Type 0) (w : ℕ) (ws cells : List ℕ) → (getD cells 0 0 / 2 ^ w ≡ 0 → P (suc (fine ws (drop 1 cells))))
@@ -185,3 +189,65 @@ pub blocks-none : (d : Device) (readout : List ℕ) (a left : ℕ) → Scan (blo
     → a ≡ 0 + fine (widths d) (drop 0 readout)
 unfolding widths
 blocks-none d readout a left now h = scan-ended now h
+
+-- the bytes before the first stray bit are fine, and the byte there is not
+fine-before : (ws cells : List ℕ) (i : ℕ) → i < fine ws cells → getD cells i 0 / 2 ^ getD ws i 0 ≡ 0
+unfolding fine
+fine-before [] cells i h = absurd (not-suc-le-zero h)
+fine-before (w ∷ ws) cells i h = go i (eqb (getD cells 0 0 / 2 ^ w) 0) refl (fine-before ws (drop 1 cells)) h
+  where
+    go : (i : ℕ) (t : Bool) → eqb (getD cells 0 0 / 2 ^ w) 0 ≡ t → ((j : ℕ) → j < fine ws (drop 1 cells) → getD (drop 1 cells) j 0 / 2 ^ getD ws j 0 ≡ 0)
+        → i < cond t (suc (fine ws (drop 1 cells))) 0 → getD cells i 0 / 2 ^ getD (w ∷ ws) i 0 ≡ 0
+    go zero true e ih g = eqb-true _ _ e
+    go (suc i) true e ih g = rw (getD-drop 1 cells i 0, one-add) at (ih i (le-of-suc-le-suc g))
+    go zero false e ih g = absurd (not-suc-le-zero g)
+    go (suc i) false e ih g = absurd (not-suc-le-zero g)
+
+fine-at : (ws cells : List ℕ) → fine ws cells < length ws → getD cells (fine ws cells) 0 / 2 ^ getD ws (fine ws cells) 0 ≡ 0 → ⊥
+unfolding fine
+fine-at [] cells h e = not-suc-le-zero h
+fine-at (w ∷ ws) cells h e = go (eqb (getD cells 0 0 / 2 ^ w) 0) refl (fine-at ws (drop 1 cells)) h e
+  where
+    go : (t : Bool) → eqb (getD cells 0 0 / 2 ^ w) 0 ≡ t
+        → (fine ws (drop 1 cells) < length ws → getD (drop 1 cells) (fine ws (drop 1 cells)) 0 / 2 ^ getD ws (fine ws (drop 1 cells)) 0 ≡ 0 → ⊥)
+        → cond t (suc (fine ws (drop 1 cells))) 0 < suc (length ws)
+        → getD cells (cond t (suc (fine ws (drop 1 cells))) 0) 0 / 2 ^ getD (w ∷ ws) (cond t (suc (fine ws (drop 1 cells))) 0) 0 ≡ 0 → ⊥
+    go true f ih g z = ih (le-of-suc-le-suc g) (rw (getD-drop 1 cells (fine ws (drop 1 cells)) 0, one-add) z)
+    go false f ih g z = eqb-false _ _ f z
+
+-- the lowest number that passes a test
+pub lowest-is : (test : ℕ → Bool) (n k : ℕ) → k ≤ n → ((i : ℕ) → i < k → test i ≡ false) → (k < n → test k ≡ true) → lowest test n ≡ k
+unfolding lowest
+lowest-is test zero k h before at = omega arith
+lowest-is test (suc n) k h before at =
+    compared k n
+    (λ less.
+    let ih : lowest test n ≡ k = lowest-is test n k (le-of-lt less) before (λ g. at (omega arith)) in
+    rw (ih, lt-ltb k n less))
+    (λ more.
+    let none : lowest test n ≡ n = lowest-is test n n (omega arith) (λ i g. before i (omega arith)) (λ g. absurd (omega arith)) in
+    rw (none, le-ltb n n (omega arith))
+    (compared n k
+    (λ past. let e : k ≡ suc n = omega arith in rw (before n past, e))
+    (λ here. let e : n ≡ k = omega arith in subst (λ (m : ℕ). cond (test m) m (suc m) ≡ k) (sym e) (rw (at (omega arith))))))
+
+pub first-stray : (d : Device) (readout : List ℕ) → known d ≡ true → lowest (strayAt d readout) (readoutBytes d) ≡ fine (widths d) readout
+unfolding strayAt
+first-stray d readout k =
+    let size = widths-length d k in
+    let n = fine (widths d) readout in
+    let le : n ≤ readoutBytes d = rw size at (fine-le (widths d) readout) in
+    lowest-is (strayAt d readout) (readoutBytes d) n le
+    (λ i h.
+    let width : getD (widths d) i 0 ≡ widthAt d i = widths-at d i (omega arith) .0 in
+    let zero-there : getD readout i 0 / 2 ^ widthAt d i ≡ 0 = rw width at (fine-before (widths d) readout i h) in
+    lt-leb (2 ^ widthAt d i) (getD readout i 0) (within _ _ zero-there))
+    (λ h.
+    let width : getD (widths d) n 0 ≡ widthAt d n = widths-at d n h .0 in
+    le-leb (2 ^ widthAt d n) (getD readout n 0)
+    (compared (getD readout n 0) (2 ^ widthAt d n)
+    (λ less. absurd (fine-at (widths d) readout (rw size h) (rw width (div-eq-of-lt less))))
+    (λ more. more)))
+  where
+    within : (x w : ℕ) → x / 2 ^ w ≡ 0 → x < 2 ^ w
+    within x w e = subst (λ (y : ℕ). y < 2 ^ w) (rw (e, zero-mul, zero-add) at (split x w)) (mod-lt x (pow-pos w))

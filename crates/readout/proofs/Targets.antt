@@ -1,15 +1,44 @@
--- What a call answers and what its target then holds: together, for a refusal and for a call that is done.
+-- What a call answers and what its target then holds: the tests of a device and of two lengths, 1 before 2, and then the rest.
 -- Assumes nothing.
 use mathlib.Core.Path.{_≡_, refl, sym, _∙_, ap}
+use mathlib.Core.Bool.{true, false}
 use mathlib.Core.List.{List}
 use Prim.Native.Nat.{ℕ}
 use Rattle.part.specs.Outcome.{Outcome}
 use Rattle.part.specs.Outcome.Outcome.{accepted, refused}
+use Rattle.part.specs.Device.{known}
+use Rattle.part.specs.Convert.{ifKnown}
+use Rattle.part.specs.declared.Device.{Device}
+use Rattle.image.specs.Image.{ifLength}
+use Rattle.image.proofs.Checks.{no-device, the-device, other-length, the-length}
 use Rattle.readout.specs.Readout.{written}
 
-module _ {A : Type 0} (o : Outcome A) (result before : List ℕ) where
-  pub refused-so : (k v : ℕ) → refused k v ≡ o → (refused k v ≡ o) × (before ≡ written o result before)
-  refused-so k v e = (e, ap (λ (x : Outcome A). written x result before) e)
+-- an outcome after the tests of a device and of two lengths
+abbrev pub tested : {A : Type 0} → Device → (l x m y : ℕ) → Outcome A → Outcome A
+tested d l x m y inner = ifKnown d (ifLength l x (ifLength m y inner))
 
-  pub done-so : (x : A) (after : List ℕ) → accepted x ≡ o → after ≡ result → (accepted x ≡ o) × (after ≡ written o result before)
-  done-so x after e f = (e, f ∙ ap (λ (y : Outcome A). written y result before) e)
+-- an answer and a target that agree with an outcome
+abbrev pub Says : {A : Type 0} → (o answer : Outcome A) → (result before after : List ℕ) → Type 0
+Says o answer result before after = (answer ≡ o) × (after ≡ written o result before)
+
+says : {A : Type 0} (o answer : Outcome A) (result before : List ℕ) → answer ≡ o → Says o answer result before (written answer result before)
+says o answer result before e = (e, ap (λ (x : Outcome _). written x result before) e)
+
+module _ {A : Type 0} (d : Device) (l x m y : ℕ) (inner : Outcome A) (result before : List ℕ) where
+  pub unknown : known d ≡ false → Says (tested d l x m y inner) (refused 1 0) result before before
+  unknown h = says (tested d l x m y inner) (refused 1 0) result before (no-device d _ h)
+
+  module _ (k : known d ≡ true) (x' : ℕ) (ex : x' ≡ x) where
+    pub wrong-first : (l ≡ x' → ⊥) → Says (tested d l x m y inner) (refused 2 0) result before before
+    wrong-first h = says (tested d l x m y inner) (refused 2 0) result before (other-length l x _ x' ex h ∙ sym (the-device d _ k))
+
+    module _ (hl : l ≡ x') (y' : ℕ) (ey : y' ≡ y) where
+      pub wrong-second : (m ≡ y' → ⊥) → Says (tested d l x m y inner) (refused 2 0) result before before
+      wrong-second h =
+          says (tested d l x m y inner) (refused 2 0) result before (other-length m y _ y' ey h ∙ sym (the-length l x _ x' ex hl) ∙ sym (the-device d _ k))
+
+      pub right : m ≡ y' → (answer : Outcome A) → answer ≡ inner → (after : List ℕ) → after ≡ written answer result before
+          → Says (tested d l x m y inner) answer result before after
+      right h answer e after f =
+          let same : answer ≡ tested d l x m y inner = e ∙ sym (the-length m y _ y' ey h) ∙ sym (the-length l x _ x' ex hl) ∙ sym (the-device d _ k) in
+          (same, f ∙ ap (λ (o : Outcome A). written o result before) same)

@@ -12,14 +12,14 @@ use lib.Seq.{take-append-le, take-append-add, getD-append-add}
 use borrow.Author.Tests.{lt-ltb, le-ltb}
 use Rattle.cells.specs.Cells.{total, repeat}
 use Rattle.cells.proofs.Laws.{total-append, total-repeat, total-replicate, length-repeat}
-use Rattle.part.specs.Device.{readoutBytes, blockBytes, blockFuses, columnWidth, columnStart}
+use Rattle.part.specs.Device.{known, readoutBytes, blockBytes, blockFuses, columnWidth, columnStart}
 use Rattle.part.specs.Place.{widthOf, firstFuse, byteOfIndex, byteInBlock}
 use Rattle.part.specs.declared.Device.{Device}
 use Rattle.part.specs.declared.BytePlace.{BytePlace}
 use Rattle.part.specs.declared.BytePlace.the-variants.{Main, WireAnd}
 use Rattle.part.proofs.Facts.{compared, by-cases}
 use Rattle.readout.specs.Widths.{rowWidths, blockWidths, widths}
-use Rattle.readout.proofs.Rows.{main-size, wire-and-size, block-size}
+use Rattle.readout.proofs.Rows.{main-size, wire-and-size, block-size, device-size}
 
 -- an index of a list of widths: the width there, and the bits before it
 abbrev pub At : List ℕ → (index width before : ℕ) → Type 0
@@ -109,3 +109,7 @@ widths-at d index h =
     let here = at-block d block rest left in
     let there = at-repeat (d .blocks) (blockWidths d) block rest (widthOf (byteInBlock block rest)) (here .0) inside (rw (size .1) left) (here .1) in
     rw (size .0, size .1, whole, here .2) at there
+
+pub widths-length : (d : Device) → known d ≡ true → length (widths d) ≡ readoutBytes d
+unfolding widths
+widths-length d k = length-repeat (d .blocks) _ ∙ device-size d k .1

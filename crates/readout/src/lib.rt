@@ -1,7 +1,7 @@
 // The passages between an image and a device readout.
 // The definitions stand in specs/Readout.antt.
 ghost use mathlib.Core.Path.{_≡_};
-ghost use Rattle.readout.specs.Readout.{doneOutcome, written, toReadout, readoutOf};
+ghost use Rattle.readout.specs.Readout.{doneOutcome, written, toReadout, readoutOf, toImage, imageOf};
 
 use part::Device;
 use part::Refusal;
@@ -28,5 +28,27 @@ pub fn image_to_readout(d: Device, image: &[u8], readout: &mut [u8]) -> DoneAnsw
         return DoneAnswer::Refused(Refusal::WrongLength);
     }
     internal::blocks_out(d, image, readout);
+    DoneAnswer::Done
+}
+
+// The image of a readout, put into `image`. Refused: 1, 2, 6.
+pub fn readout_to_image(d: Device, readout: &[u8], image: &mut [u8]) -> DoneAnswer
+    ensures { λ r. ⌜ doneOutcome r ≡ toImage d (now (readout .entry)) (now (image .entry)) ⌝ }
+    ensures { λ _. ⌜ now (image .exit) ≡ written (toImage d (now (readout .entry)) (now (image .entry))) (imageOf d (now (readout .entry))) (now (image .entry)) ⌝ }
+{
+    if !part::is_known(d) {
+        return DoneAnswer::Refused(Refusal::UnknownDevice);
+    }
+    if readout.len() != part::internal::readout_bytes(d) as usize {
+        return DoneAnswer::Refused(Refusal::WrongLength);
+    }
+    if image.len() != part::internal::image_bytes(d) as usize {
+        return DoneAnswer::Refused(Refusal::WrongLength);
+    }
+    let stray = internal::first_stray(d, readout);
+    if stray < readout.len() {
+        return DoneAnswer::Refused(Refusal::StrayBit(stray as u32));
+    }
+    internal::blocks_in(d, readout, image);
     DoneAnswer::Done
 }

@@ -153,21 +153,23 @@ pub fn damaged_readouts(device: Device, random: &mut Random) -> Vec<Input> {
         places.push((0..several).map(|_| random.pick(&can_have)).collect());
     }
 
+    let stray_bits: [fn(u8) -> u8; 3] = [
+        |above| above,
+        |_| 0x80,
+        |above| above & above.wrapping_neg(),
+    ];
     let mut damaged = Vec::new();
     for places in places {
-        let sound = [
-            vec![0; widths.len()],
-            widths.clone(),
-            random_readout(&widths, random),
-        ];
-        for mut readout in sound {
-            for index in &places {
-                // One bit above the width, or all of them.
-                let above = !widths[*index];
-                readout[*index] |= random.pick(&[above, above & 0x80, above & 0x40 | 0x80 & (above << 1)]);
+        for stray_bits in stray_bits {
+            let random_one = random_readout(&widths, random);
+            for mut readout in [vec![0; widths.len()], widths.clone(), random_one] {
+                for index in &places {
+                    readout[*index] |= stray_bits(!widths[*index]);
+                }
+                let lowest = places.iter().min().unwrap();
+                let name = format!("{} stray, lowest at {lowest}", places.len());
+                damaged.push((name, readout));
             }
-            let lowest = places.iter().min();
-            damaged.push((format!("{} stray, lowest {lowest:?}", places.len()), readout));
         }
     }
     damaged
@@ -190,7 +192,10 @@ fn corners(device: Device) -> Vec<u32> {
         }
     }
     assert_eq!(fuse_count(device), Ok(first));
-    fuses
+
+    // A class moves no fuse, so the two classes of a block count take the corners in turns.
+    let class = device.class as usize;
+    fuses.into_iter().skip(class).step_by(2).collect()
 }
 
 /// The readout of the image of all 1: each byte has the bits of its width.
@@ -204,5 +209,9 @@ fn all_ones(device: Device) -> Vec<u8> {
 /// Random bytes, of each the bits of its width.
 fn random_readout(widths: &[u8], random: &mut Random) -> Vec<u8> {
     let bytes = random.bytes(widths.len());
-    bytes.iter().zip(widths).map(|(byte, width)| byte & width).collect()
+    bytes
+        .iter()
+        .zip(widths)
+        .map(|(byte, width)| byte & width)
+        .collect()
 }

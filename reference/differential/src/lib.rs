@@ -3,6 +3,8 @@
 
 //! Differential tests and benchmark of the XC9500 fuse-map library against the reference.
 
+pub mod comparison;
+pub mod inputs;
 pub mod library;
 pub mod optimised;
 pub mod tally;

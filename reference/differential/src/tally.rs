@@ -1,4 +1,4 @@
-// The comparison of one library function with the reference, with a count of each outcome.
+// The comparison of one function's answers with the reference's, with a count of each outcome.
 // A test that never saw some refusal has not tested it, so the counts are asserted at the end.
 
 use std::fmt::Debug;
@@ -21,18 +21,30 @@ impl Tally {
         }
     }
 
-    /// Counts the library's answer and panics, naming the call, unless it is the reference's.
-    pub fn compare(&mut self, call: impl Debug, library: Answer<u64>, reference: Answer<u64>) {
+    /// Counts the function's answer and panics, naming the call, unless it is the reference's.
+    pub fn compare(&mut self, call: impl Debug, answer: Answer<u64>, reference: Answer<u64>) {
         assert_eq!(
-            library, reference,
-            "{}, {call:?}: library left, reference right",
+            answer, reference,
+            "{}, {call:?}: its answer left, the reference's right",
             self.function
         );
-        let number = match library {
+        let number = match answer {
             Ok(_) => 0,
             Err(refusal) => refusal.number,
         };
         self.seen[number as usize] += 1;
+    }
+
+    /// Panics, naming the call and the first byte, unless a slice is as the reference leaves it.
+    pub fn compare_bytes(&self, call: impl Debug, slice: &str, left: &[u8], reference: &[u8]) {
+        if left != reference {
+            let differ = |(byte, right): (&u8, &u8)| byte != right;
+            let at = left.iter().zip(reference).position(differ);
+            panic!(
+                "{}, {call:?}: the {slice} differs from the reference's, first at {at:?}",
+                self.function
+            );
+        }
     }
 
     /// Panics unless each of the refusals occurred often enough, acceptance too, and no other did.

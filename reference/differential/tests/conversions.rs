@@ -1,12 +1,11 @@
 // The differential test of the two conversions: the library's answers against the reference's.
 // Every fuse and every address of 17 bits, then edges, random numbers and unknown devices.
 
+use xc9500_differential::inputs::{odd_devices, random_number};
 use xc9500_differential::library::{xc9500_address_of_fuse, xc9500_fuse_of_address};
 use xc9500_differential::tally::Tally;
 use xc9500_reference::random::Random;
-use xc9500_reference::{
-    address_of_fuse, all_devices, fuse_count, fuse_of_address, Device, BLOCK_COUNTS,
-};
+use xc9500_reference::{address_of_fuse, all_devices, fuse_count, fuse_of_address, Device};
 
 const ROUNDS: u32 = 300_000;
 
@@ -26,57 +25,6 @@ fn edges() -> Vec<u32> {
     edges.sort();
     edges.dedup();
     edges
-}
-
-/// A number with a random number of bits, so that small ones are as likely as large ones.
-fn random_number(random: &mut Random) -> u32 {
-    let bits = random.below(33);
-    random.below(1 << bits) as u32
-}
-
-/// Every pair of small numbers, and pairs that a narrower number would take for a known device.
-fn odd_devices(random: &mut Random) -> Vec<Device> {
-    let mut devices = Vec::new();
-    for blocks in 0..=40 {
-        for class in 0..=4 {
-            devices.push(Device { blocks, class });
-        }
-    }
-    for device in all_devices() {
-        for power in [5, 6, 7, 8, 9, 15, 16, 17, 24, 31] {
-            let (blocks, class) = (device.blocks, device.class);
-            devices.push(Device {
-                blocks: blocks + (1 << power),
-                class,
-            });
-            devices.push(Device {
-                blocks,
-                class: class + (1 << power),
-            });
-        }
-        devices.push(Device {
-            blocks: device.blocks.wrapping_neg(),
-            class: device.class,
-        });
-        devices.push(Device {
-            blocks: device.blocks,
-            class: !device.class,
-        });
-    }
-    for _ in 0..1000 {
-        let blocks = random_number(random);
-        let class = random_number(random);
-        devices.push(Device { blocks, class });
-        devices.push(Device {
-            blocks: random.pick(&BLOCK_COUNTS),
-            class,
-        });
-        devices.push(Device {
-            blocks,
-            class: random.below(2) as u32,
-        });
-    }
-    devices
 }
 
 #[test]

@@ -1,8 +1,14 @@
-// The optimised operations of the benchmark against the reference, on every fuse of every device.
+// The optimised operations of the benchmark against the reference, on every device.
 // A benchmark against a wrong program would compare nothing.
 
+use xc9500_differential::comparison::{Comparison, IMAGE, NO_TARGET, READOUT};
+use xc9500_differential::inputs::{damaged_readouts, images, readouts};
 use xc9500_differential::optimised;
-use xc9500_reference::{address_of_fuse, all_devices, fuse_count, Device};
+use xc9500_reference::random::Random;
+use xc9500_reference::{
+    address_of_fuse, all_devices, fuse_count, fuse_sum, image_to_readout, readout_to_image,
+    zero_count, Device,
+};
 
 fn compare(device: Device, fuse: u32) {
     assert_eq!(
@@ -34,4 +40,57 @@ fn unknown_devices() {
             }
         }
     }
+}
+
+#[test]
+fn sums() {
+    let mut random = Random::new(0x9500_0021);
+    let mut sum = Comparison::new(
+        "optimised fuse_sum",
+        (IMAGE, NO_TARGET),
+        |device, image, _| optimised::fuse_sum(device, image).map(u64::from),
+        |device, image, _| fuse_sum(device, image).map(u64::from),
+    );
+    let mut count = Comparison::new(
+        "optimised zero_count",
+        (IMAGE, NO_TARGET),
+        |device, image, _| optimised::zero_count(device, image).map(u64::from),
+        |device, image, _| zero_count(device, image).map(u64::from),
+    );
+    for comparison in [&mut sum, &mut count] {
+        for device in all_devices() {
+            comparison.inputs(device, images(device, &mut random));
+        }
+        comparison.wrong_lengths(&mut random);
+        comparison.unknown_devices(&mut random);
+        comparison.assert_refusals(&[1, 2]);
+    }
+}
+
+#[test]
+fn passages() {
+    let mut random = Random::new(0x9500_0022);
+    let mut to_readout = Comparison::new(
+        "optimised image_to_readout",
+        (IMAGE, READOUT),
+        |device, image, readout| optimised::image_to_readout(device, image, readout).map(|()| 0),
+        |device, image, readout| image_to_readout(device, image, readout).map(|()| 0),
+    );
+    let mut to_image = Comparison::new(
+        "optimised readout_to_image",
+        (READOUT, IMAGE),
+        |device, readout, image| optimised::readout_to_image(device, readout, image).map(|()| 0),
+        |device, readout, image| readout_to_image(device, readout, image).map(|()| 0),
+    );
+    for device in all_devices() {
+        to_readout.inputs(device, images(device, &mut random));
+        to_image.inputs(device, readouts(device, &mut random));
+        to_image.inputs(device, damaged_readouts(device, &mut random));
+    }
+    for comparison in [&mut to_readout, &mut to_image] {
+        comparison.wrong_lengths(&mut random);
+        comparison.unknown_devices(&mut random);
+    }
+    to_readout.assert_refusals(&[1, 2]);
+    to_image.assert_refusals(&[1, 2, 6]);
 }

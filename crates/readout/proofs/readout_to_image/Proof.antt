@@ -1,0 +1,141 @@
+-- `readout_to_image` meets its contract: the tests, 1 before 2 before 6, and the passage.
+-- Assumes nothing.
+use mathlib.Core.Path.{_≡_, refl, sym, _∙_, ap}
+use mathlib.Core.Bool.{true, false, cond}
+use mathlib.Core.List.{List}
+use Prim.Native.Nat.{ℕ, _+_, _<_, _≤_}
+use native.Mathlib.Nat.{zero-add}
+use native.Mathlib.Omega.{arith}
+use lib.Dec.{ltb}
+use lib.ListN.{length, drop}
+use lib.Seq.{sets}
+use borrow.Author.Tests.{lt-ltb, le-ltb}
+use Rattle.part.specs.Outcome.{Outcome}
+use Rattle.part.specs.Outcome.Outcome.{accepted, refused}
+use Rattle.part.specs.Device.{known, imageBytes, readoutBytes}
+use Rattle.part.specs.declared.Device.{Device}
+use Rattle.part.proofs.Devices.{is-known, is-unknown}
+use Rattle.readout.specs.Readout.{written, toImage, imageOf, firstStray}
+use Rattle.readout.specs.Widths.{widths, bytesIn, fine}
+use Rattle.readout.proofs.Passages.{image-bytes-in, image-length, sets-whole}
+use Rattle.readout.proofs.Strays.{first-stray}
+use Rattle.readout.proofs.Targets.{Says, unknown, wrong-first, wrong-second, right}
+use borrow.Author.Needs.{needs}
+use Rattle.readout.proofs.readout_to_image.Statement.{statement}
+use Rattle.readout.proofs.readout_to_image.Tie as tie
+
+-- what follows the tests of lengths
+abbrev afterScan : Device → List ℕ → Outcome (Unit {0})
+afterScan d readout = cond (ltb (firstStray d readout) (readoutBytes d)) (refused 6 (firstStray d readout)) (accepted tt)
+
+-- what the scan found, and what the definition says of it
+module _ (d : Device) (readout : List ℕ) (stray : ℕ) (k : known d ≡ true) (l : length readout ≡ readoutBytes d) (e : stray ≡ 0 + fine (widths d) (drop 0 readout)) where
+  the-stray : stray ≡ firstStray d readout
+  the-stray = e ∙ zero-add _ ∙ sym (first-stray d readout k)
+
+  a-stray : stray < length readout → refused 6 stray ≡ afterScan d readout
+  a-stray h = rw (← the-stray, lt-ltb stray (readoutBytes d) (omega arith))
+
+  no-stray : length readout ≤ stray → accepted tt ≡ afterScan d readout
+  no-stray h = rw (← the-stray, le-ltb stray (readoutBytes d) (omega arith))
+
+-- the tests, at this function's definition
+module _ (d : Device) (readout before : List ℕ) where
+  abbrev At : Outcome (Unit {0}) → List ℕ → Type 0
+  At answer after = Says (toImage d readout before) answer (imageOf d readout) before after
+
+  no-device : known d ≡ false → At (refused 1 0) before
+  unfolding toImage
+  no-device = unknown d (length readout) (readoutBytes d) (length before) (imageBytes d) (afterScan d readout) (imageOf d readout) before
+
+  module _ (k : known d ≡ true) (x : ℕ) (ex : x ≡ readoutBytes d) where
+    first-length : (length readout ≡ x → ⊥) → At (refused 2 0) before
+    unfolding toImage
+    first-length = wrong-first d (length readout) (readoutBytes d) (length before) (imageBytes d) (afterScan d readout) (imageOf d readout) before k x ex
+
+    module _ (hx : length readout ≡ x) (y : ℕ) (ey : y ≡ imageBytes d) where
+      second-length : (length before ≡ y → ⊥) → At (refused 2 0) before
+      unfolding toImage
+      second-length = wrong-second d (length readout) (readoutBytes d) (length before) (imageBytes d) (afterScan d readout) (imageOf d readout) before k x ex hx y ey
+
+      passed : length before ≡ y → (answer : Outcome (Unit {0})) → answer ≡ (afterScan d readout) → (after : List ℕ) → after ≡ written answer (imageOf d readout) before
+          → At answer after
+      unfolding toImage
+      passed = right d (length readout) (readoutBytes d) (length before) (imageBytes d) (afterScan d readout) (imageOf d readout) before k x ex hx y ey
+
+whole : (d : Device) (readout before after : List ℕ) → known d ≡ true → length before ≡ imageBytes d
+    → after ≡ sets before 0 (bytesIn (widths d) (drop 0 readout)) → after ≡ imageOf d readout
+whole d readout before after k e f =
+    f ∙ rw (image-bytes-in d readout k) (sets-whole before (imageOf d readout) (e ∙ sym (image-length d readout)))
+
+is-known-requires : tie.Need-is-known-requires
+is-known-requires c κs = search needs
+
+returns : tie.Need-returns
+returns c = no-device _ _ _ (is-unknown _ _ (c .before .is-known .ensures) (c .if1 .taken))
+
+readout-bytes-requires : tie.Need-readout-bytes-requires
+readout-bytes-requires c κs = search (needs, is-known)
+
+cast-if2 : tie.Need-cast-if2
+cast-if2 c = search needs
+
+returns-2 : tie.Need-returns-2
+returns-2 c =
+    first-length _ _ _ (is-known _ _ (c .before .before .before .is-known .ensures) (c .before .before .if1 .left)) _ (c .before .readout-bytes .ensures) (c .if2 .taken)
+
+image-bytes-requires : tie.Need-image-bytes-requires
+image-bytes-requires c κs = search (needs, is-known)
+
+cast-if3 : tie.Need-cast-if3
+cast-if3 c = search needs
+
+returns-3 : tie.Need-returns-3
+returns-3 c =
+    second-length _ _ _ (is-known _ _ (c .before .before .before .before .before .is-known .ensures) (c .before .before .before .before .if1 .left)) _ (c .before .before .before .readout-bytes .ensures) (c .before .before .if2 .left) _ (c .before .image-bytes .ensures) (c .if3 .taken)
+
+first-stray-requires : tie.Need-first-stray-requires
+first-stray-requires c κs =
+    ((is-known _ _ (c .before .before .before .before .before .is-known .ensures) (c .before .before .before .before .if1 .left)), c .before .before .if2 .left ∙ c .before .before .before .readout-bytes .ensures)
+
+cast-t13 : tie.Need-cast-t13
+cast-t13 c = search needs
+
+returns-4 : tie.Need-returns-4
+returns-4 c =
+    let k = (is-known _ _ (c .before .before .before .before .before .before .before .is-known .ensures) (c .before .before .before .before .before .before .if1 .left)) in
+    passed _ _ _ k _ (c .before .before .before .before .before .readout-bytes .ensures) (c .before .before .before .before .if2 .left) _ (c .before .before .before .image-bytes .ensures) (c .before .before .if3 .left) (refused 6 (c .before .first-stray .result))
+    (a-stray _ _ _ k (c .before .before .before .before .if2 .left ∙ c .before .before .before .before .before .readout-bytes .ensures) (c .before .first-stray .ensures) (c .if4 .taken)) _ refl
+
+blocks-in-requires : tie.Need-blocks-in-requires
+blocks-in-requires c κs =
+    ((is-known _ _ (c .before .before .before .before .before .before .before .before .is-known .ensures) (c .before .before .before .before .before .before .before .if1 .left)), c .before .before .before .before .before .if2 .left ∙ c .before .before .before .before .before .before .readout-bytes .ensures, c .before .before .before .if3 .left ∙ c .before .before .before .before .image-bytes .ensures)
+
+same-length : tie.Need-same-length
+same-length c = search needs
+
+returns-5 : tie.Need-returns-5
+returns-5 c =
+    let k = (is-known _ _ (c .before .before .before .before .before .before .before .before .before .before .before .is-known .ensures) (c .before .before .before .before .before .before .before .before .before .before .if1 .left)) in
+    passed _ _ _ k _ (c .before .before .before .before .before .before .before .before .before .readout-bytes .ensures) (c .before .before .before .before .before .before .before .before .if2 .left) _ (c .before .before .before .before .before .before .before .image-bytes .ensures) (c .before .before .before .before .before .before .if3 .left) (accepted tt)
+    (no-stray _ _ _ k (c .before .before .before .before .before .before .before .before .if2 .left ∙ c .before .before .before .before .before .before .before .before .before .readout-bytes .ensures) (c .before .before .before .before .before .first-stray .ensures) (c .before .before .before .before .if4 .left)) _
+    (whole _ _ _ _ k (c .before .before .before .before .before .before .if3 .left ∙ c .before .before .before .before .before .before .before .image-bytes .ensures) (c .before .before .blocks-in .ensures))
+
+pub readout-to-image-spec : {M : Type 1} → statement M
+readout-to-image-spec =
+    tie.close
+    (tie.spec
+    is-known-requires
+    returns
+    readout-bytes-requires
+    cast-if2
+    returns-2
+    image-bytes-requires
+    cast-if3
+    returns-3
+    first-stray-requires
+    cast-t13
+    returns-4
+    blocks-in-requires
+    same-length
+    returns-5)

@@ -1,0 +1,107 @@
+// The comparison of one function on whole parts, by this or that program, with the reference.
+// Of every call the answer and every byte of every slice is compared.
+
+use crate::inputs::{odd_devices, wrong_lengths, Input};
+use crate::tally::Tally;
+use xc9500_reference::random::Random;
+use xc9500_reference::{all_devices, Answer, Device, BLOCK_COUNTS};
+
+/// A function from a source into a target; the target is empty where the function has none.
+pub type Function = fn(Device, &[u8], &mut [u8]) -> Answer<u64>;
+
+/// The length of a slice by block count, worked out for counts that no part has, too.
+pub type Length = fn(usize) -> usize;
+
+pub const IMAGE: Length = |blocks| blocks * (972 + 81 * blocks);
+pub const READOUT: Length = |blocks| blocks * (1080 + 90 * blocks);
+pub const NO_TARGET: Length = |_| 0;
+
+pub struct Comparison {
+    tally: Tally,
+    function: Function,
+    reference: Function,
+    source: Length,
+    target: Length,
+}
+
+impl Comparison {
+    pub fn new(
+        name: &'static str,
+        (source, target): (Length, Length),
+        function: Function,
+        reference: Function,
+    ) -> Comparison {
+        Comparison {
+            tally: Tally::new(name),
+            function,
+            reference,
+            source,
+            target,
+        }
+    }
+
+    /// Compares one call, with a target that is filled with a pattern first.
+    fn call(&mut self, device: Device, input: &str, source: &[u8], target_bytes: usize) {
+        let call = (device, input, source.len(), target_bytes);
+        let lent = source.to_vec();
+        let mut target: Vec<u8> = (0..target_bytes).map(|i| (i * 89 + 90) as u8).collect();
+        let mut expected = target.clone();
+        let answer = (self.function)(device, &lent, &mut target);
+        let reference = (self.reference)(device, source, &mut expected);
+        self.tally.compare(call, answer, reference);
+        self.tally.compare_bytes(call, "source", &lent, source);
+        self.tally.compare_bytes(call, "target", &target, &expected);
+    }
+
+    /// Compares the calls with inputs of the right length.
+    pub fn inputs(&mut self, device: Device, inputs: Vec<Input>) {
+        let target_bytes = (self.target)(device.blocks as usize);
+        for (name, source) in inputs {
+            self.call(device, &name, &source, target_bytes);
+        }
+    }
+
+    /// Compares the calls with a wrong source, a wrong target, or both.
+    pub fn wrong_lengths(&mut self, random: &mut Random) {
+        for device in all_devices() {
+            let blocks = device.blocks as usize;
+            let (source, target) = ((self.source)(blocks), (self.target)(blocks));
+            let mut lengths: Vec<(usize, usize)> = Vec::new();
+            for wrong in wrong_lengths(source) {
+                lengths.push((wrong, target));
+            }
+            if target > 0 {
+                for wrong in wrong_lengths(target) {
+                    lengths.push((source, wrong));
+                    lengths.push((random.pick(&wrong_lengths(source)), wrong));
+                }
+                lengths.push((target, source));
+            }
+            for (source, target) in lengths {
+                self.call(device, "random", &random.bytes(source), target);
+            }
+        }
+    }
+
+    /// Compares the calls with unknown devices; a known one is among them now and then.
+    pub fn unknown_devices(&mut self, random: &mut Random) {
+        for device in odd_devices(random) {
+            // The lengths that a count would have if it were known, and those of a known one.
+            let known = random.pick(&BLOCK_COUNTS);
+            for blocks in [device.blocks, known] {
+                if blocks <= 40 {
+                    let blocks = blocks as usize;
+                    let (source, target) = ((self.source)(blocks), (self.target)(blocks));
+                    self.call(device, "all 0", &vec![0; source], target);
+                    self.call(device, "all 1", &vec![0xFF; source], target);
+                }
+            }
+            self.call(device, "empty", &[], 0);
+        }
+    }
+
+    /// Panics unless each of the refusals occurred often enough, acceptance too, and no other did.
+    pub fn assert_refusals(&self, refusals: &[u32]) {
+        self.tally.assert_refusals(refusals);
+    }
+}
