@@ -4,7 +4,7 @@ ghost use mathlib.Core.Path.{_≡_};
 ghost use Rattle.part.specs.Answer.{number, value, addressOutcome, fuseOutcome};
 ghost use Rattle.part.specs.Convert.{addressOfFuse, fuseOfAddress};
 ghost use Rattle.image.specs.Image.{numberOutcome, fuseSum, zeroCount};
-ghost use Rattle.readout.specs.Readout.{doneOutcome, written, toReadout, readoutOf};
+ghost use Rattle.readout.specs.Readout.{doneOutcome, written, toReadout, readoutOf, toImage, imageOf};
 ghost use Rattle.capi.specs.Packed.{packed, refusalWord, device, addressAndBit, itself, nothing};
 use image::NumberAnswer;
 use part::AddressAnswer;
@@ -99,4 +99,13 @@ pub extern "C" fn xc9500_image_to_readout(blocks: u32, class: u32, image: &[u8],
     ensures { λ _. ⌜ now (readout .exit) ≡ written (toReadout (device blocks class) (now (image .entry)) (now (readout .entry))) (readoutOf (device blocks class) (now (image .entry))) (now (readout .entry)) ⌝ }
 {
     done_word(readout::image_to_readout(Device { blocks, class }, image, readout))
+}
+
+// The image of a readout, put into `image`.
+#[no_mangle]
+pub extern "C" fn xc9500_readout_to_image(blocks: u32, class: u32, readout: &[u8], image: &mut [u8]) -> u64
+    ensures { λ w. ⌜ w ≡ packed nothing (toImage (device blocks class) (now (readout .entry)) (now (image .entry))) ⌝ }
+    ensures { λ _. ⌜ now (image .exit) ≡ written (toImage (device blocks class) (now (readout .entry)) (now (image .entry))) (imageOf (device blocks class) (now (readout .entry))) (now (image .entry)) ⌝ }
+{
+    done_word(readout::readout_to_image(Device { blocks, class }, readout, image))
 }

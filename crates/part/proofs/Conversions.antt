@@ -28,7 +28,7 @@ pub record SamePlace (d : Device) (fuse address bit : ℕ) : Type 0 where
   pub its-bit : place .bit ≡ bit
 
 -- what is accepted under a test: the test passed
-passed : {A : Type 0} (t : Bool) (x : Outcome A) (k v : ℕ) {b : A} → cond t x (refused k v) ≡ accepted b → (t ≡ true) × (x ≡ accepted b)
+pub passed : {A : Type 0} (t : Bool) (x : Outcome A) (k v : ℕ) {b : A} → cond t x (refused k v) ≡ accepted b → (t ≡ true) × (x ≡ accepted b)
 passed true x k v e = (refl, e)
 passed false x k v e = let z : _≡_ {A = ℕ} 0 1 = cc in absurd (omega arith)
 

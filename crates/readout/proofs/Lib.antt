@@ -6,3 +6,4 @@ pub mod Passages
 pub mod Targets
 pub mod RowsIn
 pub mod Strays
+pub mod Laws

@@ -47,7 +47,7 @@ number-bit image fuse h =
     (joined-bit (replicate n 8) image (fuse / 8) 8 (fuse / 8 * 8) (fuse % 8) (rw (length-replicate {A = ℕ} n 8) (omega arith)) (at-replicate n 8 (fuse / 8) (omega arith)) (omega arith))
 
 -- a place of the byte at an index, and its fuse
-place-at : (d : Device) (index bit : ℕ) → index < readoutBytes d → bit < widthAt d index
+pub place-at : (d : Device) (index bit : ℕ) → index < readoutBytes d → bit < widthAt d index
     → hasPlace d (record { byte = byteOfIndex d index; bit = bit }) ≡ true
 unfolding hasPlace
 place-at d index bit h hb = and-iff _ _ .1 (at-index d index h .0, lt-ltb bit (widthAt d index) hb)

@@ -231,6 +231,22 @@ lowest-is test (suc n) k h before at =
     (λ past. let e : k ≡ suc n = omega arith in rw (before n past, e))
     (λ here. let e : n ≡ k = omega arith in subst (λ (m : ℕ). cond (test m) m (suc m) ≡ k) (sym e) (rw (at (omega arith))))))
 
+-- where none passes, each fails
+pub none-below : (test : ℕ → Bool) (n : ℕ) → n ≤ lowest test n → (i : ℕ) → i < n → test i ≡ false
+unfolding lowest
+none-below test zero h i g = absurd (not-suc-le-zero g)
+none-below test (suc n) h i g =
+    compared (lowest test n) n
+    (λ less. absurd (omega (arith, rw (lt-ltb (lowest test n) n less) at h)))
+    (λ more.
+    let here : suc n ≤ cond (test n) n (suc n) = rw (le-ltb (lowest test n) n more) at h in
+    compared i n (λ below. none-below test n more i below)
+    (λ at. let e : i ≡ n = omega arith in rw e (fails (test n) here)))
+  where
+    fails : (t : Bool) → suc n ≤ cond t n (suc n) → t ≡ false
+    fails true le = absurd (omega arith)
+    fails false le = refl
+
 pub first-stray : (d : Device) (readout : List ℕ) → known d ≡ true → lowest (strayAt d readout) (readoutBytes d) ≡ fine (widths d) readout
 unfolding strayAt
 first-stray d readout k =

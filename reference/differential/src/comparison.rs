@@ -9,13 +9,17 @@ use xc9500_reference::{all_devices, Answer, Device, BLOCK_COUNTS};
 /// A function from a source into a target; the target is empty where the function has none.
 pub type Function = fn(Device, &[u8], &mut [u8]) -> Answer<u64>;
 
-/// The length of a slice by block count, worked out for counts that no part has, too.
+/// The length of a slice by block count, worked out for counts that no part has as well.
 pub type Length = fn(usize) -> usize;
+
+/// Bytes before and after a target, which no call may change.
+const GUARD: usize = 64;
 
 pub const IMAGE: Length = |blocks| blocks * (972 + 81 * blocks);
 pub const READOUT: Length = |blocks| blocks * (1080 + 90 * blocks);
 pub const NO_TARGET: Length = |_| 0;
 
+/// A function under test, the reference's, the lengths of their slices, and what came of it so far.
 pub struct Comparison {
     tally: Tally,
     function: Function,
@@ -44,13 +48,16 @@ impl Comparison {
     fn call(&mut self, device: Device, input: &str, source: &[u8], target_bytes: usize) {
         let call = (device, input, source.len(), target_bytes);
         let lent = source.to_vec();
-        let mut target: Vec<u8> = (0..target_bytes).map(|i| (i * 89 + 90) as u8).collect();
-        let mut expected = target.clone();
-        let answer = (self.function)(device, &lent, &mut target);
-        let reference = (self.reference)(device, source, &mut expected);
+        let pattern = (0..GUARD + target_bytes + GUARD).map(|i| (i * 89 + 90) as u8);
+        let mut guarded: Vec<u8> = pattern.collect();
+        let mut expected = guarded.clone();
+        let target = GUARD..GUARD + target_bytes;
+        let answer = (self.function)(device, &lent, &mut guarded[target.clone()]);
+        let reference = (self.reference)(device, source, &mut expected[target]);
         self.tally.compare(call, answer, reference);
         self.tally.compare_bytes(call, "source", &lent, source);
-        self.tally.compare_bytes(call, "target", &target, &expected);
+        self.tally
+            .compare_bytes(call, "guarded target", &guarded, &expected);
     }
 
     /// Compares the calls with inputs of the right length.
@@ -66,14 +73,15 @@ impl Comparison {
         for device in all_devices() {
             let blocks = device.blocks as usize;
             let (source, target) = ((self.source)(blocks), (self.target)(blocks));
+            let wrong_sources = wrong_lengths(source);
             let mut lengths: Vec<(usize, usize)> = Vec::new();
-            for wrong in wrong_lengths(source) {
-                lengths.push((wrong, target));
+            for wrong in &wrong_sources {
+                lengths.push((*wrong, target));
             }
             if target > 0 {
                 for wrong in wrong_lengths(target) {
                     lengths.push((source, wrong));
-                    lengths.push((random.pick(&wrong_lengths(source)), wrong));
+                    lengths.push((random.pick(&wrong_sources), wrong));
                 }
                 lengths.push((target, source));
             }

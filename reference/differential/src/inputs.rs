@@ -70,7 +70,7 @@ pub fn odd_devices(random: &mut Random) -> Vec<Device> {
 /// Lengths other than the right one: none, a little or much off, and all of the other devices.
 pub fn wrong_lengths(right: usize) -> Vec<usize> {
     let mut lengths = vec![0, 1, right / 2, right - 8, right - 1, right + 1, right + 8];
-    // The right length again, to a number of 8, of 16 or of 20 bits.
+    // The right length again to a number of 8, of 16 or of 20 bits.
     lengths.extend([right + (1 << 8), right + (1 << 16), right + (1 << 20)]);
     for device in all_devices() {
         lengths.push(image_bytes(device).unwrap());
@@ -141,7 +141,7 @@ pub fn damaged_readouts(device: Device, random: &mut Random) -> Vec<Input> {
     let middle = can_have[can_have.len() / 2];
 
     let mut places: Vec<Vec<usize>> = Vec::new();
-    // The smallest part has them everywhere once.
+    // In the smallest part each byte has its turn.
     if device.blocks == BLOCK_COUNTS[0] {
         places.extend(can_have.iter().map(|index| vec![*index]));
     }
@@ -153,6 +153,7 @@ pub fn damaged_readouts(device: Device, random: &mut Random) -> Vec<Input> {
         places.push((0..several).map(|_| random.pick(&can_have)).collect());
     }
 
+    // Of the bits above the width all, the highest, or the lowest.
     let stray_bits: [fn(u8) -> u8; 3] = [
         |above| above,
         |_| 0x80,

@@ -36,12 +36,12 @@ impl Tally {
     }
 
     /// Panics, naming the call and the first byte, unless a slice is as the reference leaves it.
-    pub fn compare_bytes(&self, call: impl Debug, slice: &str, left: &[u8], reference: &[u8]) {
-        if left != reference {
-            let differ = |(byte, right): (&u8, &u8)| byte != right;
-            let at = left.iter().zip(reference).position(differ);
+    pub fn compare_bytes(&self, call: impl Debug, slice: &str, bytes: &[u8], reference: &[u8]) {
+        if bytes != reference {
+            let mut pairs = bytes.iter().zip(reference);
+            let first = pairs.position(|(byte, expected)| byte != expected);
             panic!(
-                "{}, {call:?}: the {slice} differs from the reference's, first at {at:?}",
+                "{}, {call:?}: the {slice} is not the reference's, first at {first:?}",
                 self.function
             );
         }

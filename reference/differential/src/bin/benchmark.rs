@@ -4,6 +4,7 @@
 use std::cell::RefCell;
 use std::hint::black_box;
 use std::rc::Rc;
+use xc9500_differential::comparison::Function;
 use xc9500_differential::{library, optimised};
 use xc9500_reference as reference;
 use xc9500_reference::random::Random;
@@ -125,24 +126,22 @@ fn random_image(device: Device) -> Vec<u8> {
     Random::new(0x9500_1000).bytes(length)
 }
 
-/// One call on a whole part, from a source into a target.
-type Call = fn(Device, &[u8], &mut [u8]) -> Answer<u64>;
-
 /// The row of an operation of which a pass is one call; the target is empty where it has none.
 fn whole_part(
     operation: &'static str,
     device: Device,
     source: Vec<u8>,
     target_bytes: usize,
-    library: Call,
-    reference: Call,
-    optimised: Call,
+    library: Function,
+    reference: Function,
+    optimised: Function,
 ) -> Row {
-    // The sum of a pass leaves out the target, to be no part of the time; it is compared here.
-    let [by_library, by_reference, by_optimised] = [library, reference, optimised].map(|call| {
-        let mut target = vec![0x5A; target_bytes];
-        (call(device, &source, &mut target), target)
-    });
+    // To add up the target would be timed too, so it is compared here, once.
+    let [by_library, by_reference, by_optimised] =
+        [library, reference, optimised].map(|function| {
+            let mut target = vec![0x5A; target_bytes];
+            (function(device, &source, &mut target), target)
+        });
     assert!(
         by_library == by_reference && by_optimised == by_reference,
         "{operation}: the programs disagree"
@@ -151,11 +150,11 @@ fn whole_part(
     // All three have the same source and target, so that where these lie favours none.
     let source: Rc<[u8]> = source.into();
     let target = Rc::new(RefCell::new(by_reference.1));
-    let pass = |call: Call| -> Pass {
+    let pass = |function: Function| -> Pass {
         let (source, target) = (source.clone(), target.clone());
         Box::new(move || {
             let mut target = target.borrow_mut();
-            as_number(call(
+            as_number(function(
                 black_box(device),
                 black_box(&source),
                 black_box(&mut target),
@@ -191,7 +190,7 @@ fn each(count: u32, call: impl Fn(u32) -> Answer<u64> + 'static) -> Pass {
     })
 }
 
-/// A number for an answer, other for every other one.
+/// An answer as one number.
 fn as_number(answer: Answer<u64>) -> u64 {
     match answer {
         Ok(result) => result,
