@@ -94,7 +94,12 @@ pub extern "C" fn xc9500_zero_count(blocks: u32, class: u32, image: &[u8]) -> u6
 
 // The readout of an image, put into `readout`.
 #[no_mangle]
-pub extern "C" fn xc9500_image_to_readout(blocks: u32, class: u32, image: &[u8], readout: &mut [u8]) -> u64
+pub extern "C" fn xc9500_image_to_readout(
+    blocks: u32,
+    class: u32,
+    image: &[u8],
+    readout: &mut [u8],
+) -> u64
     ensures { λ w. ⌜ w ≡ packed nothing (toReadout (device blocks class) (now (image .entry)) (now (readout .entry))) ⌝ }
     ensures { λ _. ⌜ now (readout .exit) ≡ written (toReadout (device blocks class) (now (image .entry)) (now (readout .entry))) (readoutOf (device blocks class) (now (image .entry))) (now (readout .entry)) ⌝ }
 {
@@ -103,7 +108,12 @@ pub extern "C" fn xc9500_image_to_readout(blocks: u32, class: u32, image: &[u8],
 
 // The image of a readout, put into `image`.
 #[no_mangle]
-pub extern "C" fn xc9500_readout_to_image(blocks: u32, class: u32, readout: &[u8], image: &mut [u8]) -> u64
+pub extern "C" fn xc9500_readout_to_image(
+    blocks: u32,
+    class: u32,
+    readout: &[u8],
+    image: &mut [u8],
+) -> u64
     ensures { λ w. ⌜ w ≡ packed nothing (toImage (device blocks class) (now (readout .entry)) (now (image .entry))) ⌝ }
     ensures { λ _. ⌜ now (image .exit) ≡ written (toImage (device blocks class) (now (readout .entry)) (now (image .entry))) (imageOf (device blocks class) (now (readout .entry))) (now (image .entry)) ⌝ }
 {

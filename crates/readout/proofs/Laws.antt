@@ -66,7 +66,7 @@ lying d fuse h =
     record {
       index-below = found .0;
       bit-below = rw (found .1) (ltb-true _ _ (facts .1));
-      its-own = rw (found .1) (lies .1)
+      its-own = rw (found .1) (lies .1);
     }
 
 -- and no other fuse lies there
@@ -202,10 +202,11 @@ readout-again d readout k e small =
 -- no stray bit exactly if the scan goes through
 pub no-stray-iff : (d : Device) (readout : List ℕ) → (readoutBytes d ≤ firstStray d readout) ↔ Within d readout
 unfolding strayAt
-no-stray-iff d readout =
-    (λ h index below. leb-false (2 ^ widthAt d index) (getD readout index 0) (none-below (strayAt d readout) (readoutBytes d) h index below),
-    λ h.
-    le-of-eq (sym (lowest-is (strayAt d readout) (readoutBytes d) (readoutBytes d) (omega arith) (λ index below. lt-leb (2 ^ widthAt d index) (getD readout index 0) (h index below)) (λ bad. absurd (omega arith)))))
+no-stray-iff d readout = (
+  λ h index below. leb-false (2 ^ widthAt d index) (getD readout index 0) (none-below (strayAt d readout) (readoutBytes d) h index below),
+  λ h.
+      le-of-eq (sym (lowest-is (strayAt d readout) (readoutBytes d) (readoutBytes d) (omega arith) (λ index below. lt-leb (2 ^ widthAt d index) (getD readout index 0) (h index below)) (λ bad. absurd (omega arith)))),
+)
 
 -- an image's readout has none
 pub readout-accepted : (d : Device) (image : List ℕ) → Within d (readoutOf d image)
@@ -216,16 +217,18 @@ readout-accepted d image = readout-within d (state image) (state-bit image)
 pub accepted-iff : (d : Device) (readout target : List ℕ)
     → (toImage d readout target ≡ accepted tt) ↔ ((known d ≡ true) × (length readout ≡ readoutBytes d) × (length target ≡ imageBytes d) × Within d readout)
 unfolding toImage
-accepted-iff d readout target =
-    (λ e.
-    let one = passed (known d) _ 1 0 e in
-    let two = passed (eqb (length readout) (readoutBytes d)) _ 2 0 (one .1) in
-    let three = passed (eqb (length target) (imageBytes d)) _ 2 0 (two .1) in
-    (one .0, eqb-true _ _ (two .0), eqb-true _ _ (three .0), no-stray-iff d readout .0 (not-refused (firstStray d readout) (readoutBytes d) (three .1))),
-    λ h. rw (h .0, eq-eqb (length readout) (readoutBytes d) (h .1), eq-eqb (length target) (imageBytes d) (h .2), le-ltb (firstStray d readout) (readoutBytes d) (no-stray-iff d readout .1 (h .3))))
+accepted-iff d readout target = (
+  λ e.
+      let one = passed (known d) _ 1 0 e in
+      let two = passed (eqb (length readout) (readoutBytes d)) _ 2 0 (one .1) in
+      let three = passed (eqb (length target) (imageBytes d)) _ 2 0 (two .1) in
+      (one .0, eqb-true _ _ (two .0), eqb-true _ _ (three .0), no-stray-iff d readout .0 (not-refused (firstStray d readout) (readoutBytes d) (three .1))),
+  λ h. rw (h .0, eq-eqb (length readout) (readoutBytes d) (h .1), eq-eqb (length target) (imageBytes d) (h .2), le-ltb (firstStray d readout) (readoutBytes d) (no-stray-iff d readout .1 (h .3))),
+)
   where
     clash : (k : ℕ) → _≡_ {A = Outcome (Unit {0})} (refused 6 k) (accepted tt) → _≡_ {A = ℕ} 0 1
     clash k e = cc
+
     not-refused : (k n : ℕ) → cond (ltb k n) (refused 6 k) (accepted tt) ≡ accepted (tt {0}) → n ≤ k
     not-refused k n e = compared k n (λ less. let z : _≡_ {A = ℕ} 0 1 = clash k (rw (lt-ltb k n less) at e) in absurd (omega arith)) (λ more. more)
 

@@ -87,7 +87,7 @@ module _ {ws image before out : List ℕ} {fuse at count f a left : ℕ} (now : 
         fuses-left = rw e1 (room left (total ws) f (length image * 8) h (now .fuses-left) .1);
         bytes-left = rw (e2, kept) (room left (length ws) a (length out) h (now .bytes-left) .1);
         same = kept ∙ now .same;
-        rest = rw (e3, ← shr-shr (number image) f fuses) (cut-sets out ws (repeat (left - 1) ws) a (number image / 2 ^ f) bytes fuses (sym e2) (sym e1) ∙ all)
+        rest = rw (e3, ← shr-shr (number image) f fuses) (cut-sets out ws (repeat (left - 1) ws) a (number image / 2 ^ f) bytes fuses (sym e2) (sym e1) ∙ all);
       }
 
   pub ended : left ≤ 0 → out ≡ sets before at (cut (repeat count ws) (number image / 2 ^ fuse))
@@ -110,9 +110,10 @@ block-size d =
     let m = main-size true refl in
     let w = wire-and-size false refl in
     let ms = rowWidths true in
-    let vs = rowWidths false in
-    (rw (total-append (repeat 72 ms) (repeat (d .blocks * 18) vs), total-repeat 72 ms, total-repeat (d .blocks * 18) vs, m .0, w .0) (omega arith),
-    rw (length-append (repeat 72 ms) (repeat (d .blocks * 18) vs), length-repeat 72 ms, length-repeat (d .blocks * 18) vs, m .1, w .1) (omega arith))
+    let vs = rowWidths false in (
+      rw (total-append (repeat 72 ms) (repeat (d .blocks * 18) vs), total-repeat 72 ms, total-repeat (d .blocks * 18) vs, m .0, w .0) (omega arith),
+      rw (length-append (repeat 72 ms) (repeat (d .blocks * 18) vs), length-repeat 72 ms, length-repeat (d .blocks * 18) vs, m .1, w .1) (omega arith),
+    )
 
 pub block-of-rows : (d : Device) (image out one two : List ℕ) (fuse at : ℕ)
     → one ≡ sets out at (cut (repeat 72 (rowWidths true)) (number image / 2 ^ fuse))

@@ -148,7 +148,7 @@ module _ {ws readout before out : List ℕ} {at byte count a b left : ℕ} (now 
         cells-left = rw e1 (room left (length ws) a (length readout) h (now .cells-left) .1);
         bytes-left = rw (e2, kept) (room left (wholeBytes ws) b (length out) h (now .bytes-left) .1);
         same = kept ∙ now .same;
-        rest = parts-in ws (repeat (left - 1) ws) readout out next a (a + bytes) b (b + whole) t (ap (λ (i : ℕ). a + i) e1) (ap (λ (i : ℕ). b + i) e2) e3 ∙ all
+        rest = parts-in ws (repeat (left - 1) ws) readout out next a (a + bytes) b (b + whole) t (ap (λ (i : ℕ). a + i) e1) (ap (λ (i : ℕ). b + i) e2) e3 ∙ all;
       }
 
   pub ended-in : left ≤ 0 → out ≡ sets before byte (bytesIn (repeat count ws) (drop at readout))

@@ -92,7 +92,7 @@ module _ {ws cells : List ℕ} {at count a left : ℕ} (now : Scan ws cells at c
       let on : fine (ws ++ repeat (left - 1) ws) (drop a cells) ≡ length ws + fine (repeat (left - 1) ws) (drop (length ws) (drop a cells)) = fine-on ws (repeat (left - 1) ws) (drop a cells) all in
       record {
         cells-left = rw e (room left (length ws) a (length cells) h (now .cells-left) .1);
-        rest = rw (e, ← drop-drop (length ws) a cells) (add-assoc a (length ws) _ ∙ ap (λ (x : ℕ). a + x) (sym on) ∙ next-of h)
+        rest = rw (e, ← drop-drop (length ws) a cells) (add-assoc a (length ws) _ ∙ ap (λ (x : ℕ). a + x) (sym on) ∙ next-of h);
       }
 
   pub scan-ended : left ≤ 0 → a ≡ at + fine (repeat count ws) (drop at cells)

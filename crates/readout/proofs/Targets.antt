@@ -11,34 +11,30 @@ use Rattle.part.specs.Convert.{ifKnown}
 use Rattle.part.specs.declared.Device.{Device}
 use Rattle.image.specs.Image.{ifLength}
 use Rattle.image.proofs.Checks.{no-device, the-device, other-length, the-length}
-use Rattle.readout.specs.Readout.{written}
+use Rattle.readout.specs.Readout.{written, Written}
 
 -- an outcome after the tests of a device and of two lengths
 abbrev pub tested : {A : Type 0} → Device → (l x m y : ℕ) → Outcome A → Outcome A
 tested d l x m y inner = ifKnown d (ifLength l x (ifLength m y inner))
 
--- an answer and a target that agree with an outcome
-abbrev pub Says : {A : Type 0} → (o answer : Outcome A) → (result before after : List ℕ) → Type 0
-Says o answer result before after = (answer ≡ o) × (after ≡ written o result before)
-
-says : {A : Type 0} (o answer : Outcome A) (result before : List ℕ) → answer ≡ o → Says o answer result before (written answer result before)
-says o answer result before e = (e, ap (λ (x : Outcome _). written x result before) e)
+says : {A : Type 0} (o answer : Outcome A) (result before : List ℕ) → answer ≡ o → Written o answer result before (written answer result before)
+says o answer result before e = record { answers = e; holds = ap (λ (x : Outcome _). written x result before) e }
 
 module _ {A : Type 0} (d : Device) (l x m y : ℕ) (inner : Outcome A) (result before : List ℕ) where
-  pub unknown : known d ≡ false → Says (tested d l x m y inner) (refused 1 0) result before before
+  pub unknown : known d ≡ false → Written (tested d l x m y inner) (refused 1 0) result before before
   unknown h = says (tested d l x m y inner) (refused 1 0) result before (no-device d _ h)
 
   module _ (k : known d ≡ true) (x' : ℕ) (ex : x' ≡ x) where
-    pub wrong-first : (l ≡ x' → ⊥) → Says (tested d l x m y inner) (refused 2 0) result before before
+    pub wrong-first : (l ≡ x' → ⊥) → Written (tested d l x m y inner) (refused 2 0) result before before
     wrong-first h = says (tested d l x m y inner) (refused 2 0) result before (other-length l x _ x' ex h ∙ sym (the-device d _ k))
 
     module _ (hl : l ≡ x') (y' : ℕ) (ey : y' ≡ y) where
-      pub wrong-second : (m ≡ y' → ⊥) → Says (tested d l x m y inner) (refused 2 0) result before before
+      pub wrong-second : (m ≡ y' → ⊥) → Written (tested d l x m y inner) (refused 2 0) result before before
       wrong-second h =
           says (tested d l x m y inner) (refused 2 0) result before (other-length m y _ y' ey h ∙ sym (the-length l x _ x' ex hl) ∙ sym (the-device d _ k))
 
       pub right : m ≡ y' → (answer : Outcome A) → answer ≡ inner → (after : List ℕ) → after ≡ written answer result before
-          → Says (tested d l x m y inner) answer result before after
+          → Written (tested d l x m y inner) answer result before after
       right h answer e after f =
           let same : answer ≡ tested d l x m y inner = e ∙ sym (the-length m y _ y' ey h) ∙ sym (the-length l x _ x' ex hl) ∙ sym (the-device d _ k) in
-          (same, f ∙ ap (λ (o : Outcome A). written o result before) same)
+          record { answers = same; holds = f ∙ ap (λ (o : Outcome A). written o result before) same }

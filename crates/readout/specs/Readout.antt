@@ -1,6 +1,7 @@
 -- Readout: one byte for each valid address, in ascending address order, value in the low bits, bits above the byte's width 0.
 -- The two passages between image and readout, refusals and target bytes included. Document 01, "Three pictures of one part".
 use Prim.Native.Nat.{ℕ, zero, suc, _+_, _*_, _/_, _%_, _^_}
+use mathlib.Core.Path.{_≡_}
 use mathlib.Core.Bool.{Bool, cond}
 use mathlib.Core.List.{List}
 use lib.Dec.{ltb, leb}
@@ -66,6 +67,11 @@ toImage d readout target =
 abbrev pub written : {A : Type 0} → Outcome A → (result before : List ℕ) → List ℕ
 written (accepted x) result before = result
 written (refused number value) result before = before
+
+-- what a call answers, and what its target then holds
+pub record Written {A : Type 0} (o answer : Outcome A) (result before after : List ℕ) : Type 0 where
+  pub answers : answer ≡ o
+  pub holds : after ≡ written o result before
 
 -- what an answer without a result says
 abbrev pub doneOutcome : DoneAnswer → Outcome (Unit {0})

@@ -8,10 +8,9 @@ ghost use lib.Seq.{sets};
 ghost use Rattle.cells.specs.Cells.{cut, join, total, repeat, number};
 ghost use Rattle.part.specs.Device.{known, imageBytes, readoutBytes};
 ghost use Rattle.readout.specs.Widths.{rowWidths, pairWidths, blockWidths, widths, wholeBytes, bytesIn, fine};
-
-use part::Device;
 use cells::internal::joined;
 use cells::internal::put_cells;
+use part::Device;
 
 // The bytes of a main row of an image, from a fuse on.
 fn main_row_out(image: &[u8], fuse: usize, out: &mut [u8], at: usize)
@@ -132,7 +131,17 @@ pub fn blocks_out(d: Device, image: &[u8], out: &mut [u8])
 
 // Some cells joined above the bits that the cells before left over, and of that whole bytes put into an image. Answers what is
 // left over now.
-fn push(readout: &[u8], at: usize, width: u32, count: usize, carry: u64, shift: u32, image: &mut [u8], byte: usize, bytes: usize) -> u64
+fn push(
+    readout: &[u8],
+    at: usize,
+    width: u32,
+    count: usize,
+    carry: u64,
+    shift: u32,
+    image: &mut [u8],
+    byte: usize,
+    bytes: usize,
+) -> u64
     requires { ⌜ (at + count ≤ length (now readout)) × (width ≤ 8) × (count ≤ 6) × (carry < 2 ^ shift) × (shift ≤ 4) × (byte + bytes ≤ length (now image)) × (bytes ≤ 7) ⌝ }
     ensures { λ r. ⌜ r ≡ (join (replicate count width) (drop at (now (readout .entry))) * 2 ^ shift + carry) / 2 ^ (bytes * 8) ⌝ }
     ensures { λ _. ⌜ now (image .exit) ≡ sets (now (image .entry)) byte (cut (replicate bytes 8) (join (replicate count width) (drop at (now (readout .entry))) * 2 ^ shift + carry)) ⌝ }

@@ -1,8 +1,6 @@
 // The passages between an image and a device readout.
 // The definitions stand in specs/Readout.antt.
-ghost use mathlib.Core.Path.{_≡_};
-ghost use Rattle.readout.specs.Readout.{doneOutcome, written, toReadout, readoutOf, toImage, imageOf};
-
+ghost use Rattle.readout.specs.Readout.{doneOutcome, Written, toReadout, readoutOf, toImage, imageOf};
 use part::Device;
 use part::Refusal;
 
@@ -15,8 +13,7 @@ pub enum DoneAnswer {
 
 // The readout of an image, put into `readout`. Refused: 1, 2.
 pub fn image_to_readout(d: Device, image: &[u8], readout: &mut [u8]) -> DoneAnswer
-    ensures { λ r. ⌜ doneOutcome r ≡ toReadout d (now (image .entry)) (now (readout .entry)) ⌝ }
-    ensures { λ _. ⌜ now (readout .exit) ≡ written (toReadout d (now (image .entry)) (now (readout .entry))) (readoutOf d (now (image .entry))) (now (readout .entry)) ⌝ }
+    ensures { λ r. ⌜ Written (toReadout d (now (image .entry)) (now (readout .entry))) (doneOutcome r) (readoutOf d (now (image .entry))) (now (readout .entry)) (now (readout .exit)) ⌝ }
 {
     if !part::is_known(d) {
         return DoneAnswer::Refused(Refusal::UnknownDevice);
@@ -33,8 +30,7 @@ pub fn image_to_readout(d: Device, image: &[u8], readout: &mut [u8]) -> DoneAnsw
 
 // The image of a readout, put into `image`. Refused: 1, 2, 6.
 pub fn readout_to_image(d: Device, readout: &[u8], image: &mut [u8]) -> DoneAnswer
-    ensures { λ r. ⌜ doneOutcome r ≡ toImage d (now (readout .entry)) (now (image .entry)) ⌝ }
-    ensures { λ _. ⌜ now (image .exit) ≡ written (toImage d (now (readout .entry)) (now (image .entry))) (imageOf d (now (readout .entry))) (now (image .entry)) ⌝ }
+    ensures { λ r. ⌜ Written (toImage d (now (readout .entry)) (now (image .entry))) (doneOutcome r) (imageOf d (now (readout .entry))) (now (image .entry)) (now (image .exit)) ⌝ }
 {
     if !part::is_known(d) {
         return DoneAnswer::Refused(Refusal::UnknownDevice);

@@ -17,7 +17,7 @@ same-length c = search needs
 
 returns : tie.Need-returns
 returns c =
-    (packed-same nothing (c .done-word .ensures) (c .before .before .before .image-to-readout .ensures .0), c .before .before .before .image-to-readout .ensures .1)
+    (packed-same nothing (c .done-word .ensures) (c .before .before .before .image-to-readout .ensures .answers), c .before .before .before .image-to-readout .ensures .holds)
 
 pub xc9500-image-to-readout-spec : {M : Type 1} → statement M
 xc9500-image-to-readout-spec =

@@ -17,7 +17,7 @@ same-length c = search needs
 
 returns : tie.Need-returns
 returns c =
-    (packed-same nothing (c .done-word .ensures) (c .before .before .before .readout-to-image .ensures .0), c .before .before .before .readout-to-image .ensures .1)
+    (packed-same nothing (c .done-word .ensures) (c .before .before .before .readout-to-image .ensures .answers), c .before .before .before .readout-to-image .ensures .holds)
 
 pub xc9500-readout-to-image-spec : {M : Type 1} → statement M
 xc9500-readout-to-image-spec =

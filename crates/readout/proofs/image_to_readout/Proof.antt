@@ -5,6 +5,7 @@ use mathlib.Core.Bool.{true, false}
 use mathlib.Core.List.{List}
 use Prim.Native.Nat.{ℕ, _/_, _^_}
 use native.Mathlib.Nat.{div-one}
+use native.Mathlib.Omega.{arith}
 use lib.ListN.{length}
 use lib.Seq.{sets}
 use Rattle.cells.specs.Cells.{cut, number}
@@ -13,10 +14,10 @@ use Rattle.part.specs.Outcome.Outcome.{accepted, refused}
 use Rattle.part.specs.Device.{known, imageBytes, readoutBytes}
 use Rattle.part.specs.declared.Device.{Device}
 use Rattle.part.proofs.Devices.{is-known, is-unknown}
-use Rattle.readout.specs.Readout.{written, toReadout, readoutOf}
+use Rattle.readout.specs.Readout.{written, Written, toReadout, readoutOf}
 use Rattle.readout.specs.Widths.{widths}
 use Rattle.readout.proofs.Passages.{readout-cut, sets-whole, readout-length}
-use Rattle.readout.proofs.Targets.{Says, unknown, wrong-first, wrong-second, right}
+use Rattle.readout.proofs.Targets.{unknown, wrong-first, wrong-second, right}
 use borrow.Author.Needs.{needs}
 use Rattle.readout.proofs.image_to_readout.Statement.{statement}
 use Rattle.readout.proofs.image_to_readout.Tie as tie
@@ -24,7 +25,7 @@ use Rattle.readout.proofs.image_to_readout.Tie as tie
 -- the tests, at this function's definition
 module _ (d : Device) (image before : List ℕ) where
   abbrev At : Outcome (Unit {0}) → List ℕ → Type 0
-  At answer after = Says (toReadout d image before) answer (readoutOf d image) before after
+  At answer after = Written (toReadout d image before) answer (readoutOf d image) before after
 
   no-device : known d ≡ false → At (refused 1 0) before
   unfolding toReadout
@@ -50,11 +51,16 @@ whole : (d : Device) (image before after : List ℕ) → known d ≡ true → le
 whole d image before after k ei er e =
     e ∙ rw (div-one (number image), readout-cut d image k ei) (sets-whole before (readoutOf d image) (er ∙ sym (readout-length d image)))
 
+all-passed : (d : Device) (image before after : List ℕ) (x y : ℕ) → known d ≡ true → x ≡ imageBytes d → length image ≡ x → y ≡ readoutBytes d → length before ≡ y
+    → after ≡ sets before 0 (cut (widths d) (number image / 2 ^ 0)) → At d image before (accepted tt) after
+all-passed d image before after x y k ex hx ey hy f =
+    passed d image before k x ex hx y ey hy (accepted tt) refl after (whole d image before after k (hx ∙ ex) (hy ∙ ey) f)
+
 is-known-requires : tie.Need-is-known-requires
 is-known-requires c κs = search needs
 
 returns : tie.Need-returns
-returns c = no-device _ _ _ (is-unknown _ _ (c .before .is-known .ensures) (c .if1 .taken))
+returns c = search (needs, is-unknown, no-device)
 
 image-bytes-requires : tie.Need-image-bytes-requires
 image-bytes-requires c κs = search (needs, is-known)
@@ -63,8 +69,7 @@ cast-if2 : tie.Need-cast-if2
 cast-if2 c = search needs
 
 returns-2 : tie.Need-returns-2
-returns-2 c =
-    first-length _ _ _ (is-known _ _ (c .before .before .before .is-known .ensures) (c .before .before .if1 .left)) _ (c .before .image-bytes .ensures) (c .if2 .taken)
+returns-2 c = search (needs, is-known, first-length)
 
 readout-bytes-requires : tie.Need-readout-bytes-requires
 readout-bytes-requires c κs = search (needs, is-known)
@@ -73,21 +78,16 @@ cast-if3 : tie.Need-cast-if3
 cast-if3 c = search needs
 
 returns-3 : tie.Need-returns-3
-returns-3 c =
-    second-length _ _ _ (is-known _ _ (c .before .before .before .before .before .is-known .ensures) (c .before .before .before .before .if1 .left)) _ (c .before .before .before .image-bytes .ensures) (c .before .before .if2 .left) _ (c .before .readout-bytes .ensures) (c .if3 .taken)
+returns-3 c = search (needs, is-known, second-length)
 
 blocks-out-requires : tie.Need-blocks-out-requires
-blocks-out-requires c κs =
-    (is-known _ _ (c .before .before .before .before .before .before .is-known .ensures) (c .before .before .before .before .before .if1 .left), c .before .before .before .if2 .left ∙ c .before .before .before .before .image-bytes .ensures, c .before .if3 .left ∙ c .before .before .readout-bytes .ensures)
+blocks-out-requires c κs = (search (needs, is-known), omega arith, omega arith)
 
 same-length : tie.Need-same-length
 same-length c = search needs
 
 returns-4 : tie.Need-returns-4
-returns-4 c =
-    let k = (is-known _ _ (c .before .before .before .before .before .before .before .before .before .is-known .ensures) (c .before .before .before .before .before .before .before .before .if1 .left)) in
-    passed _ _ _ k _ (c .before .before .before .before .before .before .before .image-bytes .ensures) (c .before .before .before .before .before .before .if2 .left) _ (c .before .before .before .before .before .readout-bytes .ensures) (c .before .before .before .before .if3 .left) (accepted tt) refl _
-    (whole _ _ _ _ k (c .before .before .before .before .before .before .if2 .left ∙ c .before .before .before .before .before .before .before .image-bytes .ensures) (c .before .before .before .before .if3 .left ∙ c .before .before .before .before .before .readout-bytes .ensures) (c .before .before .blocks-out .ensures))
+returns-4 c = search (needs, is-known, all-passed)
 
 pub image-to-readout-spec : {M : Type 1} → statement M
 image-to-readout-spec =

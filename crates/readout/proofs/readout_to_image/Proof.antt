@@ -15,11 +15,11 @@ use Rattle.part.specs.Outcome.Outcome.{accepted, refused}
 use Rattle.part.specs.Device.{known, imageBytes, readoutBytes}
 use Rattle.part.specs.declared.Device.{Device}
 use Rattle.part.proofs.Devices.{is-known, is-unknown}
-use Rattle.readout.specs.Readout.{written, toImage, imageOf, firstStray}
+use Rattle.readout.specs.Readout.{written, Written, toImage, imageOf, firstStray}
 use Rattle.readout.specs.Widths.{widths, bytesIn, fine}
 use Rattle.readout.proofs.Passages.{image-bytes-in, image-length, sets-whole}
 use Rattle.readout.proofs.Strays.{first-stray}
-use Rattle.readout.proofs.Targets.{Says, unknown, wrong-first, wrong-second, right}
+use Rattle.readout.proofs.Targets.{unknown, wrong-first, wrong-second, right}
 use borrow.Author.Needs.{needs}
 use Rattle.readout.proofs.readout_to_image.Statement.{statement}
 use Rattle.readout.proofs.readout_to_image.Tie as tie
@@ -42,7 +42,7 @@ module _ (d : Device) (readout : List ℕ) (stray : ℕ) (k : known d ≡ true) 
 -- the tests, at this function's definition
 module _ (d : Device) (readout before : List ℕ) where
   abbrev At : Outcome (Unit {0}) → List ℕ → Type 0
-  At answer after = Says (toImage d readout before) answer (imageOf d readout) before after
+  At answer after = Written (toImage d readout before) answer (imageOf d readout) before after
 
   no-device : known d ≡ false → At (refused 1 0) before
   unfolding toImage
@@ -68,11 +68,21 @@ whole : (d : Device) (readout before after : List ℕ) → known d ≡ true → 
 whole d readout before after k e f =
     f ∙ rw (image-bytes-in d readout k) (sets-whole before (imageOf d readout) (e ∙ sym (image-length d readout)))
 
+a-stray-refused : (d : Device) (readout before : List ℕ) (x y stray : ℕ) → known d ≡ true → x ≡ readoutBytes d → length readout ≡ x → y ≡ imageBytes d → length before ≡ y
+    → stray ≡ 0 + fine (widths d) (drop 0 readout) → stray < length readout → At d readout before (refused 6 stray) before
+a-stray-refused d readout before x y stray k ex hx ey hy e h =
+    passed d readout before k x ex hx y ey hy (refused 6 stray) (a-stray d readout stray k (hx ∙ ex) e h) before refl
+
+all-passed : (d : Device) (readout before after : List ℕ) (x y stray : ℕ) → known d ≡ true → x ≡ readoutBytes d → length readout ≡ x → y ≡ imageBytes d → length before ≡ y
+    → stray ≡ 0 + fine (widths d) (drop 0 readout) → length readout ≤ stray → after ≡ sets before 0 (bytesIn (widths d) (drop 0 readout)) → At d readout before (accepted tt) after
+all-passed d readout before after x y stray k ex hx ey hy e h f =
+    passed d readout before k x ex hx y ey hy (accepted tt) (no-stray d readout stray k (hx ∙ ex) e h) after (whole d readout before after k (hy ∙ ey) f)
+
 is-known-requires : tie.Need-is-known-requires
 is-known-requires c κs = search needs
 
 returns : tie.Need-returns
-returns c = no-device _ _ _ (is-unknown _ _ (c .before .is-known .ensures) (c .if1 .taken))
+returns c = search (needs, is-unknown, no-device)
 
 readout-bytes-requires : tie.Need-readout-bytes-requires
 readout-bytes-requires c κs = search (needs, is-known)
@@ -81,8 +91,7 @@ cast-if2 : tie.Need-cast-if2
 cast-if2 c = search needs
 
 returns-2 : tie.Need-returns-2
-returns-2 c =
-    first-length _ _ _ (is-known _ _ (c .before .before .before .is-known .ensures) (c .before .before .if1 .left)) _ (c .before .readout-bytes .ensures) (c .if2 .taken)
+returns-2 c = search (needs, is-known, first-length)
 
 image-bytes-requires : tie.Need-image-bytes-requires
 image-bytes-requires c κs = search (needs, is-known)
@@ -91,35 +100,25 @@ cast-if3 : tie.Need-cast-if3
 cast-if3 c = search needs
 
 returns-3 : tie.Need-returns-3
-returns-3 c =
-    second-length _ _ _ (is-known _ _ (c .before .before .before .before .before .is-known .ensures) (c .before .before .before .before .if1 .left)) _ (c .before .before .before .readout-bytes .ensures) (c .before .before .if2 .left) _ (c .before .image-bytes .ensures) (c .if3 .taken)
+returns-3 c = search (needs, is-known, second-length)
 
 first-stray-requires : tie.Need-first-stray-requires
-first-stray-requires c κs =
-    ((is-known _ _ (c .before .before .before .before .before .is-known .ensures) (c .before .before .before .before .if1 .left)), c .before .before .if2 .left ∙ c .before .before .before .readout-bytes .ensures)
+first-stray-requires c κs = (search (needs, is-known), omega arith)
 
 cast-t13 : tie.Need-cast-t13
 cast-t13 c = search needs
 
 returns-4 : tie.Need-returns-4
-returns-4 c =
-    let k = (is-known _ _ (c .before .before .before .before .before .before .before .is-known .ensures) (c .before .before .before .before .before .before .if1 .left)) in
-    passed _ _ _ k _ (c .before .before .before .before .before .readout-bytes .ensures) (c .before .before .before .before .if2 .left) _ (c .before .before .before .image-bytes .ensures) (c .before .before .if3 .left) (refused 6 (c .before .first-stray .result))
-    (a-stray _ _ _ k (c .before .before .before .before .if2 .left ∙ c .before .before .before .before .before .readout-bytes .ensures) (c .before .first-stray .ensures) (c .if4 .taken)) _ refl
+returns-4 c = search (needs, is-known, a-stray-refused)
 
 blocks-in-requires : tie.Need-blocks-in-requires
-blocks-in-requires c κs =
-    ((is-known _ _ (c .before .before .before .before .before .before .before .before .is-known .ensures) (c .before .before .before .before .before .before .before .if1 .left)), c .before .before .before .before .before .if2 .left ∙ c .before .before .before .before .before .before .readout-bytes .ensures, c .before .before .before .if3 .left ∙ c .before .before .before .before .image-bytes .ensures)
+blocks-in-requires c κs = (search (needs, is-known), omega arith, omega arith)
 
 same-length : tie.Need-same-length
 same-length c = search needs
 
 returns-5 : tie.Need-returns-5
-returns-5 c =
-    let k = (is-known _ _ (c .before .before .before .before .before .before .before .before .before .before .before .is-known .ensures) (c .before .before .before .before .before .before .before .before .before .before .if1 .left)) in
-    passed _ _ _ k _ (c .before .before .before .before .before .before .before .before .before .readout-bytes .ensures) (c .before .before .before .before .before .before .before .before .if2 .left) _ (c .before .before .before .before .before .before .before .image-bytes .ensures) (c .before .before .before .before .before .before .if3 .left) (accepted tt)
-    (no-stray _ _ _ k (c .before .before .before .before .before .before .before .before .if2 .left ∙ c .before .before .before .before .before .before .before .before .before .readout-bytes .ensures) (c .before .before .before .before .before .first-stray .ensures) (c .before .before .before .before .if4 .left)) _
-    (whole _ _ _ _ k (c .before .before .before .before .before .before .if3 .left ∙ c .before .before .before .before .before .before .before .image-bytes .ensures) (c .before .before .blocks-in .ensures))
+returns-5 c = search (needs, is-known, all-passed)
 
 pub readout-to-image-spec : {M : Type 1} → statement M
 readout-to-image-spec =
