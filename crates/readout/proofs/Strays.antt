@@ -5,7 +5,7 @@ use mathlib.Core.Bool.{Bool, true, false, cond}
 use mathlib.Core.List.{List, [], _∷_, _++_}
 use Prim.Native.Nat.{ℕ, zero, suc, _+_, _*_, _-_, _/_, _%_, _^_, _≤_, _<_, suc-le-suc}
 use native.Mathlib.Omega.{arith}
-use native.Mathlib.Nat.{zero-add, add-zero, add-suc, suc-add, suc-mul, div-eq-of-lt, add-assoc, not-suc-le-zero, le-of-suc-le-suc, le-of-lt, zero-mul, mod-lt}
+use native.Mathlib.Nat.{zero-add, add-zero, add-suc, suc-add, suc-mul, div-eq-of-lt, add-assoc, not-suc-le-zero, le-of-suc-le-suc, le-of-lt, zero-mul, mod-lt, mod-eq-of-lt, mul-le-mul}
 use native.Mathlib.Numerals.{one-add}
 use lib.Dec.{eqb, ltb, leb}
 use lib.ListN.{length, getD, drop, replicate, length-replicate}
@@ -13,11 +13,12 @@ use mir.Syntax.{w8}
 use mir.Val.{Fits}
 use lib.Seq.{drop-drop, getD-drop}
 use borrow.Author.Tests.{eq-eqb, ne-eqb, eqb-true, eqb-false, lt-ltb, le-ltb, lt-leb, le-leb}
-use lib.Pow.{pow-pos, split}
-use Rattle.cells.specs.Cells.{repeat}
+use lib.Bits.{bitAnd, and-block, and-high}
+use lib.Pow.{pow-pos, pow-sub-lt, shr-mod, split}
+use Rattle.cells.specs.Cells.{join, repeat}
 use Rattle.part.proofs.Facts.{compared}
 use Rattle.readout.specs.Readout.{widthAt, strayAt, lowest}
-use Rattle.readout.specs.Widths.{rowWidths, blockWidths, widths, fine}
+use Rattle.readout.specs.Widths.{rowWidths, blockWidths, widths, fine, strayMask}
 use Rattle.cells.proofs.Laws.{length-repeat}
 use Rattle.part.specs.Device.{known, readoutBytes}
 use Rattle.part.specs.declared.Device.{Device}
@@ -62,6 +63,29 @@ fine-found (w ∷ ws) vs cells h = go (fine-found ws vs (drop 1 cells)) (eqb (ge
         → cond t (suc (fine (ws ++ vs) (drop 1 cells))) 0 ≡ cond t (suc (fine ws (drop 1 cells))) 0
     go ih true g = ap suc (ih (le-of-suc-le-suc g))
     go ih false g = refl
+
+-- bytes taken as one word: none has a bit of the mask
+pub masked-fine : (k w : ℕ) (cells : List ℕ) → w ≤ 8 → ((i : ℕ) → Fits w8 (getD cells i 0)) → bitAnd (join (replicate k 8) cells) (strayMask k w) ≡ 0
+    → k ≤ fine (replicate k w) cells
+unfolding fine join strayMask
+masked-fine zero w cells h bytes e = omega arith
+masked-fine (suc k) w cells h bytes e =
+    let c = getD cells 0 0 in
+    let high = bitAnd (join (replicate k 8) (drop 1 cells)) (strayMask k w) in
+    let small : 2 ^ 8 - 2 ^ w < 2 ^ 8 = pow-sub-lt 8 (pow-pos w) in
+    let parts : high * 2 ^ 8 + bitAnd (c % 2 ^ 8) (2 ^ 8 - 2 ^ w) ≡ 0 = sym (and-block 8 (join (replicate k 8) (drop 1 cells)) (strayMask k w) (c % 2 ^ 8) (2 ^ 8 - 2 ^ w) (mod-lt c (pow-pos 8)) small) ∙ e in
+    let whole : 8 - w + w ≡ 8 = omega arith in
+    let top : bitAnd (c % 2 ^ 8) (2 ^ 8 - 2 ^ w) ≡ (c % 2 ^ 8 / 2 ^ w % 2 ^ (8 - w)) * 2 ^ w = subst (λ (j : ℕ). bitAnd (c % 2 ^ 8) (2 ^ j - 2 ^ w) ≡ (c % 2 ^ 8 / 2 ^ w % 2 ^ (8 - w)) * 2 ^ w) whole (and-high (c % 2 ^ 8) (8 - w) w) in
+    let zero-top : (c % 2 ^ 8 / 2 ^ w % 2 ^ (8 - w)) * 2 ^ w ≡ 0 = sym top ∙ omega arith in
+    let byte : c % 2 ^ 8 ≡ c = mod-eq-of-lt (bytes 0 .fits) in
+    let quotient : c / 2 ^ w % 2 ^ (8 - w) ≡ 0 = no-factor (c / 2 ^ w % 2 ^ (8 - w)) w (rw byte at zero-top) in
+    let none : c / 2 ^ w ≡ 0 = sym (shr-mod (8 - w) w (subst (λ (j : ℕ). c < 2 ^ j) (sym whole) (bytes 0 .fits))) ∙ quotient in
+    rw (eq-eqb (c / 2 ^ w) 0 none)
+    (suc-le-suc (masked-fine k w (drop 1 cells) h (λ i. rw (getD-drop 1 cells i 0) (bytes (1 + i))) (omega arith)))
+  where
+    no-factor : (x w : ℕ) → x * 2 ^ w ≡ 0 → x ≡ 0
+    no-factor x w e =
+        compared 0 x (λ some. absurd (omega (arith, mul-le-mul {n₁ = 1} {m₁ = 1} some (pow-pos w)))) (λ none. omega arith)
 
 -- A scan of `count` times the cells of `ws`: what holds when `left` times are still to come.
 pub record Scan (ws cells : List ℕ) (at count a left : ℕ) : Type 0 where
@@ -126,6 +150,12 @@ run-turned cells at width count a left now h good =
     let here : getD (drop a cells) 0 0 ≡ getD cells a 0 = getD-drop a cells 0 0 ∙ ap (λ (i : ℕ). getD cells i 0) (add-zero a) in
     let one : fine (width ∷ []) (drop a cells) ≡ 1 = rw (here, eq-eqb (getD cells a 0 / 2 ^ width) 0 good) in
     scan-turned now 1 (a + 1) h refl (rw one) (omega arith)
+
+pub run-clear : (cells : List ℕ) (at width count word mask : ℕ) → ((i : ℕ) → Fits w8 (getD cells i 0)) → width ≤ 8 → mask ≡ strayMask count width
+    → word ≡ join (replicate count 8) (drop at cells) → bitAnd word mask ≡ 0 → at + count ≡ at + fine (replicate count width) (drop at cells)
+run-clear cells at width count word mask bytes h e f z =
+    let all = masked-fine count width (drop at cells) h (λ i. rw (getD-drop at cells i 0) (bytes (at + i))) (rw (← e, ← f) z) in
+    omega (arith, fine-le (replicate count width) (drop at cells), length-replicate {A = ℕ} count width)
 
 pub run-ended : (cells : List ℕ) (at width count a left : ℕ) → Scan (width ∷ []) cells at count a left → left ≤ 0
     → a ≡ at + fine (replicate count width) (drop at cells)

@@ -1,6 +1,6 @@
 -- The widths of a readout's bytes in order, as lists: what the passages cut an image's number by.
 -- `widths-at` in proofs/Widths.antt ties them to the bytes of the device.
-use Prim.Native.Nat.{ℕ, suc, _*_, _/_, _^_}
+use Prim.Native.Nat.{ℕ, zero, suc, _+_, _*_, _-_, _/_, _^_}
 use mathlib.Core.Bool.{Bool, true, false, cond}
 use mathlib.Core.List.{List, [], _∷_, _++_}
 use lib.Dec.{eqb}
@@ -34,3 +34,8 @@ widths d = repeat (d .blocks) (blockWidths d)
 unfoldable pub fine : List ℕ → List ℕ → ℕ
 fine [] cells = 0
 fine (w ∷ ws) cells = cond (eqb (getD cells 0 0 / 2 ^ w) 0) (suc (fine ws (drop 1 cells))) 0
+
+-- the bits above a width in so many bytes, taken as one word
+unfoldable pub strayMask : (count width : ℕ) → ℕ
+strayMask zero width = 0
+strayMask (suc count) width = strayMask count width * 2 ^ 8 + (2 ^ 8 - 2 ^ width)

@@ -2,6 +2,7 @@
 -- Assumes nothing.
 use native.Mathlib.Omega.{arith}
 use borrow.Author.Needs.{needs}
+use Rattle.readout.specs.Widths.{strayMask}
 use Rattle.readout.proofs.Rows.{main-size, wire-and-size}
 use Rattle.readout.proofs.Strays.{main-row-fine, wire-and-row-fine}
 use Rattle.readout.proofs.internal.row_stray.Statement.{statement}
@@ -11,6 +12,7 @@ add-run-stray : tie.Need-add-run-stray
 add-run-stray c = search needs
 
 run-stray-requires : tie.Need-run-stray-requires
+unfolding strayMask
 run-stray-requires c κs = omega (arith, main-size (c .before .before .args .main) (c .if1 .taken), c .before .before .pre)
 
 returns : tie.Need-returns
@@ -21,6 +23,7 @@ add-run-stray-2 : tie.Need-add-run-stray-2
 add-run-stray-2 c = search needs
 
 run-stray-requires-2 : tie.Need-run-stray-requires-2
+unfolding strayMask
 run-stray-requires-2 c κs = omega (arith, wire-and-size (c .before .before .args .main) (c .if1 .left), c .before .before .pre)
 
 returns-2 : tie.Need-returns-2
