@@ -1,6 +1,7 @@
 -- The laws of `readout` that belong to no one function.
 -- Assumes nothing.
-pub mod Rows
+pub mod Sizes
+pub mod RowsOut
 pub mod Widths
 pub mod Passages
 pub mod Targets

@@ -26,7 +26,7 @@ use Rattle.image.specs.Image.{state, imageFrom}
 use Rattle.image.proofs.Bits.{bit-low, bit-high, gathered-same, gathered-own, tabulate-length, tabulate-at}
 use Rattle.readout.specs.Readout.{widthAt, fuseAt, readoutFrom, readoutOf, stateIn, imageOf}
 use Rattle.readout.specs.Widths.{blockWidths, widths, wholeBytes, bytesIn}
-use Rattle.readout.proofs.Rows.{device-size}
+use Rattle.readout.proofs.Sizes.{device-size}
 use Rattle.readout.proofs.Widths.{At, at-replicate, widths-at, widths-length}
 
 -- a bit of a cell is a bit of the number that the cells join to

@@ -16,7 +16,7 @@ use Rattle.cells.specs.Cells.{cut, join, total, repeat, number}
 use Rattle.cells.proofs.Laws.{cut-append, cut-low, cut-length, cut-sets, regrouped, join-append, join-small, join-few, total-append, total-replicate, total-repeat, length-repeat, sets-append}
 use Rattle.part.specs.Device.{known, imageBytes, readoutBytes}
 use Rattle.part.specs.declared.Device.{Device}
-use Rattle.readout.proofs.Rows.{room, block-size, main-size, wire-and-size, device-size}
+use Rattle.readout.proofs.Sizes.{room, pairs-of-block, main-total, main-length, main-whole, device-size, device-whole}
 use Rattle.readout.specs.Widths.{rowWidths, pairWidths, blockWidths, widths, wholeBytes, bytesIn}
 
 -- what the code shifts is what it means
@@ -155,50 +155,6 @@ module _ {ws readout before out : List ℕ} {at byte count a b left : ℕ} (now 
   unfolding repeat bytesIn wholeBytes total cut
   ended-in h = let none : left ≡ 0 = omega arith in rw none at (now .rest)
 
--- the sizes of two rows of each kind
-pub pair-size : (main : Bool) → (total (pairWidths main) ≡ wholeBytes (pairWidths main) * 8) × (wholeBytes (pairWidths main) ≤ 27) × (length (pairWidths main) ≤ 30)
-unfolding pairWidths rowWidths wholeBytes total
-pair-size true = omega arith
-pair-size false = omega arith
-
-pub main-pair : (main : Bool) → main ≡ true → (wholeBytes (pairWidths main) ≡ 27) × (length (pairWidths main) ≡ 30)
-unfolding pairWidths rowWidths wholeBytes total
-main-pair main e = rw e (refl, refl)
-
-pub wire-and-pair : (main : Bool) → main ≡ false → (wholeBytes (pairWidths main) ≡ 9) × (length (pairWidths main) ≡ 10)
-unfolding pairWidths rowWidths wholeBytes total
-wire-and-pair main e = rw e (refl, refl)
-
-repeat-twice : (k : ℕ) (ws : List ℕ) → repeat k (ws ++ ws) ≡ repeat (k * 2) ws
-unfolding repeat
-repeat-twice zero ws = ap (λ (i : ℕ). repeat i ws) (sym (zero-mul 2))
-repeat-twice (suc k) ws =
-    let more : suc k * 2 ≡ suc (suc (k * 2)) = omega arith in
-    rw more (ap (λ (l : List ℕ). (ws ++ ws) ++ l) (repeat-twice k ws) ∙ append-assoc ws ws (repeat (k * 2) ws))
-
-pairs-of-block : (d : Device) → blockWidths d ≡ repeat 36 (pairWidths true) ++ repeat (d .blocks * 9) (pairWidths false)
-unfolding blockWidths pairWidths
-pairs-of-block d =
-    let half : d .blocks * 9 * 2 ≡ d .blocks * 18 = omega arith in
-    rw (repeat-twice 36 (rowWidths true), repeat-twice (d .blocks * 9) (rowWidths false), half)
-
--- the main rows of a block
-main-total : total (repeat 36 (pairWidths true)) ≡ 7776
-unfolding pairWidths
-main-total = rw (repeat-twice 36 (rowWidths true)) (total-repeat 72 (rowWidths true) ∙ ap (λ (k : ℕ). 72 * k) (main-size true refl .0))
-
-main-length : length (repeat 36 (pairWidths true)) ≡ 1080
-unfolding pairWidths
-main-length = rw (repeat-twice 36 (rowWidths true)) (length-repeat 72 (rowWidths true) ∙ ap (λ (k : ℕ). 72 * k) (main-size true refl .1))
-
-main-whole : wholeBytes (repeat 36 (pairWidths true)) ≡ 972
-unfolding wholeBytes
-main-whole = ap (λ (t : ℕ). t / 8) main-total
-
-pub block-whole : (d : Device) → (wholeBytes (blockWidths d) ≡ 972 + d .blocks * 81) × (total (blockWidths d) ≡ wholeBytes (blockWidths d) * 8)
-unfolding wholeBytes
-block-whole d = omega (arith, block-size d .0)
-
 pub block-of-pairs : (d : Device) (readout out one two : List ℕ) (at byte : ℕ)
     → one ≡ sets out byte (bytesIn (repeat 36 (pairWidths true)) (drop at readout))
     → two ≡ sets one (byte + 972) (bytesIn (repeat (d .blocks * 9) (pairWidths false)) (drop (at + 1080) readout))
@@ -208,11 +164,6 @@ block-of-pairs d readout out one two at byte e1 e2 =
     ∙ parts-in (repeat 36 (pairWidths true)) (repeat (d .blocks * 9) (pairWidths false)) readout out one at (at + 1080) byte (byte + 972)
     (omega (arith, main-total, main-whole)) (omega (arith, main-length)) (omega (arith, main-whole)) e1
     ∙ ap (λ (ws : List ℕ). sets out byte (bytesIn ws (drop at readout))) (sym (pairs-of-block d))
-
-pub device-whole : (d : Device) → known d ≡ true → d .blocks * wholeBytes (blockWidths d) ≡ imageBytes d
-device-whole d k =
-    let e : d .blocks * total (blockWidths d) ≡ d .blocks * wholeBytes (blockWidths d) * 8 = ap (λ (x : ℕ). d .blocks * x) (block-whole d .1) ∙ sym (mul-assoc (d .blocks) (wholeBytes (blockWidths d)) 8) in
-    omega (arith, device-size d k .0)
 
 pub blocks-begun-in : (d : Device) (readout out : List ℕ) → known d ≡ true → length readout ≡ readoutBytes d → length out ≡ imageBytes d
     → LeftIn (blockWidths d) readout out out 0 0 (d .blocks) 0 0 (d .blocks)

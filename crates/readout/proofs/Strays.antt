@@ -22,7 +22,7 @@ use Rattle.readout.specs.Widths.{rowWidths, blockWidths, widths, fine, s
 use Rattle.cells.proofs.Laws.{length-repeat}
 use Rattle.part.specs.Device.{known, readoutBytes}
 use Rattle.part.specs.declared.Device.{Device}
-use Rattle.readout.proofs.Rows.{room, main-size, device-size}
+use Rattle.readout.proofs.Sizes.{room, main-size, device-size}
 use Rattle.readout.proofs.Widths.{widths-at, widths-length}
 
 -- the two cases of a cell

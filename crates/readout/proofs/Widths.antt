@@ -19,7 +19,7 @@ use Rattle.part.specs.declared.BytePlace.{BytePlace}
 use Rattle.part.specs.declared.BytePlace.the-variants.{Main, WireAnd}
 use Rattle.part.proofs.Facts.{compared, by-cases}
 use Rattle.readout.specs.Widths.{rowWidths, blockWidths, widths}
-use Rattle.readout.proofs.Rows.{main-size, wire-and-size, block-size, device-size}
+use Rattle.readout.proofs.Sizes.{main-size, wire-and-size, block-size, device-size}
 
 -- an index of a list of widths: the width there, and the bits before it
 abbrev pub At : List ℕ → (index width before : ℕ) → Type 0

@@ -1,4 +1,4 @@
-// The passages row by row. Every row starts at a multiple of four fuses, so that at most six bytes hold what a word takes.
+// The passages two rows at a time: a row is not whole bytes of an image, and two are. At most six bytes hold what a word takes.
 // Nothing here is part of the public interface.
 ghost use mathlib.Core.Path.{_≡_};
 ghost use mathlib.Core.Bool.{true, false};
@@ -12,40 +12,27 @@ use cells::internal::joined;
 use cells::internal::put_cells;
 use part::Device;
 
-// The bytes of a main row of an image, from a fuse on.
-fn main_row_out(image: &[u8], fuse: usize, out: &mut [u8], at: usize)
-    requires { ⌜ (fuse % 4 ≡ 0) × (fuse + 108 ≤ length (now image) * 8) × (at + 15 ≤ length (now out)) ⌝ }
-    ensures { λ _. ⌜ now (out .exit) ≡ sets (now (out .entry)) at (cut (rowWidths true) (number (now (image .entry)) / 2 ^ fuse)) ⌝ }
+// The bytes of a main row of an image that starts at a bit of a byte.
+fn main_row_out(image: &[u8], byte: usize, shift: u32, out: &mut [u8], at: usize)
+    requires { ⌜ (shift ≤ 4) × (byte + 14 ≤ length (now image)) × (at + 15 ≤ length (now out)) ⌝ }
+    ensures { λ _. ⌜ now (out .exit) ≡ sets (now (out .entry)) at (cut (rowWidths true) (number (now (image .entry)) / 2 ^ (byte * 8 + shift))) ⌝ }
 {
-    let byte = fuse / 8;
-    let shift = (fuse % 8) as u32;
     put_cells(joined(image, byte, 8, 5) >> shift, 8, 4, out, at);
     put_cells(joined(image, byte + 4, 8, 6) >> shift, 8, 5, out, at + 4);
     put_cells(joined(image, byte + 9, 8, 5) >> shift, 6, 6, out, at + 9);
 }
 
-// The bytes of a wire-AND row of an image, from a fuse on.
-fn wire_and_row_out(image: &[u8], fuse: usize, out: &mut [u8], at: usize)
-    requires { ⌜ (fuse % 4 ≡ 0) × (fuse + 36 ≤ length (now image) * 8) × (at + 5 ≤ length (now out)) ⌝ }
-    ensures { λ _. ⌜ now (out .exit) ≡ sets (now (out .entry)) at (cut (rowWidths false) (number (now (image .entry)) / 2 ^ fuse)) ⌝ }
+// The bytes of a wire-AND row of an image that starts at a bit of a byte.
+fn wire_and_row_out(image: &[u8], byte: usize, shift: u32, out: &mut [u8], at: usize)
+    requires { ⌜ (shift ≤ 4) × (byte + 5 ≤ length (now image)) × (at + 5 ≤ length (now out)) ⌝ }
+    ensures { λ _. ⌜ now (out .exit) ≡ sets (now (out .entry)) at (cut (rowWidths false) (number (now (image .entry)) / 2 ^ (byte * 8 + shift))) ⌝ }
 {
-    let byte = fuse / 8;
-    let shift = (fuse % 8) as u32;
     let word = joined(image, byte, 8, 5) >> shift;
     put_cells(word, 8, 1, out, at);
     put_cells(word >> 8, 7, 4, out, at + 1);
 }
 
-// The fuses of a row, and its bytes in a readout.
-fn row_fuses(main: bool) -> usize
-    ensures { λ r. ⌜ (r ≡ total (rowWidths main)) × (r % 4 ≡ 0) × (r ≤ 108) ⌝ }
-{
-    if main {
-        return 108;
-    }
-    36
-}
-
+// The bytes of a row in a readout.
 fn row_bytes(main: bool) -> usize
     ensures { λ r. ⌜ (r ≡ length (rowWidths main)) × (r ≤ 15) ⌝ }
 {
@@ -55,42 +42,64 @@ fn row_bytes(main: bool) -> usize
     5
 }
 
-fn row_out(main: bool, image: &[u8], fuse: usize, out: &mut [u8], at: usize)
-    requires { ⌜ (fuse % 4 ≡ 0) × (fuse + total (rowWidths main) ≤ length (now image) * 8) × (at + length (rowWidths main) ≤ length (now out)) ⌝ }
-    ensures { λ _. ⌜ now (out .exit) ≡ sets (now (out .entry)) at (cut (rowWidths main) (number (now (image .entry)) / 2 ^ fuse)) ⌝ }
+// The image bytes of two rows, and the bytes of two rows in a readout.
+fn pair_image_bytes(main: bool) -> usize
+    ensures { λ r. ⌜ (r ≡ wholeBytes (pairWidths main)) × (r ≤ 27) ⌝ }
 {
     if main {
-        main_row_out(image, fuse, out, at);
+        return 27;
+    }
+    9
+}
+
+fn pair_readout_bytes(main: bool) -> usize
+    ensures { λ r. ⌜ (r ≡ length (pairWidths main)) × (r ≤ 30) ⌝ }
+{
+    if main {
+        return 30;
+    }
+    10
+}
+
+// The bytes of two rows of an image, of which the second starts in the middle of a byte.
+fn pair_out(main: bool, image: &[u8], byte: usize, out: &mut [u8], at: usize)
+    requires { ⌜ (byte + wholeBytes (pairWidths main) ≤ length (now image)) × (at + length (pairWidths main) ≤ length (now out)) ⌝ }
+    ensures { λ _. ⌜ now (out .exit) ≡ sets (now (out .entry)) at (cut (pairWidths main) (number (now (image .entry)) / 2 ^ (byte * 8))) ⌝ }
+{
+    if main {
+        main_row_out(image, byte, 0, out, at);
+        main_row_out(image, byte + 13, 4, out, at + 15);
     } else {
-        wire_and_row_out(image, fuse, out, at);
+        wire_and_row_out(image, byte, 0, out, at);
+        wire_and_row_out(image, byte + 4, 4, out, at + 5);
     }
 }
 
-// The bytes of some rows of an image, one after another, from a fuse on.
-fn rows_out(main: bool, image: &[u8], fuse: usize, out: &mut [u8], at: usize, count: usize)
-    requires { ⌜ (fuse % 4 ≡ 0) × (fuse + count * total (rowWidths main) ≤ length (now image) * 8) × (at + count * length (rowWidths main) ≤ length (now out)) × (length (now image) ≤ 65536) ⌝ }
-    ensures { λ _. ⌜ now (out .exit) ≡ sets (now (out .entry)) at (cut (repeat count (rowWidths main)) (number (now (image .entry)) / 2 ^ fuse)) ⌝ }
+// The bytes of some pairs of rows of an image, one after another.
+fn pairs_out(main: bool, image: &[u8], byte: usize, out: &mut [u8], at: usize, count: usize)
+    requires { ⌜ (byte + count * wholeBytes (pairWidths main) ≤ length (now image)) × (at + count * length (pairWidths main) ≤ length (now out)) ⌝ }
+    ensures { λ _. ⌜ now (out .exit) ≡ sets (now (out .entry)) at (cut (repeat count (pairWidths main)) (number (now (image .entry)) / 2 ^ (byte * 8))) ⌝ }
 {
-    let fuses = row_fuses(main);
-    let bytes = row_bytes(main);
-    let mut f = fuse;
+    let whole = pair_image_bytes(main);
+    let bytes = pair_readout_bytes(main);
+    let mut b = byte;
     let mut a = at;
     let mut left = count;
     while 0 < left {
-        row_out(main, image, f, out, a);
-        f += fuses;
+        pair_out(main, image, b, out, a);
+        b += whole;
         a += bytes;
         left -= 1;
     }
 }
 
-// The fuses of a block, and its bytes in a readout.
-fn block_fuses(d: Device) -> usize
+// The image bytes of a block, and its bytes in a readout.
+fn block_image_bytes(d: Device) -> usize
     requires { ⌜ known d ≡ true ⌝ }
-    ensures { λ r. ⌜ (r ≡ total (blockWidths d)) × (r % 4 ≡ 0) × (r ≤ 18144) ⌝ }
+    ensures { λ r. ⌜ (r ≡ wholeBytes (blockWidths d)) × (r ≤ 2268) ⌝ }
 {
     let n = d.blocks as usize;
-    7776 + n * 648
+    972 + n * 81
 }
 
 fn block_bytes(d: Device) -> usize
@@ -101,29 +110,29 @@ fn block_bytes(d: Device) -> usize
     1080 + n * 90
 }
 
-// The bytes of a block of an image, from a fuse on.
-fn block_out(d: Device, image: &[u8], fuse: usize, out: &mut [u8], at: usize)
-    requires { ⌜ (known d ≡ true) × (fuse % 4 ≡ 0) × (fuse + total (blockWidths d) ≤ length (now image) * 8) × (at + length (blockWidths d) ≤ length (now out)) × (length (now image) ≤ 65536) ⌝ }
-    ensures { λ _. ⌜ now (out .exit) ≡ sets (now (out .entry)) at (cut (blockWidths d) (number (now (image .entry)) / 2 ^ fuse)) ⌝ }
+// The bytes of a block of an image.
+fn block_out(d: Device, image: &[u8], byte: usize, out: &mut [u8], at: usize)
+    requires { ⌜ (known d ≡ true) × (byte + wholeBytes (blockWidths d) ≤ length (now image)) × (at + length (blockWidths d) ≤ length (now out)) ⌝ }
+    ensures { λ _. ⌜ now (out .exit) ≡ sets (now (out .entry)) at (cut (blockWidths d) (number (now (image .entry)) / 2 ^ (byte * 8))) ⌝ }
 {
-    rows_out(true, image, fuse, out, at, 72);
-    let rows = d.blocks as usize * 18;
-    rows_out(false, image, fuse + 7776, out, at + 1080, rows);
+    pairs_out(true, image, byte, out, at, 36);
+    let pairs = d.blocks as usize * 9;
+    pairs_out(false, image, byte + 972, out, at + 1080, pairs);
 }
 
 // The bytes of all blocks of an image.
 pub fn blocks_out(d: Device, image: &[u8], out: &mut [u8])
     requires { ⌜ (known d ≡ true) × (length (now image) ≡ imageBytes d) × (length (now out) ≡ readoutBytes d) ⌝ }
-    ensures { λ _. ⌜ now (out .exit) ≡ sets (now (out .entry)) 0 (cut (widths d) (number (now (image .entry)) / 2 ^ 0)) ⌝ }
+    ensures { λ _. ⌜ now (out .exit) ≡ sets (now (out .entry)) 0 (cut (widths d) (number (now (image .entry)) / 2 ^ (0 * 8))) ⌝ }
 {
-    let fuses = block_fuses(d);
+    let whole = block_image_bytes(d);
     let bytes = block_bytes(d);
-    let mut f: usize = 0;
+    let mut b: usize = 0;
     let mut a: usize = 0;
     let mut left = d.blocks;
     while 0 < left {
-        block_out(d, image, f, out, a);
-        f += fuses;
+        block_out(d, image, b, out, a);
+        b += whole;
         a += bytes;
         left -= 1;
     }
@@ -175,25 +184,6 @@ fn wire_and_rows_in(readout: &[u8], at: usize, image: &mut [u8], byte: usize)
     push(readout, at + 6, 7, 4, three, 4, image, byte + 5, 4);
 }
 
-// The image bytes of two rows, and the bytes of two rows in a readout.
-fn pair_image_bytes(main: bool) -> usize
-    ensures { λ r. ⌜ (r ≡ wholeBytes (pairWidths main)) × (r ≤ 27) ⌝ }
-{
-    if main {
-        return 27;
-    }
-    9
-}
-
-fn pair_readout_bytes(main: bool) -> usize
-    ensures { λ r. ⌜ (r ≡ length (pairWidths main)) × (r ≤ 30) ⌝ }
-{
-    if main {
-        return 30;
-    }
-    10
-}
-
 fn pair_in(main: bool, readout: &[u8], at: usize, image: &mut [u8], byte: usize)
     requires { ⌜ (at + length (pairWidths main) ≤ length (now readout)) × (byte + wholeBytes (pairWidths main) ≤ length (now image)) ⌝ }
     ensures { λ _. ⌜ now (image .exit) ≡ sets (now (image .entry)) byte (bytesIn (pairWidths main) (drop at (now (readout .entry)))) ⌝ }
@@ -238,7 +228,7 @@ pub fn blocks_in(d: Device, readout: &[u8], image: &mut [u8])
     requires { ⌜ (known d ≡ true) × (length (now readout) ≡ readoutBytes d) × (length (now image) ≡ imageBytes d) ⌝ }
     ensures { λ _. ⌜ now (image .exit) ≡ sets (now (image .entry)) 0 (bytesIn (widths d) (drop 0 (now (readout .entry)))) ⌝ }
 {
-    let whole = block_fuses(d) / 8;
+    let whole = block_image_bytes(d);
     let bytes = block_bytes(d);
     let mut a: usize = 0;
     let mut b: usize = 0;

@@ -3,7 +3,7 @@
 use mathlib.Core.Path.{_≡_, refl, sym, _∙_}
 use mathlib.Core.Bool.{true, false}
 use mathlib.Core.List.{List}
-use Prim.Native.Nat.{ℕ, _/_, _^_}
+use Prim.Native.Nat.{ℕ, _*_, _/_, _^_}
 use native.Mathlib.Nat.{div-one}
 use native.Mathlib.Omega.{arith}
 use lib.ListN.{length}
@@ -47,12 +47,12 @@ module _ (d : Device) (image before : List ℕ) where
       passed = right d (length image) (imageBytes d) (length before) (readoutBytes d) (accepted tt) (readoutOf d image) before k x ex hx y ey
 
 whole : (d : Device) (image before after : List ℕ) → known d ≡ true → length image ≡ imageBytes d → length before ≡ readoutBytes d
-    → after ≡ sets before 0 (cut (widths d) (number image / 2 ^ 0)) → after ≡ readoutOf d image
+    → after ≡ sets before 0 (cut (widths d) (number image / 2 ^ (0 * 8))) → after ≡ readoutOf d image
 whole d image before after k ei er e =
     e ∙ rw (div-one (number image), readout-cut d image k ei) (sets-whole before (readoutOf d image) (er ∙ sym (readout-length d image)))
 
 all-passed : (d : Device) (image before after : List ℕ) (x y : ℕ) → known d ≡ true → x ≡ imageBytes d → length image ≡ x → y ≡ readoutBytes d → length before ≡ y
-    → after ≡ sets before 0 (cut (widths d) (number image / 2 ^ 0)) → At d image before (accepted tt) after
+    → after ≡ sets before 0 (cut (widths d) (number image / 2 ^ (0 * 8))) → At d image before (accepted tt) after
 all-passed d image before after x y k ex hx ey hy f =
     passed d image before k x ex hx y ey hy (accepted tt) refl after (whole d image before after k (hx ∙ ex) (hy ∙ ey) f)
 

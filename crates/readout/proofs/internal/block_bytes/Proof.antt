@@ -3,7 +3,7 @@
 use native.Mathlib.Omega.{arith}
 use borrow.Author.Needs.{needs}
 use Rattle.part.proofs.Devices.{blocks-small}
-use Rattle.readout.proofs.Rows.{block-size}
+use Rattle.readout.proofs.Sizes.{block-size}
 use Rattle.readout.proofs.internal.block_bytes.Statement.{statement}
 use Rattle.readout.proofs.internal.block_bytes.Tie as tie
 

@@ -4,8 +4,8 @@ use mathlib.Core.Path.{refl}
 use mathlib.Core.Bool.{true, false}
 use native.Mathlib.Omega.{arith}
 use borrow.Author.Needs.{needs}
-use Rattle.readout.proofs.Rows.{block-size}
-use Rattle.readout.proofs.RowsIn.{main-pair, wire-and-pair, block-whole, block-of-pairs}
+use Rattle.readout.proofs.Sizes.{block-size, block-whole, main-pair, wire-and-pair}
+use Rattle.readout.proofs.RowsIn.{block-of-pairs}
 use Rattle.readout.proofs.internal.block_in.Statement.{statement}
 use Rattle.readout.proofs.internal.block_in.Tie as tie
 

@@ -4,7 +4,7 @@ use mathlib.Core.Path.{refl}
 use mathlib.Core.Bool.{true, false}
 use native.Mathlib.Omega.{arith}
 use borrow.Author.Needs.{needs}
-use Rattle.readout.proofs.Rows.{main-size, wire-and-size, block-size}
+use Rattle.readout.proofs.Sizes.{main-size, wire-and-size, block-size}
 use Rattle.readout.proofs.Strays.{block-fine-found, block-fine-on}
 use Rattle.readout.proofs.internal.block_stray.Statement.{statement}
 use Rattle.readout.proofs.internal.block_stray.Tie as tie

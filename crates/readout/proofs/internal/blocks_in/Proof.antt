@@ -1,22 +1,19 @@
 -- `blocks_in` meets its contract: the loop of `pairs_in`, over blocks.
 -- Assumes nothing.
-use mathlib.Core.Path.{_≡_, ap}
-use Prim.Native.Nat.{ℕ, _*_, _/_}
+use mathlib.Core.Path.{_≡_}
+use Prim.Native.Nat.{_*_}
 use native.Mathlib.Omega.{arith}
 use borrow.Author.Needs.{needs}
 use Rattle.cells.specs.Cells.{total}
 use Rattle.part.specs.declared.Device.{Device}
 use Rattle.readout.specs.Widths.{blockWidths, wholeBytes}
-use Rattle.readout.proofs.RowsIn.{LeftIn, next-cells, next-bytes-in, turned-in, block-whole, blocks-begun-in, blocks-ended-in}
+use Rattle.readout.proofs.Sizes.{block-whole}
+use Rattle.readout.proofs.RowsIn.{LeftIn, next-cells, next-bytes-in, turned-in, blocks-begun-in, blocks-ended-in}
 use Rattle.readout.proofs.internal.blocks_in.Statement.{statement}
 use Rattle.readout.proofs.internal.blocks_in.Tie as tie
 
 whole : (d : Device) → total (blockWidths d) ≡ wholeBytes (blockWidths d) * 8
 whole d = block-whole d .1
-
-in-bytes : (d : Device) (fuses : ℕ) → fuses ≡ total (blockWidths d) → fuses / 8 ≡ wholeBytes (blockWidths d)
-unfolding wholeBytes
-in-bytes d fuses e = ap (λ (x : ℕ). x / 8) e
 
 abbrev Inv-loop : tie.InvT-loop
 Inv-loop d readout image₀ whole bytes a₀ b₀ left₀ image a b left =
@@ -25,8 +22,8 @@ Inv-loop d readout image₀ whole bytes a₀ b₀ left₀ image a b left =
 abbrev μ-loop : tie.MeasureT-loop
 μ-loop d readout image₀ whole bytes a₀ b₀ left₀ image a b left = left
 
-block-fuses-requires : tie.Need-block-fuses-requires Inv-loop μ-loop
-block-fuses-requires c κs = search needs
+block-image-bytes-requires : tie.Need-block-image-bytes-requires Inv-loop μ-loop
+block-image-bytes-requires c κs = search needs
 
 block-bytes-requires : tie.Need-block-bytes-requires Inv-loop μ-loop
 block-bytes-requires c κs = search needs
@@ -43,7 +40,7 @@ add-a c =
 
 add-b : tie.Need-add-b Inv-loop μ-loop
 add-b c =
-    omega (arith, next-bytes-in (c .before .before .before .before .before .loop .inv) (c .before .before .before .before .loop-test .taken), c .before .before .before .before .before .loop .inv .same, in-bytes (c .before .before .before .before .before .before .before .before .before .before .args .d) _ (c .before .before .before .before .before .before .before .block-fuses .ensures .0), c .before .before .before .before .before .before .before .before .before .before .good)
+    omega (arith, next-bytes-in (c .before .before .before .before .before .loop .inv) (c .before .before .before .before .loop-test .taken), c .before .before .before .before .before .loop .inv .same, c .before .before .before .before .before .before .before .block-image-bytes .ensures, c .before .before .before .before .before .before .before .before .before .before .good)
 
 sub-left : tie.Need-sub-left Inv-loop μ-loop
 sub-left c = omega arith
@@ -52,7 +49,7 @@ loop-less : tie.Need-loop-less Inv-loop μ-loop
 loop-less c = omega arith
 
 loop-again : tie.Need-loop-again Inv-loop μ-loop
-loop-again c = search (needs, turned-in, whole, in-bytes)
+loop-again c = search (needs, turned-in, whole)
 
 same-length : tie.Need-same-length Inv-loop μ-loop
 same-length c = search needs
@@ -66,7 +63,7 @@ blocks-in-spec =
     (tie.spec
     Inv-loop
     μ-loop
-    block-fuses-requires
+    block-image-bytes-requires
     block-bytes-requires
     loop-holds
     block-in-requires

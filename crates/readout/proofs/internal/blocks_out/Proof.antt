@@ -1,21 +1,29 @@
--- `blocks_out` meets its contract: the loop of `rows_out`, over blocks.
+-- `blocks_out` meets its contract: the loop of `pairs_out`, over blocks.
 -- Assumes nothing.
+use mathlib.Core.Path.{_≡_}
+use Prim.Native.Nat.{_*_}
 use native.Mathlib.Omega.{arith}
 use borrow.Author.Needs.{needs}
-use Rattle.readout.specs.Widths.{blockWidths}
-use Rattle.readout.proofs.Rows.{Left, next-fuses, next-bytes, turned, blocks-begun, blocks-ended, image-short}
+use Rattle.cells.specs.Cells.{total}
+use Rattle.part.specs.declared.Device.{Device}
+use Rattle.readout.specs.Widths.{blockWidths, wholeBytes}
+use Rattle.readout.proofs.Sizes.{block-whole}
+use Rattle.readout.proofs.RowsOut.{Left, next-image, next-cells, turned, blocks-begun, blocks-ended}
 use Rattle.readout.proofs.internal.blocks_out.Statement.{statement}
 use Rattle.readout.proofs.internal.blocks_out.Tie as tie
 
+whole : (d : Device) → total (blockWidths d) ≡ wholeBytes (blockWidths d) * 8
+whole d = block-whole d .1
+
 abbrev Inv-loop : tie.InvT-loop
-Inv-loop d image out₀ fuses bytes f₀ a₀ left₀ out f a left =
-    Left (blockWidths d) image out₀ out 0 0 (d .blocks) f a left
+Inv-loop d image out₀ whole bytes b₀ a₀ left₀ out b a left =
+    Left (blockWidths d) image out₀ out 0 0 (d .blocks) b a left
 
 abbrev μ-loop : tie.MeasureT-loop
-μ-loop d image out₀ fuses bytes f₀ a₀ left₀ out f a left = left
+μ-loop d image out₀ whole bytes b₀ a₀ left₀ out b a left = left
 
-block-fuses-requires : tie.Need-block-fuses-requires Inv-loop μ-loop
-block-fuses-requires c κs = search needs
+block-image-bytes-requires : tie.Need-block-image-bytes-requires Inv-loop μ-loop
+block-image-bytes-requires c κs = search needs
 
 block-bytes-requires : tie.Need-block-bytes-requires Inv-loop μ-loop
 block-bytes-requires c κs = search needs
@@ -24,15 +32,15 @@ loop-holds : tie.Need-loop-holds Inv-loop μ-loop
 loop-holds c = search (needs, blocks-begun)
 
 block-out-requires : tie.Need-block-out-requires Inv-loop μ-loop
-block-out-requires c κs = search (needs, next-fuses, next-bytes, image-short)
+block-out-requires c κs = search (needs, next-image, next-cells)
 
-add-f : tie.Need-add-f Inv-loop μ-loop
-add-f c =
-    omega (arith, next-fuses (c .before .before .before .before .before .loop .inv) (c .before .before .before .before .loop-test .taken), c .before .before .before .before .before .before .before .block-fuses .ensures, image-short (c .before .before .before .before .before .before .before .before .before .before .args .d) (c .before .before .before .before .before .before .before .before .before .before .args .image .now) (c .before .before .before .before .before .before .before .before .before .before .pre .0) (c .before .before .before .before .before .before .before .before .before .before .pre .1))
+add-b : tie.Need-add-b Inv-loop μ-loop
+add-b c =
+    omega (arith, next-image (c .before .before .before .before .before .loop .inv) (c .before .before .before .before .loop-test .taken), c .before .before .before .before .before .before .before .block-image-bytes .ensures, c .before .before .before .before .before .before .before .before .before .before .good)
 
 add-a : tie.Need-add-a Inv-loop μ-loop
 add-a c =
-    omega (arith, next-bytes (c .before .before .before .before .before .loop .inv) (c .before .before .before .before .loop-test .taken), c .before .before .before .before .before .loop .inv .same, c .before .before .before .before .before .before .block-bytes .ensures, c .before .before .before .before .before .before .before .before .before .before .good)
+    omega (arith, next-cells (c .before .before .before .before .before .loop .inv) (c .before .before .before .before .loop-test .taken), c .before .before .before .before .before .loop .inv .same, c .before .before .before .before .before .before .block-bytes .ensures, c .before .before .before .before .before .before .before .before .before .before .good)
 
 sub-left : tie.Need-sub-left Inv-loop μ-loop
 sub-left c = omega arith
@@ -41,7 +49,7 @@ loop-less : tie.Need-loop-less Inv-loop μ-loop
 loop-less c = omega arith
 
 loop-again : tie.Need-loop-again Inv-loop μ-loop
-loop-again c = search (needs, turned)
+loop-again c = search (needs, turned, whole)
 
 same-length : tie.Need-same-length Inv-loop μ-loop
 same-length c = search needs
@@ -55,11 +63,11 @@ blocks-out-spec =
     (tie.spec
     Inv-loop
     μ-loop
-    block-fuses-requires
+    block-image-bytes-requires
     block-bytes-requires
     loop-holds
     block-out-requires
-    add-f
+    add-b
     add-a
     sub-left
     loop-less

@@ -1,18 +1,12 @@
--- `main_row_out` meets its contract: the words are the row's, and so are the cells.
+-- `main_row_out` meets its contract: three words, cut into 4 and 5 bytes of 8 bits and 6 of 6.
 -- Assumes nothing.
-use Rattle.readout.proofs.Rows.{main-row}
 use borrow.Author.Needs.{needs}
+use Rattle.readout.proofs.RowsOut.{main-row}
 use Rattle.readout.proofs.internal.main_row_out.Statement.{statement}
 use Rattle.readout.proofs.internal.main_row_out.Tie as tie
 
-cast-shift : tie.Need-cast-shift
-cast-shift c = search needs
-
 joined-requires : tie.Need-joined-requires
 joined-requires c κs = search needs
-
-cast-put-cells : tie.Need-cast-put-cells
-cast-put-cells c = search needs
 
 shr-put-cells : tie.Need-shr-put-cells
 shr-put-cells c = search needs
@@ -25,9 +19,6 @@ add-joined c = search needs
 
 joined-requires-2 : tie.Need-joined-requires-2
 joined-requires-2 c κs = search needs
-
-cast-put-cells-2 : tie.Need-cast-put-cells-2
-cast-put-cells-2 c = search needs
 
 shr-put-cells-2 : tie.Need-shr-put-cells-2
 shr-put-cells-2 c = search needs
@@ -43,9 +34,6 @@ add-joined-2 c = search needs
 
 joined-requires-3 : tie.Need-joined-requires-3
 joined-requires-3 c κs = search needs
-
-cast-put-cells-3 : tie.Need-cast-put-cells-3
-cast-put-cells-3 c = search needs
 
 shr-put-cells-3 : tie.Need-shr-put-cells-3
 shr-put-cells-3 c = search needs
@@ -66,20 +54,16 @@ pub main-row-out-spec : {M : Type 1} → statement M
 main-row-out-spec =
     tie.close
     (tie.spec
-    cast-shift
     joined-requires
-    cast-put-cells
     shr-put-cells
     put-cells-requires
     add-joined
     joined-requires-2
-    cast-put-cells-2
     shr-put-cells-2
     add-put-cells
     put-cells-requires-2
     add-joined-2
     joined-requires-3
-    cast-put-cells-3
     shr-put-cells-3
     add-put-cells-2
     put-cells-requires-3

@@ -2,7 +2,7 @@
 -- Assumes nothing.
 use native.Mathlib.Omega.{arith}
 use borrow.Author.Needs.{needs}
-use Rattle.readout.proofs.RowsIn.{main-pair, wire-and-pair}
+use Rattle.readout.proofs.Sizes.{main-pair, wire-and-pair}
 use Rattle.readout.proofs.internal.pair_in.Statement.{statement}
 use Rattle.readout.proofs.internal.pair_in.Tie as tie
 

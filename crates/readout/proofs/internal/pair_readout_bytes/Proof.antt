@@ -1,7 +1,7 @@
 -- `pair_readout_bytes` meets its contract, by the two kinds of row.
 -- Assumes nothing.
 use native.Mathlib.Omega.{arith}
-use Rattle.readout.proofs.RowsIn.{main-pair, wire-and-pair}
+use Rattle.readout.proofs.Sizes.{main-pair, wire-and-pair}
 use Rattle.readout.proofs.internal.pair_readout_bytes.Statement.{statement}
 use Rattle.readout.proofs.internal.pair_readout_bytes.Tie as tie
 

@@ -1,4 +1,4 @@
--- `pairs_in` meets its contract: the loop of `rows_out`, the other way.
+-- `pairs_in` meets its contract: the loop of `pairs_out`, the other way.
 -- Assumes nothing.
 use mathlib.Core.Path.{_≡_}
 use mathlib.Core.Bool.{Bool}
@@ -7,7 +7,8 @@ use native.Mathlib.Omega.{arith}
 use borrow.Author.Needs.{needs}
 use Rattle.cells.specs.Cells.{total}
 use Rattle.readout.specs.Widths.{pairWidths, wholeBytes}
-use Rattle.readout.proofs.RowsIn.{LeftIn, begun-in, next-cells, next-bytes-in, turned-in, ended-in, pair-size}
+use Rattle.readout.proofs.Sizes.{pair-size}
+use Rattle.readout.proofs.RowsIn.{LeftIn, begun-in, next-cells, next-bytes-in, turned-in, ended-in}
 use Rattle.readout.proofs.internal.pairs_in.Statement.{statement}
 use Rattle.readout.proofs.internal.pairs_in.Tie as tie
 

@@ -3,7 +3,7 @@
 use native.Mathlib.Omega.{arith}
 use borrow.Author.Needs.{needs}
 use Rattle.readout.specs.Widths.{strayMask}
-use Rattle.readout.proofs.Rows.{main-size, wire-and-size}
+use Rattle.readout.proofs.Sizes.{main-size, wire-and-size}
 use Rattle.readout.proofs.Strays.{main-row-fine, wire-and-row-fine}
 use Rattle.readout.proofs.internal.row_stray.Statement.{statement}
 use Rattle.readout.proofs.internal.row_stray.Tie as tie

@@ -1,18 +1,12 @@
--- `wire_and_row_out` meets its contract: the words are the row's, and so are the cells.
+-- `wire_and_row_out` meets its contract: one word, cut into a byte of 8 bits and 4 of 7.
 -- Assumes nothing.
-use Rattle.readout.proofs.Rows.{wire-and-row}
 use borrow.Author.Needs.{needs}
+use Rattle.readout.proofs.RowsOut.{wire-and-row}
 use Rattle.readout.proofs.internal.wire_and_row_out.Statement.{statement}
 use Rattle.readout.proofs.internal.wire_and_row_out.Tie as tie
 
-cast-shift : tie.Need-cast-shift
-cast-shift c = search needs
-
 joined-requires : tie.Need-joined-requires
 joined-requires c κs = search needs
-
-cast-word : tie.Need-cast-word
-cast-word c = search needs
 
 shr-word : tie.Need-shr-word
 shr-word c = search needs
@@ -36,9 +30,7 @@ pub wire-and-row-out-spec : {M : Type 1} → statement M
 wire-and-row-out-spec =
     tie.close
     (tie.spec
-    cast-shift
     joined-requires
-    cast-word
     shr-word
     put-cells-requires
     add-put-cells
