@@ -36,5 +36,7 @@ pub fn zero_count(d: Device, image: &[u8]) -> NumberAnswer
         return NumberAnswer::Refused(Refusal::WrongLength);
     }
     let fuses = part::internal::fuse_count(d);
-    NumberAnswer::Number(fuses - internal::ones_of(image) as u32)
+    let ones = internal::ones_of(image) as u32;
+    let zeros = fuses - ones;
+    NumberAnswer::Number(zeros)
 }

@@ -43,7 +43,8 @@ pub fn readout_to_image(d: Device, readout: &[u8], image: &mut [u8]) -> DoneAnsw
     }
     let stray = internal::first_stray(d, readout);
     if stray < readout.len() {
-        return DoneAnswer::Refused(Refusal::StrayBit(stray as u32));
+        let index = stray as u32;
+        return DoneAnswer::Refused(Refusal::StrayBit(index));
     }
     internal::blocks_in(d, readout, image);
     DoneAnswer::Done

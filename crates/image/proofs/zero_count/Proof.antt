@@ -65,12 +65,12 @@ ones-of-requires : tie.Need-ones-of-requires
 ones-of-requires c κs =
     short _ (c .before .before .before .before .before .before .args .image .now) _ (is-known _ _ (c .before .before .before .before .is-known .ensures) (c .before .before .before .if1 .left)) (c .before .before .image-bytes .ensures) (c .before .if2 .left)
 
-cast-t8 : tie.Need-cast-t8
-cast-t8 c =
+cast-ones : tie.Need-cast-ones
+cast-ones c =
     few _ _ _ (is-known _ _ (c .before .before .before .before .before .is-known .ensures) (c .before .before .before .before .if1 .left)) (c .before .before .before .image-bytes .ensures) (c .before .before .if2 .left) _ (c .ones-of .ensures)
 
-sub-t12 : tie.Need-sub-t12
-sub-t12 c =
+sub-zeros : tie.Need-sub-zeros
+sub-zeros c =
     within _ _ _ (is-known _ _ (c .before .before .before .before .before .is-known .ensures) (c .before .before .before .before .if1 .left)) (c .before .before .before .image-bytes .ensures) (c .before .before .if2 .left) _ (c .ones-of .ensures) _ (c .before .fuse-count .ensures)
 
 returns-3 : tie.Need-returns-3
@@ -91,6 +91,6 @@ zero-count-spec =
     returns-2
     fuse-count-requires
     ones-of-requires
-    cast-t8
-    sub-t12
+    cast-ones
+    sub-zeros
     returns-3)

@@ -105,8 +105,8 @@ returns-3 c = search (needs, is-known, second-length)
 first-stray-requires : tie.Need-first-stray-requires
 first-stray-requires c κs = (search (needs, is-known), omega arith)
 
-cast-t13 : tie.Need-cast-t13
-cast-t13 c = search needs
+cast-index : tie.Need-cast-index
+cast-index c = search needs
 
 returns-4 : tie.Need-returns-4
 returns-4 c = search (needs, is-known, a-stray-refused)
@@ -133,7 +133,7 @@ readout-to-image-spec =
     cast-if3
     returns-3
     first-stray-requires
-    cast-t13
+    cast-index
     returns-4
     blocks-in-requires
     same-length
