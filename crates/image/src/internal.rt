@@ -23,7 +23,8 @@ pub fn set_bit(bytes: &mut [u8], index: usize, bit: u32, state: u32)
     let above = x >> bit;
     let below = cells::internal::low_bits(x, bit);
     let changed = above / 2 * 2 + state as u64;
-    bytes[index] = ((changed << bit) + below) as u8;
+    let byte = ((changed << bit) + below) as u8;
+    bytes[index] = byte;
 }
 
 // The sum of the bytes, of which the low 16 bits are kept.

@@ -65,14 +65,14 @@ mul-changed c = search (needs, above, c .before .slice-known2 .given)
 add-changed : tie.Need-add-changed
 add-changed c = search (needs, above-state, c .before .slice-known2 .given)
 
-shl-bytes : tie.Need-shl-bytes
-shl-bytes c = search needs
+shl-byte : tie.Need-shl-byte
+shl-byte c = search needs
 
-add-bytes : tie.Need-add-bytes
-add-bytes c = search (needs, fits64, c .before .slice-known2 .given)
+add-byte : tie.Need-add-byte
+add-byte c = search (needs, fits64, c .before .slice-known2 .given)
 
-cast-bytes : tie.Need-cast-bytes
-cast-bytes c = search (needs, fits8, c .before .slice-known2 .given)
+cast-byte : tie.Need-cast-byte
+cast-byte c = search (needs, fits8, c .before .slice-known2 .given)
 
 slice-write-bytes : tie.Need-slice-write-bytes
 slice-write-bytes c = search needs
@@ -93,9 +93,9 @@ set-bit-spec =
     low-bits-requires
     mul-changed
     add-changed
-    shl-bytes
-    add-bytes
-    cast-bytes
+    shl-byte
+    add-byte
+    cast-byte
     slice-write-bytes
     same-length
     returns)
