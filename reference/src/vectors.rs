@@ -3,7 +3,10 @@
 
 use crate::conversion::{address_of_fuse, fuse_of_address};
 use crate::device::{Answer, Device, Refusal, SMALL};
-use crate::image::{fuse_count, image_bytes, readout_bytes};
+use crate::image::{
+    fuse_count, fuse_sum, image_bytes, image_to_readout, readout_bytes, readout_to_image,
+    zero_count,
+};
 use crate::jedec_writer::text_bytes;
 use std::fmt::Write;
 
@@ -11,7 +14,10 @@ use std::fmt::Write;
 type Program = (&'static str, fn() -> String);
 
 /// Every vectors program.
-pub const PROGRAMS: &[Program] = &[("part_vectors", part_vectors)];
+pub const PROGRAMS: &[Program] = &[
+    ("part_vectors", part_vectors),
+    ("readout_vectors", readout_vectors),
+];
 
 /// A digest of many words: for each, 1000003 times the digest plus the word, modulo a prime.
 struct Digest {
@@ -117,6 +123,71 @@ fn part_vectors() -> String {
             by_address.value,
         )
         .unwrap();
+    }
+    lines
+}
+
+/// Bytes that look random: bits 16 to 23 of the words after the seed.
+fn fill(bytes: &mut [u8], seed: u64) {
+    let mut word = seed;
+    for byte in bytes {
+        word = (word * 1_103_515_245 + 12_345) % (1 << 31);
+        *byte = (word >> 16) as u8;
+    }
+}
+
+/// The digest of the bytes that a call was lent, and its answer.
+fn passage(answer: Answer<()>, bytes: &[u8]) -> String {
+    let mut digest = Digest::new();
+    for &byte in bytes {
+        digest.take_in(u64::from(byte));
+    }
+    let word = word(answer.map(|()| 0));
+    format!(
+        "{} refused {} result {}",
+        digest.value,
+        word >> 56,
+        word % (1 << 56)
+    )
+}
+
+/// The sums, the counts and the passages of one device with slices of these lengths.
+fn passages(device: Device, image_length: usize, readout_length: usize) -> String {
+    let mut image = vec![0; image_length];
+    let mut readout = vec![0; readout_length];
+    fill(&mut image, 1);
+    fill(&mut readout, 2);
+    let sum = word(fuse_sum(device, &image).map(u64::from));
+    let zeros = word(zero_count(device, &image).map(u64::from));
+    let out = passage(image_to_readout(device, &image, &mut readout), &readout);
+    fill(&mut image, 3);
+    let back = passage(readout_to_image(device, &readout, &mut image), &image);
+    readout[readout_length - 1] = 255;
+    let last = passage(readout_to_image(device, &readout, &mut image), &image);
+    fill(&mut readout, 4);
+    let stray = passage(readout_to_image(device, &readout, &mut image), &image);
+    format!(
+        "image {image_length} readout {readout_length} sum {sum} zeros {zeros} \
+         out {out} back {back} last {last} stray {stray}"
+    )
+}
+
+/// Images and readouts of each device, with lengths one less, right and one more.
+fn readout_vectors() -> String {
+    let smallest = Device {
+        blocks: 2,
+        class: SMALL,
+    };
+    let mut lines = String::new();
+    for device in devices_and_others() {
+        let Device { blocks, class } = device;
+        let sized = if device.is_known() { device } else { smallest };
+        let image = image_bytes(sized).unwrap();
+        let readout = readout_bytes(sized).unwrap();
+        for k in 0..9 {
+            let answers = passages(device, image - 1 + k % 3, readout - 1 + k / 3);
+            writeln!(lines, "blocks {blocks} class {class} {answers}").unwrap();
+        }
     }
     lines
 }

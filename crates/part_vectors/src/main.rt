@@ -25,21 +25,16 @@ fn sizes(blocks: u32, class: u32) {
     vectors::end_line();
 }
 
-// A word of the C interface: its refusal, or its result.
-fn word(w: u64) {
-    vectors::put(b" refused", w >> 56);
-    vectors::put(b" result", w % 72057594037927936);
-    vectors::end_line();
-}
-
 fn fuse(f: u32) {
     vectors::put(b"fuse", f as u64);
-    word(capi::xc9500_address_of_fuse(2, 0, f));
+    vectors::put_answer(capi::xc9500_address_of_fuse(2, 0, f));
+    vectors::end_line();
 }
 
 fn address(a: u32) {
     vectors::put(b"address", a as u64);
-    word(capi::xc9500_fuse_of_address(2, 0, a, 0));
+    vectors::put_answer(capi::xc9500_fuse_of_address(2, 0, a, 0));
+    vectors::end_line();
 }
 
 fn bench_cases() {
