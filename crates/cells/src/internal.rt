@@ -28,6 +28,31 @@ pub fn joined(cells: &[u8], at: usize, width: u32, count: usize) -> u64
     word
 }
 
+// One more byte taken into a word of `k` bytes.
+fn byte_taken(bytes: &[u8], at: usize, k: usize, word: u64) -> u64
+    requires { ⌜ (at + k < length (now bytes)) × (k < 8) × (word ≡ join (replicate k 8) (drop at (now bytes))) ⌝ }
+    ensures { λ r. ⌜ r ≡ join (replicate (k + 1) 8) (drop at (now (bytes .entry))) ⌝ }
+{
+    let byte = bytes[at + k] as u64;
+    let there = byte << (k * 8);
+    word + there
+}
+
+// `joined(bytes, at, 8, 8)`, written out: so it compiles to one load.
+pub fn word8(bytes: &[u8], at: usize) -> u64
+    requires { ⌜ at + 8 ≤ length (now bytes) ⌝ }
+    ensures { λ r. ⌜ r ≡ join (replicate 8 8) (drop at (now (bytes .entry))) ⌝ }
+{
+    let one = byte_taken(bytes, at, 0, 0);
+    let two = byte_taken(bytes, at, 1, one);
+    let three = byte_taken(bytes, at, 2, two);
+    let four = byte_taken(bytes, at, 3, three);
+    let five = byte_taken(bytes, at, 4, four);
+    let six = byte_taken(bytes, at, 5, five);
+    let seven = byte_taken(bytes, at, 6, six);
+    byte_taken(bytes, at, 7, seven)
+}
+
 // The low bits of a word put into `count` cells from index `at` on, lowest bits first.
 pub fn put_cells(word: u64, width: u32, count: usize, out: &mut [u8], at: usize)
     requires { ⌜ (at + count ≤ length (now out)) × (width ≤ 8) ⌝ }

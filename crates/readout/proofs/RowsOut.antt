@@ -16,48 +16,49 @@ use Rattle.part.specs.declared.Device.{Device}
 use Rattle.readout.specs.Widths.{rowWidths, pairWidths, blockWidths, widths, wholeBytes}
 use Rattle.readout.proofs.Sizes.{room, pairs-of-block, main-total, main-length, main-whole, device-size, device-whole}
 
--- cells of a word that starts `past` bits behind a bit of a byte
-from-bit : (image ws : List ℕ) (byte shift past p k w : ℕ) → p + k ≤ length image → shift + total ws ≤ k * 8 → p * 8 ≡ byte * 8 + past
-    → w ≡ join (replicate k 8) (drop p image) → cut ws (w / 2 ^ shift) ≡ cut ws (number image / 2 ^ (byte * 8 + shift) / 2 ^ past)
-from-bit image ws byte shift past p k w h g e f =
-    let there : p * 8 + shift ≡ byte * 8 + shift + past = omega arith in
-    rw f (piece image ws p shift k h g ∙ ap (λ (t : ℕ). cut ws (number image / 2 ^ t)) there ∙ ap (cut ws) (sym (shr-shr (number image) (byte * 8 + shift) past)))
+-- cells of a word of eight bytes, behind some bits of it, where they lie `past` bits behind a start
+from-bit : (image ws : List ℕ) (start past p skip w : ℕ) → p + 8 ≤ length image → skip + total ws ≤ 64 → p * 8 + skip ≡ start + past
+    → w ≡ join (replicate 8 8) (drop p image) → cut ws (w / 2 ^ skip) ≡ cut ws (number image / 2 ^ start / 2 ^ past)
+from-bit image ws start past p skip w h g e f =
+    rw f (piece image ws p skip 8 h g ∙ ap (λ (t : ℕ). cut ws (number image / 2 ^ t)) e ∙ ap (cut ws) (sym (shr-shr (number image) start past)))
 
 pub main-row : (image out one two three : List ℕ) (byte shift at u v w : ℕ) → shift ≤ 4 → byte + 14 ≤ length image
-    → u ≡ join (replicate 5 8) (drop byte image) → one ≡ sets out at (cut (replicate 4 8) (u / 2 ^ shift))
-    → v ≡ join (replicate 6 8) (drop (byte + 4) image) → two ≡ sets one (at + 4) (cut (replicate 5 8) (v / 2 ^ shift))
-    → w ≡ join (replicate 5 8) (drop (byte + 9) image) → three ≡ sets two (at + 9) (cut (replicate 6 6) (w / 2 ^ shift))
+    → u ≡ join (replicate 8 8) (drop byte image) → one ≡ sets out at (cut (replicate 4 8) (u / 2 ^ shift))
+    → v ≡ join (replicate 8 8) (drop (byte + 4) image) → two ≡ sets one (at + 4) (cut (replicate 5 8) (v / 2 ^ shift))
+    → w ≡ join (replicate 8 8) (drop (byte + 6) image) → three ≡ sets two (at + 9) (cut (replicate 6 6) (w / 2 ^ (shift + 24)))
     → three ≡ sets out at (cut (rowWidths true) (number image / 2 ^ (byte * 8 + shift)))
 unfolding rowWidths total
 main-row image out one two three byte shift at u v w q h eu e1 ev e2 ew e3 =
-    let x = number image / 2 ^ (byte * 8 + shift) in
-    let c1 : cut (replicate 4 8) (u / 2 ^ shift) ≡ cut (replicate 4 8) x = from-bit image (replicate 4 8) byte shift 0 byte 5 u (omega arith) (omega arith) (omega arith) eu ∙ ap (cut (replicate 4 8)) (div-one x) in
-    let c2 = from-bit image (replicate 5 8) byte shift 32 (byte + 4) 6 v (omega arith) (omega arith) (omega arith) ev in
-    let c3 = from-bit image (replicate 6 6) byte shift 72 (byte + 9) 5 w (omega arith) (omega arith) (omega arith) ew in
+    let start = byte * 8 + shift in
+    let x = number image / 2 ^ start in
+    let c1 : cut (replicate 4 8) (u / 2 ^ shift) ≡ cut (replicate 4 8) x = from-bit image (replicate 4 8) start 0 byte shift u (omega arith) (omega arith) (omega arith) eu ∙ ap (cut (replicate 4 8)) (div-one x) in
+    let c2 = from-bit image (replicate 5 8) start 32 (byte + 4) shift v (omega arith) (omega arith) (omega arith) ev in
+    let c3 = from-bit image (replicate 6 6) start 72 (byte + 6) (shift + 24) w (omega arith) (omega arith) (omega arith) ew in
     e3
     ∙ rw (c3, e2, c2, e1, c1)
     (ap (λ (l : List ℕ). sets l (at + 9) (cut (replicate 6 6) (x / 2 ^ 72))) (cut-sets out (replicate 4 8) (replicate 5 8) at x 4 32 refl refl)
     ∙ cut-sets out (replicate 9 8) (replicate 6 6) at x 9 72 refl refl)
 
-pub wire-and-row : (image out one two : List ℕ) (byte shift at u : ℕ) → shift ≤ 4 → byte + 5 ≤ length image
-    → u ≡ join (replicate 5 8) (drop byte image) → one ≡ sets out at (cut (replicate 1 8) (u / 2 ^ shift))
+pub wire-and-row : (image out one two : List ℕ) (byte shift at u : ℕ) → shift ≤ 28 → byte + 8 ≤ length image
+    → u ≡ join (replicate 8 8) (drop byte image) → one ≡ sets out at (cut (replicate 1 8) (u / 2 ^ shift))
     → two ≡ sets one (at + 1) (cut (replicate 4 7) (u / 2 ^ shift / 2 ^ 8))
     → two ≡ sets out at (cut (rowWidths false) (number image / 2 ^ (byte * 8 + shift)))
 unfolding rowWidths total
 wire-and-row image out one two byte shift at u q h eu e1 e2 =
-    let x = number image / 2 ^ (byte * 8 + shift) in
-    let whole : cut (rowWidths false) (u / 2 ^ shift) ≡ cut (rowWidths false) x = from-bit image (rowWidths false) byte shift 0 byte 5 u (omega arith) (omega arith) (omega arith) eu ∙ ap (cut (rowWidths false)) (div-one x) in
+    let start = byte * 8 + shift in
+    let x = number image / 2 ^ start in
+    let whole : cut (rowWidths false) (u / 2 ^ shift) ≡ cut (rowWidths false) x = from-bit image (rowWidths false) start 0 byte shift u (omega arith) (omega arith) (omega arith) eu ∙ ap (cut (rowWidths false)) (div-one x) in
     e2 ∙ rw e1 (cut-sets out (replicate 1 8) (replicate 4 7) at (u / 2 ^ shift) 1 8 refl refl ∙ ap (sets out at) whole)
 
 -- two rows, of which the second starts in the middle of a byte
-pair-of : (main : Bool) (image out one two : List ℕ) (byte at k n t : ℕ) → length (rowWidths main) ≡ n → total (rowWidths main) ≡ t → t ≡ k * 8 + 4
+pair-of : (main : Bool) (image out one two : List ℕ) (byte at k shift n t : ℕ) → length (rowWidths main) ≡ n → total (rowWidths main) ≡ t → t ≡ k * 8 + shift
     → one ≡ sets out at (cut (rowWidths main) (number image / 2 ^ (byte * 8 + 0)))
-    → two ≡ sets one (at + n) (cut (rowWidths main) (number image / 2 ^ ((byte + k) * 8 + 4)))
+    → two ≡ sets one (at + n) (cut (rowWidths main) (number image / 2 ^ ((byte + k) * 8 + shift)))
     → two ≡ sets out at (cut (pairWidths main) (number image / 2 ^ (byte * 8)))
 unfolding pairWidths
-pair-of main image out one two byte at k n t en et ek e1 e2 =
+pair-of main image out one two byte at k shift n t en et ek e1 e2 =
     let start : byte * 8 + 0 ≡ byte * 8 = omega arith in
-    let second : (byte + k) * 8 + 4 ≡ byte * 8 + t = omega arith in
+    let second : (byte + k) * 8 + shift ≡ byte * 8 + t = omega arith in
     e2
     ∙ rw (e1, start, second, ← shr-shr (number image) (byte * 8) t)
     (cut-sets out (rowWidths main) (rowWidths main) at (number image / 2 ^ (byte * 8)) n t en et)
@@ -67,14 +68,14 @@ pub main-pair-out : (main : Bool) (image out one two : List ℕ) (byte at : ℕ)
     → two ≡ sets one (at + 15) (cut (rowWidths true) (number image / 2 ^ ((byte + 13) * 8 + 4)))
     → two ≡ sets out at (cut (pairWidths main) (number image / 2 ^ (byte * 8)))
 unfolding rowWidths total
-main-pair-out main image out one two byte at e e1 e2 = rw e (pair-of true image out one two byte at 13 15 108 refl refl refl e1 e2)
+main-pair-out main image out one two byte at e e1 e2 = rw e (pair-of true image out one two byte at 13 4 15 108 refl refl refl e1 e2)
 
 pub wire-and-pair-out : (main : Bool) (image out one two : List ℕ) (byte at : ℕ) → main ≡ false
     → one ≡ sets out at (cut (rowWidths false) (number image / 2 ^ (byte * 8 + 0)))
-    → two ≡ sets one (at + 5) (cut (rowWidths false) (number image / 2 ^ ((byte + 4) * 8 + 4)))
+    → two ≡ sets one (at + 5) (cut (rowWidths false) (number image / 2 ^ ((byte + 1) * 8 + 28)))
     → two ≡ sets out at (cut (pairWidths main) (number image / 2 ^ (byte * 8)))
 unfolding rowWidths total
-wire-and-pair-out main image out one two byte at e e1 e2 = rw e (pair-of false image out one two byte at 4 5 36 refl refl refl e1 e2)
+wire-and-pair-out main image out one two byte at e e1 e2 = rw e (pair-of false image out one two byte at 1 28 5 36 refl refl refl e1 e2)
 
 -- A loop that stores `count` times the cells of `ws`, cut from an image's number from a byte on: what holds when `left` times are
 -- still to come. The stores of what is left, made now, give what all give; and there is room for them.

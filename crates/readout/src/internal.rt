@@ -1,4 +1,4 @@
-// The passages two rows at a time: a row is not whole bytes of an image, and two are. At most six bytes hold what a word takes.
+// The passages two rows at a time: a row is not whole bytes of an image, and two are.
 // Nothing here is part of the public interface.
 ghost use mathlib.Core.Path.{_≡_};
 ghost use mathlib.Core.Bool.{true, false};
@@ -10,6 +10,7 @@ ghost use Rattle.part.specs.Device.{known, imageBytes, readoutBytes};
 ghost use Rattle.readout.specs.Widths.{rowWidths, pairWidths, blockWidths, widths, wholeBytes, bytesIn, fine, strayMask};
 use cells::internal::joined;
 use cells::internal::put_cells;
+use cells::internal::word8;
 use part::Device;
 
 // The bytes of a main row of an image that starts at a bit of a byte.
@@ -17,17 +18,17 @@ fn main_row_out(image: &[u8], byte: usize, shift: u32, out: &mut [u8], at: usize
     requires { ⌜ (shift ≤ 4) × (byte + 14 ≤ length (now image)) × (at + 15 ≤ length (now out)) ⌝ }
     ensures { λ _. ⌜ now (out .exit) ≡ sets (now (out .entry)) at (cut (rowWidths true) (number (now (image .entry)) / 2 ^ (byte * 8 + shift))) ⌝ }
 {
-    put_cells(joined(image, byte, 8, 5) >> shift, 8, 4, out, at);
-    put_cells(joined(image, byte + 4, 8, 6) >> shift, 8, 5, out, at + 4);
-    put_cells(joined(image, byte + 9, 8, 5) >> shift, 6, 6, out, at + 9);
+    put_cells(word8(image, byte) >> shift, 8, 4, out, at);
+    put_cells(word8(image, byte + 4) >> shift, 8, 5, out, at + 4);
+    put_cells(word8(image, byte + 6) >> (shift + 24), 6, 6, out, at + 9);
 }
 
-// The bytes of a wire-AND row of an image that starts at a bit of a byte.
+// The bytes of a wire-AND row of an image that starts at a bit of the eight bytes taken: the last row ends the image.
 fn wire_and_row_out(image: &[u8], byte: usize, shift: u32, out: &mut [u8], at: usize)
-    requires { ⌜ (shift ≤ 4) × (byte + 5 ≤ length (now image)) × (at + 5 ≤ length (now out)) ⌝ }
+    requires { ⌜ (shift ≤ 28) × (byte + 8 ≤ length (now image)) × (at + 5 ≤ length (now out)) ⌝ }
     ensures { λ _. ⌜ now (out .exit) ≡ sets (now (out .entry)) at (cut (rowWidths false) (number (now (image .entry)) / 2 ^ (byte * 8 + shift))) ⌝ }
 {
-    let word = joined(image, byte, 8, 5) >> shift;
+    let word = word8(image, byte) >> shift;
     put_cells(word, 8, 1, out, at);
     put_cells(word >> 8, 7, 4, out, at + 1);
 }
@@ -71,7 +72,7 @@ fn pair_out(main: bool, image: &[u8], byte: usize, out: &mut [u8], at: usize)
         main_row_out(image, byte + 13, 4, out, at + 15);
     } else {
         wire_and_row_out(image, byte, 0, out, at);
-        wire_and_row_out(image, byte + 4, 4, out, at + 5);
+        wire_and_row_out(image, byte + 1, 28, out, at + 5);
     }
 }
 

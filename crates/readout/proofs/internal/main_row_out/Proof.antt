@@ -5,8 +5,8 @@ use Rattle.readout.proofs.RowsOut.{main-row}
 use Rattle.readout.proofs.internal.main_row_out.Statement.{statement}
 use Rattle.readout.proofs.internal.main_row_out.Tie as tie
 
-joined-requires : tie.Need-joined-requires
-joined-requires c κs = search needs
+word8-requires : tie.Need-word8-requires
+word8-requires c κs = search needs
 
 shr-put-cells : tie.Need-shr-put-cells
 shr-put-cells c = search needs
@@ -14,11 +14,11 @@ shr-put-cells c = search needs
 put-cells-requires : tie.Need-put-cells-requires
 put-cells-requires c κs = search needs
 
-add-joined : tie.Need-add-joined
-add-joined c = search needs
+add-word8 : tie.Need-add-word8
+add-word8 c = search needs
 
-joined-requires-2 : tie.Need-joined-requires-2
-joined-requires-2 c κs = search needs
+word8-requires-2 : tie.Need-word8-requires-2
+word8-requires-2 c κs = search needs
 
 shr-put-cells-2 : tie.Need-shr-put-cells-2
 shr-put-cells-2 c = search needs
@@ -29,17 +29,23 @@ add-put-cells c = search needs
 put-cells-requires-2 : tie.Need-put-cells-requires-2
 put-cells-requires-2 c κs = search needs
 
-add-joined-2 : tie.Need-add-joined-2
-add-joined-2 c = search needs
+add-word8-2 : tie.Need-add-word8-2
+add-word8-2 c = search needs
 
-joined-requires-3 : tie.Need-joined-requires-3
-joined-requires-3 c κs = search needs
+word8-requires-3 : tie.Need-word8-requires-3
+word8-requires-3 c κs = search needs
+
+add-put-cells-2 : tie.Need-add-put-cells-2
+add-put-cells-2 c = search needs
+
+cast-put-cells : tie.Need-cast-put-cells
+cast-put-cells c = search needs
 
 shr-put-cells-3 : tie.Need-shr-put-cells-3
 shr-put-cells-3 c = search needs
 
-add-put-cells-2 : tie.Need-add-put-cells-2
-add-put-cells-2 c = search needs
+add-put-cells-3 : tie.Need-add-put-cells-3
+add-put-cells-3 c = search needs
 
 put-cells-requires-3 : tie.Need-put-cells-requires-3
 put-cells-requires-3 c κs = search needs
@@ -54,18 +60,20 @@ pub main-row-out-spec : {M : Type 1} → statement M
 main-row-out-spec =
     tie.close
     (tie.spec
-    joined-requires
+    word8-requires
     shr-put-cells
     put-cells-requires
-    add-joined
-    joined-requires-2
+    add-word8
+    word8-requires-2
     shr-put-cells-2
     add-put-cells
     put-cells-requires-2
-    add-joined-2
-    joined-requires-3
-    shr-put-cells-3
+    add-word8-2
+    word8-requires-3
     add-put-cells-2
+    cast-put-cells
+    shr-put-cells-3
+    add-put-cells-3
     put-cells-requires-3
     same-length
     returns)

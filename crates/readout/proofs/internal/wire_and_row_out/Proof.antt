@@ -5,8 +5,8 @@ use Rattle.readout.proofs.RowsOut.{wire-and-row}
 use Rattle.readout.proofs.internal.wire_and_row_out.Statement.{statement}
 use Rattle.readout.proofs.internal.wire_and_row_out.Tie as tie
 
-joined-requires : tie.Need-joined-requires
-joined-requires c κs = search needs
+word8-requires : tie.Need-word8-requires
+word8-requires c κs = search needs
 
 shr-word : tie.Need-shr-word
 shr-word c = search needs
@@ -30,7 +30,7 @@ pub wire-and-row-out-spec : {M : Type 1} → statement M
 wire-and-row-out-spec =
     tie.close
     (tie.spec
-    joined-requires
+    word8-requires
     shr-word
     put-cells-requires
     add-put-cells
