@@ -19,7 +19,7 @@ use Rattle.cells.specs.Cells.{join, repeat}
 use Rattle.part.proofs.Facts.{compared}
 use Rattle.readout.specs.Readout.{widthAt, strayAt, lowest}
 use Rattle.readout.specs.Widths.{rowWidths, blockWidths, widths, fine, strayMask}
-use Rattle.cells.proofs.Laws.{length-repeat}
+use Rattle.cells.proofs.Laws.{length-repeat, join-append, join-few, total-replicate}
 use Rattle.part.specs.Device.{known, readoutBytes}
 use Rattle.part.specs.declared.Device.{Device}
 use Rattle.readout.proofs.Sizes.{room, main-size, device-size}
@@ -87,6 +87,15 @@ masked-fine (suc k) w cells h bytes e =
     no-factor x w e =
         compared 0 x (λ some. absurd (omega (arith, mul-le-mul {n₁ = 1} {m₁ = 1} some (pow-pos w)))) (λ none. omega arith)
 
+-- eight bytes taken as one word, without the first two
+last-six : (cells : List ℕ) (at word : ℕ) → word ≡ join (replicate 8 8) (drop (at + 7) cells) → word / 2 ^ 16 ≡ join (replicate 6 8) (drop (at + 9) cells)
+last-six cells at word e =
+    let rest = drop (at + 7) cells in
+    let there : at + 7 + 2 ≡ at + 9 = omega arith in
+    let low : join (replicate 2 8) rest < 2 ^ 16 = join-few 2 8 2 rest (omega arith) (omega arith) in
+    let parts : word ≡ join (replicate 2 8) rest + join (replicate 6 8) (drop (at + 9) cells) * 2 ^ 16 = e ∙ join-append (replicate 2 8) (replicate 6 8) rest ∙ rw (total-replicate 2 8, drop-drop 2 (at + 7) cells, there) in
+    omega arith
+
 -- A scan of `count` times the cells of `ws`: what holds when `left` times are still to come.
 pub record Scan (ws cells : List ℕ) (at count a left : ℕ) : Type 0 where
   pub cells-left : a + left * length ws ≤ length cells
@@ -151,7 +160,7 @@ run-turned cells at width count a left now h good =
     let one : fine (width ∷ []) (drop a cells) ≡ 1 = rw (here, eq-eqb (getD cells a 0 / 2 ^ width) 0 good) in
     scan-turned now 1 (a + 1) h refl (rw one) (omega arith)
 
-pub run-clear : (cells : List ℕ) (at width count word mask : ℕ) → ((i : ℕ) → Fits w8 (getD cells i 0)) → width ≤ 8 → mask ≡ strayMask count width
+run-clear : (cells : List ℕ) (at width count word mask : ℕ) → ((i : ℕ) → Fits w8 (getD cells i 0)) → width ≤ 8 → mask ≡ strayMask count width
     → word ≡ join (replicate count 8) (drop at cells) → bitAnd word mask ≡ 0 → at + count ≡ at + fine (replicate count width) (drop at cells)
 run-clear cells at width count word mask bytes h e f z =
     let all = masked-fine count width (drop at cells) h (λ i. rw (getD-drop at cells i 0) (bytes (at + i))) (rw (← e, ← f) z) in
@@ -190,6 +199,21 @@ pub wire-and-row-fine : (readout : List ℕ) (main : Bool) (at found : ℕ) → 
     → found ≡ at + 1 + fine (replicate 4 7) (drop (at + 1) readout) → found ≡ at + fine (rowWidths main) (drop at readout)
 unfolding rowWidths
 wire-and-row-fine readout main at found h e f = rw e (row-fine readout at 1 7 4 found h f)
+
+-- no bit above in any byte of a row
+pub main-row-clear : (readout : List ℕ) (main : Bool) (at word : ℕ) → ((i : ℕ) → Fits w8 (getD readout i 0)) → main ≡ true
+    → word ≡ join (replicate 8 8) (drop (at + 7) readout) → bitAnd (word / 2 ^ 16) 0xC0C0C0C0C0C0 ≡ 0 → at + 15 ≡ at + fine (rowWidths main) (drop at readout)
+unfolding strayMask
+main-row-clear readout main at word h e f z =
+    let past : at + 15 ≡ at + 9 + 6 = omega arith in
+    main-row-fine readout main at (at + 15) h e (past ∙ run-clear readout (at + 9) 6 6 (word / 2 ^ 16) 0xC0C0C0C0C0C0 h (omega arith) refl (last-six readout at word f) z)
+
+pub wire-and-row-clear : (readout : List ℕ) (main : Bool) (at word : ℕ) → ((i : ℕ) → Fits w8 (getD readout i 0)) → main ≡ false
+    → word ≡ join (replicate 4 8) (drop (at + 1) readout) → bitAnd word 0x80808080 ≡ 0 → at + 5 ≡ at + fine (rowWidths main) (drop at readout)
+unfolding strayMask
+wire-and-row-clear readout main at word h e f z =
+    let past : at + 5 ≡ at + 1 + 4 = omega arith in
+    wire-and-row-fine readout main at (at + 5) h e (past ∙ run-clear readout (at + 1) 7 4 word 0x80808080 h (omega arith) refl f z)
 
 -- a block: the main rows, and the wire-AND rows behind them
 pub block-fine-found : (d : Device) (readout : List ℕ) (at found : ℕ) → found ≡ at + fine (repeat 72 (rowWidths true)) (drop at readout) → found < at + 1080

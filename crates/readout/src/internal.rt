@@ -7,7 +7,7 @@ ghost use lib.ListN.{length, drop, replicate};
 ghost use lib.Seq.{sets};
 ghost use Rattle.cells.specs.Cells.{cut, join, total, repeat, number};
 ghost use Rattle.part.specs.Device.{known, imageBytes, readoutBytes};
-ghost use Rattle.readout.specs.Widths.{rowWidths, pairWidths, blockWidths, widths, wholeBytes, bytesIn, fine, strayMask};
+ghost use Rattle.readout.specs.Widths.{rowWidths, pairWidths, blockWidths, widths, wholeBytes, bytesIn, fine};
 use cells::internal::joined;
 use cells::internal::put_cells;
 use cells::internal::word8;
@@ -242,15 +242,11 @@ pub fn blocks_in(d: Device, readout: &[u8], image: &mut [u8])
     }
 }
 
-// The index of the first of `count` bytes from index `at` on that has a bit above `width`, or the index behind them. `mask` has
-// these bits of all of the bytes, taken as one word: as a rule no byte has any.
-fn run_stray(readout: &[u8], at: usize, width: u32, count: usize, mask: u64) -> usize
-    requires { ⌜ (at + count ≤ length (now readout)) × (width ≤ 8) × (count ≤ 8) × (mask ≡ strayMask count width) ⌝ }
+// The index of the first of `count` bytes from index `at` on that has a bit above `width`, or the index behind them.
+fn run_stray(readout: &[u8], at: usize, width: u32, count: usize) -> usize
+    requires { ⌜ (at + count ≤ length (now readout)) × (width ≤ 8) ⌝ }
     ensures { λ r. ⌜ r ≡ at + fine (replicate count width) (drop at (now (readout .entry))) ⌝ }
 {
-    if joined(readout, at, 8, count) & mask == 0 {
-        return at + count;
-    }
     let mut a = at;
     let mut left = count;
     while 0 < left {
@@ -263,15 +259,21 @@ fn run_stray(readout: &[u8], at: usize, width: u32, count: usize, mask: u64) -> 
     a
 }
 
-// The same of a row: bytes of 8 bits have none above.
+// The same of a row. Bytes of 8 bits have none above; the others are taken as one word, and as a rule none has any.
 fn row_stray(main: bool, readout: &[u8], at: usize) -> usize
     requires { ⌜ at + length (rowWidths main) ≤ length (now readout) ⌝ }
     ensures { λ r. ⌜ r ≡ at + fine (rowWidths main) (drop at (now (readout .entry))) ⌝ }
 {
     if main {
-        return run_stray(readout, at + 9, 6, 6, 0xC0C0_C0C0_C0C0);
+        if (word8(readout, at + 7) >> 16) & 0xC0C0_C0C0_C0C0 == 0 {
+            return at + 15;
+        }
+        return run_stray(readout, at + 9, 6, 6);
     }
-    run_stray(readout, at + 1, 7, 4, 0x8080_8080)
+    if joined(readout, at + 1, 8, 4) & 0x8080_8080 == 0 {
+        return at + 5;
+    }
+    run_stray(readout, at + 1, 7, 4)
 }
 
 // The same of some rows, one after another.

@@ -2,41 +2,74 @@
 -- Assumes nothing.
 use native.Mathlib.Omega.{arith}
 use borrow.Author.Needs.{needs}
-use Rattle.readout.specs.Widths.{strayMask}
 use Rattle.readout.proofs.Sizes.{main-size, wire-and-size}
-use Rattle.readout.proofs.Strays.{main-row-fine, wire-and-row-fine}
+use Rattle.readout.proofs.Strays.{main-row-fine, main-row-clear, wire-and-row-fine, wire-and-row-clear}
 use Rattle.readout.proofs.internal.row_stray.Statement.{statement}
 use Rattle.readout.proofs.internal.row_stray.Tie as tie
+
+add-word8 : tie.Need-add-word8
+add-word8 c = search needs
+
+word8-requires : tie.Need-word8-requires
+word8-requires c κs = omega (arith, main-size (c .before .before .args .main) (c .if1 .taken), c .before .before .pre)
+
+add-result : tie.Need-add-result
+add-result c = search needs
+
+returns : tie.Need-returns
+returns c =
+    main-row-clear _ _ _ _ (c .before .before .before .shared-slice-known .given) (c .before .before .if1 .taken) (c .before .word8 .ensures) (c .if2 .taken)
 
 add-run-stray : tie.Need-add-run-stray
 add-run-stray c = search needs
 
 run-stray-requires : tie.Need-run-stray-requires
-unfolding strayMask
-run-stray-requires c κs = omega (arith, main-size (c .before .before .args .main) (c .if1 .taken), c .before .before .pre)
+run-stray-requires c κs =
+    omega (arith, main-size (c .before .before .before .before .args .main) (c .before .before .if1 .taken), c .before .before .before .before .pre)
 
-returns : tie.Need-returns
-returns c =
-    main-row-fine _ _ _ _ (c .before .before .shared-slice-known .given) (c .before .if1 .taken) (c .run-stray .ensures)
+returns-2 : tie.Need-returns-2
+returns-2 c =
+    main-row-fine _ _ _ _ (c .before .before .before .before .shared-slice-known .given) (c .before .before .before .if1 .taken) (c .run-stray .ensures)
+
+add-joined : tie.Need-add-joined
+add-joined c = search needs
+
+joined-requires : tie.Need-joined-requires
+joined-requires c κs = omega (arith, wire-and-size (c .before .before .args .main) (c .if1 .left), c .before .before .pre)
+
+add-result-2 : tie.Need-add-result-2
+add-result-2 c = search needs
+
+returns-3 : tie.Need-returns-3
+returns-3 c =
+    wire-and-row-clear _ _ _ _ (c .before .before .before .shared-slice-known .given) (c .before .before .if1 .left) (c .before .joined .ensures) (c .if3 .taken)
 
 add-run-stray-2 : tie.Need-add-run-stray-2
 add-run-stray-2 c = search needs
 
 run-stray-requires-2 : tie.Need-run-stray-requires-2
-unfolding strayMask
-run-stray-requires-2 c κs = omega (arith, wire-and-size (c .before .before .args .main) (c .if1 .left), c .before .before .pre)
+run-stray-requires-2 c κs =
+    omega (arith, wire-and-size (c .before .before .before .before .args .main) (c .before .before .if1 .left), c .before .before .before .before .pre)
 
-returns-2 : tie.Need-returns-2
-returns-2 c =
-    wire-and-row-fine _ _ _ _ (c .before .before .shared-slice-known .given) (c .before .if1 .left) (c .run-stray2 .ensures)
+returns-4 : tie.Need-returns-4
+returns-4 c =
+    wire-and-row-fine _ _ _ _ (c .before .before .before .before .shared-slice-known .given) (c .before .before .before .if1 .left) (c .run-stray2 .ensures)
 
 pub row-stray-spec : {M : Type 1} → statement M
 row-stray-spec =
     tie.close
     (tie.spec
+    add-word8
+    word8-requires
+    add-result
+    returns
     add-run-stray
     run-stray-requires
-    returns
+    returns-2
+    add-joined
+    joined-requires
+    add-result-2
+    returns-3
     add-run-stray-2
     run-stray-requires-2
-    returns-2)
+    returns-4)
