@@ -13,24 +13,60 @@ use lib.Seq.{sets, length-sets, drop-drop}
 use mir.Syntax.{w64}
 use mir.Val.{Fits}
 use Rattle.cells.specs.Cells.{cut, join, total, repeat, number}
-use Rattle.cells.proofs.Laws.{cut-append, cut-low, cut-length, cut-sets, regrouped, join-append, join-small, join-few, total-append, total-replicate, total-repeat, length-repeat, sets-append}
+use Rattle.cells.proofs.Laws.{word-at, cut-append, cut-low, cut-length, cut-sets, regrouped, join-append, join-small, join-few, total-append, total-replicate, total-repeat, length-repeat, sets-append}
 use Rattle.part.specs.Device.{known, imageBytes, readoutBytes}
 use Rattle.part.specs.declared.Device.{Device}
 use Rattle.readout.proofs.Sizes.{room, pairs-of-block, main-total, main-length, main-whole, device-size, device-whole}
 use Rattle.readout.specs.Widths.{rowWidths, pairWidths, blockWidths, widths, wholeBytes, bytesIn}
 
 -- what the code shifts is what it means
-pub shifted : (count width shift x : ℕ) (cells : List ℕ) → count ≤ 6 → width ≤ 8 → shift ≤ 4 → x ≡ join (replicate count width) cells
-    → x * 2 ^ shift % 2 ^ 64 ≡ join (replicate count width) cells * 2 ^ shift
-shifted count width shift x cells hc hw hs e =
-    rw e (shl-exact 48 shift 64 (join-few count width 6 cells hc hw) (omega arith))
+shifted : (cells shift : ℕ) → cells < 2 ^ 48 → shift ≤ 4 → cells * 2 ^ shift % 2 ^ 64 ≡ cells * 2 ^ shift
+shifted cells shift h hs = shl-exact 48 shift 64 h (omega arith)
 
-pub word-fits : (count width shift x carry : ℕ) (cells : List ℕ) → count ≤ 6 → width ≤ 8 → shift ≤ 4 → carry < 2 ^ shift
-    → x ≡ join (replicate count width) cells → Fits w64 (x * 2 ^ shift % 2 ^ 64 + carry)
-word-fits count width shift x carry cells hc hw hs h e =
-    let small : join (replicate count width) cells * 2 ^ shift + carry < 2 ^ 48 * 2 ^ shift = digits-lt (join-few count width 6 cells hc hw) h in
+pub word-fits : (cells carry shift : ℕ) → cells < 2 ^ 48 → shift ≤ 4 → carry < 2 ^ shift → Fits w64 (cells * 2 ^ shift % 2 ^ 64 + carry)
+word-fits cells carry shift h hs hc =
+    let small : cells * 2 ^ shift + carry < 2 ^ 48 * 2 ^ shift = digits-lt h hc in
     let few : 2 ^ 48 * 2 ^ shift ≤ 2 ^ 52 = subst (λ (y : ℕ). y ≤ 2 ^ 52) (pow-add 2 48 shift) (pow-mono {i = 48 + shift} {j = 52} (omega arith)) in
-    rw (shifted count width shift x cells hc hw hs e) (omega arith)
+    rw (shifted cells shift h hs) (omega arith)
+
+pub over : (cells carry shift bytes : ℕ) → cells < 2 ^ 48 → shift ≤ 4
+    → (cells * 2 ^ shift % 2 ^ 64 + carry) / 2 ^ (bytes * 8) ≡ (cells * 2 ^ shift + carry) / 2 ^ (bytes * 8)
+over cells carry shift bytes h hs = ap (λ (y : ℕ). (y + carry) / 2 ^ (bytes * 8)) (shifted cells shift h hs)
+
+pub stored : (cells carry shift byte bytes : ℕ) (out next : List ℕ) → cells < 2 ^ 48 → shift ≤ 4
+    → next ≡ sets out byte (cut (replicate bytes 8) (cells * 2 ^ shift % 2 ^ 64 + carry)) → next ≡ sets out byte (cut (replicate bytes 8) (cells * 2 ^ shift + carry))
+stored cells carry shift byte bytes out next h hs e =
+    e ∙ ap (λ (y : ℕ). sets out byte (cut (replicate bytes 8) (y + carry))) (shifted cells shift h hs)
+
+-- what a step stores and leaves over, said of the cells
+pub few : (count width x : ℕ) (cells : List ℕ) → count ≤ 6 → width ≤ 8 → x ≡ join (replicate count width) cells → x < 2 ^ 48
+few count width x cells hc hw e = rw e (join-few count width 6 cells hc hw)
+
+pub of-cells : (x cells carry shift byte bytes r : ℕ) (out next : List ℕ) → x ≡ cells → r ≡ (x * 2 ^ shift + carry) / 2 ^ (bytes * 8)
+    → next ≡ sets out byte (cut (replicate bytes 8) (x * 2 ^ shift + carry))
+    → (r ≡ (cells * 2 ^ shift + carry) / 2 ^ (bytes * 8)) × (next ≡ sets out byte (cut (replicate bytes 8) (cells * 2 ^ shift + carry)))
+of-cells x cells carry shift byte bytes r out next e f g =
+    (f ∙ ap (λ (y : ℕ). (y * 2 ^ shift + carry) / 2 ^ (bytes * 8)) e, g ∙ ap (λ (y : ℕ). sets out byte (cut (replicate bytes 8) (y * 2 ^ shift + carry))) e)
+
+first-bytes : (readout : List ℕ) (at count word x : ℕ) → at + 8 ≤ length readout → count ≤ 6 → word ≡ join (replicate 8 8) (drop at readout)
+    → x ≡ word % 2 ^ (count * 8) → x ≡ join (replicate count 8) (drop at readout)
+first-bytes readout at count word x h hc e f =
+    let n = number readout / 2 ^ (at * 8) in
+    let whole : 64 ≡ 64 - count * 8 + count * 8 = omega arith in
+    let again : n % 2 ^ 64 % 2 ^ (count * 8) ≡ n % 2 ^ (count * 8) = ap (λ (j : ℕ). n % 2 ^ j % 2 ^ (count * 8)) whole ∙ mod-mod-pow n (64 - count * 8) (count * 8) in
+    f ∙ rw (e, word-at readout at 8 h) (again ∙ sym (word-at readout at count (omega arith)))
+
+pub few-bytes : (readout : List ℕ) (at count word x : ℕ) → at + 8 ≤ length readout → count ≤ 6 → word ≡ join (replicate 8 8) (drop at readout)
+    → x ≡ word % 2 ^ (count * 8) → x < 2 ^ 48
+few-bytes readout at count word x h hc e f = few count 8 x (drop at readout) hc (omega arith) (first-bytes readout at count word x h hc e f)
+
+pub of-bytes : (readout : List ℕ) (at count word x carry shift byte bytes r : ℕ) (out next : List ℕ) → at + 8 ≤ length readout → count ≤ 6
+    → word ≡ join (replicate 8 8) (drop at readout) → x ≡ word % 2 ^ (count * 8) → r ≡ (x * 2 ^ shift + carry) / 2 ^ (bytes * 8)
+    → next ≡ sets out byte (cut (replicate bytes 8) (x * 2 ^ shift + carry))
+    → (r ≡ (join (replicate count 8) (drop at readout) * 2 ^ shift + carry) / 2 ^ (bytes * 8))
+    × (next ≡ sets out byte (cut (replicate bytes 8) (join (replicate count 8) (drop at readout) * 2 ^ shift + carry)))
+of-bytes readout at count word x carry shift byte bytes r out next h hc e f =
+    of-cells x (join (replicate count 8) (drop at readout)) carry shift byte bytes r out next (first-bytes readout at count word x h hc e f)
 
 -- One step: of the cells `cs` and then `ws`, joined above a carry of s bits, k bytes are stored and s' bits are left over; what
 -- remains to be stored, stored now, gives what all gives.

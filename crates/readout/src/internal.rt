@@ -9,6 +9,7 @@ ghost use Rattle.cells.specs.Cells.{cut, join, total, repeat, number};
 ghost use Rattle.part.specs.Device.{known, imageBytes, readoutBytes};
 ghost use Rattle.readout.specs.Widths.{rowWidths, pairWidths, blockWidths, widths, wholeBytes, bytesIn, fine};
 use cells::internal::joined;
+use cells::internal::low_bits;
 use cells::internal::put_cells;
 use cells::internal::word8;
 use part::Device;
@@ -139,8 +140,19 @@ pub fn blocks_out(d: Device, image: &[u8], out: &mut [u8])
     }
 }
 
-// Some cells joined above the bits that the cells before left over, and of that whole bytes put into an image. Answers what is
-// left over now.
+// The number that some cells join to, above the bits that the cells before left over, and of that whole bytes put into an
+// image. Answers what is left over now.
+fn put_above(cells: u64, carry: u64, shift: u32, image: &mut [u8], byte: usize, bytes: usize) -> u64
+    requires { ⌜ (cells < 2 ^ 48) × (carry < 2 ^ shift) × (shift ≤ 4) × (byte + bytes ≤ length (now image)) × (bytes ≤ 7) ⌝ }
+    ensures { λ r. ⌜ r ≡ (cells * 2 ^ shift + carry) / 2 ^ (bytes * 8) ⌝ }
+    ensures { λ _. ⌜ now (image .exit) ≡ sets (now (image .entry)) byte (cut (replicate bytes 8) (cells * 2 ^ shift + carry)) ⌝ }
+{
+    let word = (cells << shift) + carry;
+    put_cells(word, 8, bytes, image, byte);
+    word >> (bytes * 8)
+}
+
+// The same of cells of a readout.
 fn push(
     readout: &[u8],
     at: usize,
@@ -156,9 +168,40 @@ fn push(
     ensures { λ r. ⌜ r ≡ (join (replicate count width) (drop at (now (readout .entry))) * 2 ^ shift + carry) / 2 ^ (bytes * 8) ⌝ }
     ensures { λ _. ⌜ now (image .exit) ≡ sets (now (image .entry)) byte (cut (replicate bytes 8) (join (replicate count width) (drop at (now (readout .entry))) * 2 ^ shift + carry)) ⌝ }
 {
-    let word = (joined(readout, at, width, count) << shift) + carry;
-    put_cells(word, 8, bytes, image, byte);
-    word >> (bytes * 8)
+    put_above(
+        joined(readout, at, width, count),
+        carry,
+        shift,
+        image,
+        byte,
+        bytes,
+    )
+}
+
+// The same of cells of 8 bits, where eight bytes can be read: of these, `count` are taken.
+fn push_bytes(
+    readout: &[u8],
+    at: usize,
+    count: usize,
+    carry: u64,
+    shift: u32,
+    image: &mut [u8],
+    byte: usize,
+    bytes: usize,
+) -> u64
+    requires { ⌜ (at + 8 ≤ length (now readout)) × (count ≤ 6) × (carry < 2 ^ shift) × (shift ≤ 4) × (byte + bytes ≤ length (now image)) × (bytes ≤ 7) ⌝ }
+    ensures { λ r. ⌜ r ≡ (join (replicate count 8) (drop at (now (readout .entry))) * 2 ^ shift + carry) / 2 ^ (bytes * 8) ⌝ }
+    ensures { λ _. ⌜ now (image .exit) ≡ sets (now (image .entry)) byte (cut (replicate bytes 8) (join (replicate count 8) (drop at (now (readout .entry))) * 2 ^ shift + carry)) ⌝ }
+{
+    let bits = count as u32 * 8;
+    put_above(
+        low_bits(word8(readout, at), bits),
+        carry,
+        shift,
+        image,
+        byte,
+        bytes,
+    )
 }
 
 // The 27 image bytes of two main rows of a readout.
@@ -166,11 +209,11 @@ fn main_rows_in(readout: &[u8], at: usize, image: &mut [u8], byte: usize)
     requires { ⌜ (at + 30 ≤ length (now readout)) × (byte + 27 ≤ length (now image)) ⌝ }
     ensures { λ _. ⌜ now (image .exit) ≡ sets (now (image .entry)) byte (bytesIn (pairWidths true) (drop at (now (readout .entry)))) ⌝ }
 {
-    let one = push(readout, at, 8, 4, 0, 0, image, byte, 4);
-    let two = push(readout, at + 4, 8, 5, one, 0, image, byte + 4, 5);
+    let one = push_bytes(readout, at, 4, 0, 0, image, byte, 4);
+    let two = push_bytes(readout, at + 4, 5, one, 0, image, byte + 4, 5);
     let three = push(readout, at + 9, 6, 6, two, 0, image, byte + 9, 4);
-    let four = push(readout, at + 15, 8, 4, three, 4, image, byte + 13, 4);
-    let five = push(readout, at + 19, 8, 5, four, 4, image, byte + 17, 5);
+    let four = push_bytes(readout, at + 15, 4, three, 4, image, byte + 13, 4);
+    let five = push_bytes(readout, at + 19, 5, four, 4, image, byte + 17, 5);
     push(readout, at + 24, 6, 6, five, 4, image, byte + 22, 5);
 }
 
