@@ -5,10 +5,11 @@ use mathlib.Core.Bool.{Bool, true, false}
 use mathlib.Core.List.{List, [], _∷_, _++_, append-assoc}
 use Prim.Native.Nat.{ℕ, zero, suc, _+_, _*_, _-_, _/_, _%_, _^_, _≤_, _<_}
 use native.Mathlib.Omega.{arith}
-use native.Mathlib.Nat.{add-mul, mul-assoc, add-assoc, mul-comm, add-comm, suc-mul, suc-add, zero-mul, zero-add, div-eq-of-lt, add-mul-div-right, add-mul-mod-self-right}
+use native.Mathlib.Nat.{add-mul, mul-assoc, add-assoc, mul-comm, add-comm, suc-mul, suc-add, zero-mul, zero-add, div-eq-of-lt, add-mul-div-right, add-mul-mod-self-right, mod-lt}
 use lib.Arith.{digits-lt}
-use lib.ListN.{length, drop, replicate, length-append, length-replicate, replicate-append-replicate}
+use lib.ListN.{length, getD, drop, replicate, length-append, length-replicate, replicate-append-replicate}
 use lib.Pow.{pow-pos, pow-add, pow-mono, shl-exact, shr-lt, shr-shr, mod-mod-pow}
+use lib.Bits.{bitAnd, and-block, and-mask, and-zero-r}
 use lib.Seq.{sets, length-sets, drop-drop}
 use mir.Syntax.{w64}
 use mir.Val.{Fits}
@@ -67,6 +68,81 @@ pub of-bytes : (readout : List ℕ) (at count word x carry shift byte bytes r : 
     × (next ≡ sets out byte (cut (replicate bytes 8) (join (replicate count 8) (drop at readout) * 2 ^ shift + carry)))
 of-bytes readout at count word x carry shift byte bytes r out next h hc e f =
     of-cells x (join (replicate count 8) (drop at readout)) carry shift byte bytes r out next (first-bytes readout at count word x h hc e f)
+
+-- the two masks of `four_together`, field by field
+and-four : (a b c e p q r s : ℕ) → a < 2 ^ 8 → b < 2 ^ 8 → c < 2 ^ 8 → p < 2 ^ 8 → q < 2 ^ 8 → r < 2 ^ 8
+    → bitAnd (((e * 2 ^ 8 + c) * 2 ^ 8 + b) * 2 ^ 8 + a) (((s * 2 ^ 8 + r) * 2 ^ 8 + q) * 2 ^ 8 + p)
+    ≡ ((bitAnd e s * 2 ^ 8 + bitAnd c r) * 2 ^ 8 + bitAnd b q) * 2 ^ 8 + bitAnd a p
+and-four a b c e p q r s ha hb hc hp hq hr =
+    and-block 8 ((e * 2 ^ 8 + c) * 2 ^ 8 + b) ((s * 2 ^ 8 + r) * 2 ^ 8 + q) a p ha hp
+    ∙ ap (λ (x : ℕ). x * 2 ^ 8 + bitAnd a p)
+    (and-block 8 (e * 2 ^ 8 + c) (s * 2 ^ 8 + r) b q hb hq ∙ ap (λ (x : ℕ). x * 2 ^ 8 + bitAnd b q) (and-block 8 e s c r hc hr))
+
+flat : (a b c e : ℕ) → ((e * 2 ^ 8 + c) * 2 ^ 8 + b) * 2 ^ 8 + a ≡ a + b * 2 ^ 8 + c * 2 ^ 16 + e * 2 ^ 24
+flat a b c e = omega arith
+
+pub low-fields : (w : ℕ) → w < 2 ^ 32
+    → bitAnd w 0x7F7F7F7F ≡ w % 2 ^ 7 + w / 2 ^ 8 % 2 ^ 7 * 2 ^ 8 + w / 2 ^ 16 % 2 ^ 7 * 2 ^ 16 + w / 2 ^ 24 % 2 ^ 7 * 2 ^ 24
+low-fields w h =
+    let a = w % 2 ^ 8 in
+    let b = w / 2 ^ 8 % 2 ^ 8 in
+    let c = w / 2 ^ 16 % 2 ^ 8 in
+    let e = w / 2 ^ 24 in
+    let parts : w ≡ ((e * 2 ^ 8 + c) * 2 ^ 8 + b) * 2 ^ 8 + a = omega arith in
+    let cut : bitAnd w 0x7F7F7F7F ≡ ((bitAnd e 127 * 2 ^ 8 + bitAnd c 127) * 2 ^ 8 + bitAnd b 127) * 2 ^ 8 + bitAnd a 127 = ap (λ (x : ℕ). bitAnd x 0x7F7F7F7F) parts ∙ and-four a b c e 127 127 127 127 (omega arith) (omega arith) (omega arith) (omega arith) (omega arith) (omega arith) in
+    let fa : bitAnd a 127 ≡ w % 2 ^ 7 = and-mask a 7 ∙ mod-mod-pow w 1 7 in
+    let fb : bitAnd b 127 ≡ w / 2 ^ 8 % 2 ^ 7 = and-mask b 7 ∙ mod-mod-pow (w / 2 ^ 8) 1 7 in
+    let fc : bitAnd c 127 ≡ w / 2 ^ 16 % 2 ^ 7 = and-mask c 7 ∙ mod-mod-pow (w / 2 ^ 16) 1 7 in
+    cut ∙ rw (fa, fb, fc, and-mask e 7) (flat _ _ _ _)
+
+pub odd-fields : (y a b c e : ℕ) → a < 2 ^ 7 → b < 2 ^ 7 → c < 2 ^ 7 → e < 2 ^ 7 → y ≡ a + b * 2 ^ 8 + c * 2 ^ 16 + e * 2 ^ 24
+    → bitAnd y 0x7F007F00 ≡ b * 2 ^ 8 + e * 2 ^ 24
+odd-fields y a b c e ha hb hc he f =
+    let parts : y ≡ ((e * 2 ^ 8 + c) * 2 ^ 8 + b) * 2 ^ 8 + a = omega arith in
+    let cut : bitAnd y 0x7F007F00 ≡ ((bitAnd e 127 * 2 ^ 8 + bitAnd c 0) * 2 ^ 8 + bitAnd b 127) * 2 ^ 8 + bitAnd a 0 = ap (λ (x : ℕ). bitAnd x 0x7F007F00) parts ∙ and-four a b c e 0 127 0 127 (omega arith) (omega arith) (omega arith) (omega arith) (omega arith) (omega arith) in
+    omega (arith, and-mask b 7, and-mask e 7, and-zero-r a, and-zero-r c)
+
+-- the fields of four bytes
+abbrev bytes-of : (a b c e : ℕ) → ℕ
+bytes-of a b c e = (((0 * 2 ^ 8 + e) * 2 ^ 8 + c) * 2 ^ 8 + b) * 2 ^ 8 + a
+
+take-a : (a b c e : ℕ) → a < 2 ^ 8 → bytes-of a b c e % 2 ^ 7 ≡ a % 2 ^ 7
+take-a a b c e ha = omega arith
+
+take-b : (a b c e : ℕ) → a < 2 ^ 8 → b < 2 ^ 8 → bytes-of a b c e / 2 ^ 8 % 2 ^ 7 ≡ b % 2 ^ 7
+take-b a b c e ha hb = omega arith
+
+take-c : (a b c e : ℕ) → a < 2 ^ 8 → b < 2 ^ 8 → c < 2 ^ 8 → bytes-of a b c e / 2 ^ 16 % 2 ^ 7 ≡ c % 2 ^ 7
+take-c a b c e ha hb hc = omega arith
+
+take-e : (a b c e : ℕ) → a < 2 ^ 8 → b < 2 ^ 8 → c < 2 ^ 8 → bytes-of a b c e / 2 ^ 24 % 2 ^ 7 ≡ e % 2 ^ 7
+take-e a b c e ha hb hc = omega arith
+
+seven : (a b c e : ℕ) → a + b * 2 ^ 7 + c * 2 ^ 14 + e * 2 ^ 21 ≡ (((0 * 2 ^ 7 + e) * 2 ^ 7 + c) * 2 ^ 7 + b) * 2 ^ 7 + a
+seven a b c e = omega arith
+
+-- four bytes taken as one word, and put together, are four cells of 7 bits
+four-cells : (cells : List ℕ) (word : ℕ) → word ≡ join (replicate 4 8) cells
+    → word % 2 ^ 7 + word / 2 ^ 8 % 2 ^ 7 * 2 ^ 7 + word / 2 ^ 16 % 2 ^ 7 * 2 ^ 14 + word / 2 ^ 24 % 2 ^ 7 * 2 ^ 21 ≡ join (replicate 4 7) cells
+unfolding join
+four-cells cells word e =
+    let x = getD cells 0 0 in
+    let y = getD (drop 1 cells) 0 0 in
+    let z = getD (drop 1 (drop 1 cells)) 0 0 in
+    let v = getD (drop 1 (drop 1 (drop 1 cells))) 0 0 in
+    rw (e, take-a (x % 2 ^ 8) (y % 2 ^ 8) (z % 2 ^ 8) (v % 2 ^ 8) (mod-lt x (pow-pos 8)), take-b (x % 2 ^ 8) (y % 2 ^ 8) (z % 2 ^ 8) (v % 2 ^ 8) (mod-lt x (pow-pos 8)) (mod-lt y (pow-pos 8)), take-c (x % 2 ^ 8) (y % 2 ^ 8) (z % 2 ^ 8) (v % 2 ^ 8) (mod-lt x (pow-pos 8)) (mod-lt y (pow-pos 8)) (mod-lt z (pow-pos 8)), take-e (x % 2 ^ 8) (y % 2 ^ 8) (z % 2 ^ 8) (v % 2 ^ 8) (mod-lt x (pow-pos 8)) (mod-lt y (pow-pos 8)) (mod-lt z (pow-pos 8)), mod-mod-pow x 1 7, mod-mod-pow y 1 7, mod-mod-pow z 1 7, mod-mod-pow v 1 7)
+    (seven (x % 2 ^ 7) (y % 2 ^ 7) (z % 2 ^ 7) (v % 2 ^ 7))
+
+pub few-four : (cells : List ℕ) (word : ℕ) → word ≡ join (replicate 4 8) cells → word < 2 ^ 32
+few-four cells word e = rw e (join-few 4 8 4 cells (omega arith) (omega arith))
+
+pub of-four : (cells : List ℕ) (word x carry shift byte bytes r : ℕ) (out next : List ℕ) → word ≡ join (replicate 4 8) cells
+    → x ≡ word % 2 ^ 7 + word / 2 ^ 8 % 2 ^ 7 * 2 ^ 7 + word / 2 ^ 16 % 2 ^ 7 * 2 ^ 14 + word / 2 ^ 24 % 2 ^ 7 * 2 ^ 21
+    → r ≡ (x * 2 ^ shift + carry) / 2 ^ (bytes * 8) → next ≡ sets out byte (cut (replicate bytes 8) (x * 2 ^ shift + carry))
+    → (r ≡ (join (replicate 4 7) cells * 2 ^ shift + carry) / 2 ^ (bytes * 8))
+    × (next ≡ sets out byte (cut (replicate bytes 8) (join (replicate 4 7) cells * 2 ^ shift + carry)))
+of-four cells word x carry shift byte bytes r out next e f =
+    of-cells x (join (replicate 4 7) cells) carry shift byte bytes r out next (f ∙ four-cells cells word e)
 
 -- One step: of the cells `cs` and then `ws`, joined above a carry of s bits, k bytes are stored and s' bits are left over; what
 -- remains to be stored, stored now, gives what all gives.

@@ -11,6 +11,7 @@ ghost use Rattle.readout.specs.Widths.{rowWidths, pairWidths, blockWidth
 use cells::internal::joined;
 use cells::internal::low_bits;
 use cells::internal::put_cells;
+use cells::internal::word4;
 use cells::internal::word8;
 use part::Device;
 
@@ -204,6 +205,42 @@ fn push_bytes(
     )
 }
 
+// Four cells of 7 bits, each in a byte of a word, put together: first each with the one above it, then two and two.
+fn four_together(word: u64) -> u64
+    requires { ⌜ word < 2 ^ 32 ⌝ }
+    ensures { λ r. ⌜ r ≡ word % 2 ^ 7 + word / 2 ^ 8 % 2 ^ 7 * 2 ^ 7 + word / 2 ^ 16 % 2 ^ 7 * 2 ^ 14 + word / 2 ^ 24 % 2 ^ 7 * 2 ^ 21 ⌝ }
+{
+    let low = word & 0x7F7F_7F7F;
+    let odd = low & 0x7F00_7F00;
+    let pairs = low - (odd >> 1);
+    let high = (pairs >> 16) << 14;
+    pairs - high * 3
+}
+
+// What `push` says, of four cells of 7 bits.
+fn push_four(
+    readout: &[u8],
+    at: usize,
+    carry: u64,
+    shift: u32,
+    image: &mut [u8],
+    byte: usize,
+    bytes: usize,
+) -> u64
+    requires { ⌜ (at + 4 ≤ length (now readout)) × (carry < 2 ^ shift) × (shift ≤ 4) × (byte + bytes ≤ length (now image)) × (bytes ≤ 7) ⌝ }
+    ensures { λ r. ⌜ r ≡ (join (replicate 4 7) (drop at (now (readout .entry))) * 2 ^ shift + carry) / 2 ^ (bytes * 8) ⌝ }
+    ensures { λ _. ⌜ now (image .exit) ≡ sets (now (image .entry)) byte (cut (replicate bytes 8) (join (replicate 4 7) (drop at (now (readout .entry))) * 2 ^ shift + carry)) ⌝ }
+{
+    put_above(
+        four_together(word4(readout, at)),
+        carry,
+        shift,
+        image,
+        byte,
+        bytes,
+    )
+}
+
 // The 27 image bytes of two main rows of a readout.
 fn main_rows_in(readout: &[u8], at: usize, image: &mut [u8], byte: usize)
     requires { ⌜ (at + 30 ≤ length (now readout)) × (byte + 27 ≤ length (now image)) ⌝ }
@@ -223,9 +260,9 @@ fn wire_and_rows_in(readout: &[u8], at: usize, image: &mut [u8], byte: usize)
     ensures { λ _. ⌜ now (image .exit) ≡ sets (now (image .entry)) byte (bytesIn (pairWidths false) (drop at (now (readout .entry)))) ⌝ }
 {
     let one = push(readout, at, 8, 1, 0, 0, image, byte, 1);
-    let two = push(readout, at + 1, 7, 4, one, 0, image, byte + 1, 3);
+    let two = push_four(readout, at + 1, one, 0, image, byte + 1, 3);
     let three = push(readout, at + 5, 8, 1, two, 4, image, byte + 4, 1);
-    push(readout, at + 6, 7, 4, three, 4, image, byte + 5, 4);
+    push_four(readout, at + 6, three, 4, image, byte + 5, 4);
 }
 
 fn pair_in(main: bool, readout: &[u8], at: usize, image: &mut [u8], byte: usize)

@@ -1,21 +1,12 @@
 -- `word8` meets its contract, a byte at a time.
 -- Assumes nothing.
-use mathlib.Core.Path.{_≡_, refl}
-use mathlib.Core.List.{List}
-use Prim.Native.Nat.{ℕ}
-use native.Mathlib.Omega.{arith}
-use lib.ListN.{drop, replicate}
-use Rattle.cells.specs.Cells.{join}
 use borrow.Author.Needs.{needs}
+use Rattle.cells.proofs.Laws.{join-none}
 use Rattle.cells.proofs.internal.word8.Statement.{statement}
 use Rattle.cells.proofs.internal.word8.Tie as tie
 
-none : (bytes : List ℕ) (at : ℕ) → 0 ≡ join (replicate 0 8) (drop at bytes)
-unfolding join
-none bytes at = refl
-
 byte-taken-requires : tie.Need-byte-taken-requires
-byte-taken-requires c κs = search (needs, none)
+byte-taken-requires c κs = search (needs, join-none)
 
 byte-taken-requires-2 : tie.Need-byte-taken-requires-2
 byte-taken-requires-2 c κs = search needs
