@@ -14,9 +14,9 @@ use mathlib.Core.Path.{_≡_, refl, sym, _∙_, ap, ap₂, subst}
 use mathlib.Core.List.{List, [], _∷_, _++_}
 use Prim.Native.Nat.{ℕ, zero, suc, _+_, _*_, _-_, _/_, _%_, _^_, _≤_, _<_}
 use native.Mathlib.Omega.{arith}
-use native.Mathlib.Nat.{div-one, mod-one, mul-one, add-zero, zero-add, add-suc, suc-add, add-comm, mod-mod, zero-mod, zero-div, mod-lt, div-add-mod', not-suc-le-zero, le-of-suc-le-suc, add-mul, mul-assoc, mul-comm, zero-mul, suc-mul, add-assoc, mul-le-mul, lt-of-lt-of-le}
+use native.Mathlib.Nat.{div-one, mod-one, add-zero, zero-add, add-suc, suc-add, add-comm, mod-mod, mod-lt, not-suc-le-zero, le-of-suc-le-suc, add-mul, mul-assoc, mul-comm, zero-mul, suc-mul, add-assoc, mul-le-mul, lt-of-lt-of-le}
 use native.Mathlib.Numerals.{one-add}
-use lib.Pow.{pow-pos, pow-mono, pow-add, shr-shr, high, low, mod-pow-add, split, field, mod-mod-pow}
+use lib.Pow.{pow-pos, pow-mono, pow-add, shr-shr, high, low, mod-pow-add, field, mod-mod-pow}
 use lib.Arith.{digits-lt}
 use lib.ListN.{length, getD, take, drop, replicate, length-append, length-replicate, replicate-append-replicate, set}
 use lib.Seq.{sets, drop-drop, getD-drop}

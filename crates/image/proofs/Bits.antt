@@ -6,16 +6,16 @@
 --   tabulate-length, tabulate-at           a list by index
 use mathlib.Core.Path.{_≡_, refl, sym, _∙_, ap, ap₂, subst}
 use mathlib.Core.Logic.{_≢_}
-use mathlib.Core.List.{List, [], _∷_, _++_}
-use Prim.Native.Nat.{ℕ, zero, suc, _+_, _*_, _-_, _/_, _%_, _^_, _≤_, _<_, zero-le}
+use mathlib.Core.List.{List, [], _∷_}
+use Prim.Native.Nat.{ℕ, zero, suc, _+_, _*_, _-_, _/_, _%_, _^_, _≤_, _<_}
 use native.Mathlib.Omega.{arith}
-use native.Mathlib.Nat.{mod-lt, mod-eq-of-lt, add-comm, not-suc-le-zero, lt-of-lt-of-le, add-zero, div-eq-of-lt, mod-one}
+use native.Mathlib.Nat.{mod-lt, mod-eq-of-lt, add-comm, not-suc-le-zero, lt-of-lt-of-le, div-eq-of-lt, mod-one}
 use native.Mathlib.Numerals.{add-one, one-add}
 use native.Mathlib.Decide.{ℕ-discrete}
-use lib.Pow.{pow-pos, pow-mono, pow-add, shr-shr, high, low, mod-pow-add, mod-mod-pow, field, shr-lt, split}
+use lib.Pow.{pow-pos, pow-mono, pow-add, shr-shr, high, low, mod-pow-add, mod-mod-pow, field, shr-lt}
 use lib.Arith.{digits-lt}
 use lib.ListN.{length, getD, set, length-set, length-append, List·getD-append}
-use lib.Seq.{getD-set-same, getD-set-other, getD-append-seam, getD-at}
+use lib.Seq.{getD-set-same, getD-set-other, getD-at}
 use Rattle.part.proofs.Facts.{compared}
 use Rattle.image.specs.Bits.{bitOf, bitAt, putBit, withBit, gathered, tabulate}
 

@@ -1,11 +1,11 @@
 -- The tests of device and length, 1 before 2, as code makes them and as definitions state them.
 -- Assumes nothing.
-use mathlib.Core.Path.{_≡_, refl, sym, _∙_}
-use mathlib.Core.Bool.{Bool, true, false, cond}
+use mathlib.Core.Path.{_≡_, sym, _∙_}
+use mathlib.Core.Bool.{true, false}
 use Prim.Native.Nat.{ℕ}
 use borrow.Author.Tests.{eq-eqb, ne-eqb}
 use Rattle.part.specs.Outcome.{Outcome}
-use Rattle.part.specs.Outcome.Outcome.{accepted, refused}
+use Rattle.part.specs.Outcome.Outcome.{refused}
 use Rattle.part.specs.Device.{known}
 use Rattle.part.specs.Convert.{ifKnown}
 use Rattle.part.specs.declared.Device.{Device}

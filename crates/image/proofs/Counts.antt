@@ -3,19 +3,18 @@
 --   onesIn-le       at most eight a byte
 --   zeros-and-ones  the fuses at 0 and the ones of an image are all its fuses
 use mathlib.Core.Path.{_≡_, refl, sym, _∙_, ap, ap₂}
-use mathlib.Core.List.{List, [], _∷_, _++_}
-use Prim.Native.Nat.{ℕ, zero, suc, _+_, _*_, _-_, _/_, _%_, _^_, _≤_, _<_, zero-le}
+use mathlib.Core.List.{List, [], _∷_}
+use Prim.Native.Nat.{ℕ, zero, suc, _+_, _*_, _-_, _/_, _%_, _^_, _≤_, _<_}
 use native.Mathlib.Omega.{arith}
 use native.Mathlib.Nat.{mod-lt, not-suc-le-zero, le-of-suc-le-suc, add-assoc, add-zero, zero-add, add-suc, div-one, div-eq-of-lt}
 use native.Mathlib.Numerals.{add-one}
 use lib.Count.{ones, onesIn as onesWithin, ones-step, ones-cat, ones-le}
-use lib.ListN.{length, getD, take, drop, replicate, length-append}
+use lib.ListN.{length, drop, replicate}
 use lib.Pow.{pow-pos, shr-shr}
-use lib.Seq.{drop-cons, drop-drop}
 use Rattle.cells.specs.Cells.{join}
 use Rattle.image.specs.Bits.{bitOf, bitAt, onesIn}
 use Rattle.image.specs.Image.{state, zerosBelow}
-use Rattle.image.proofs.Bits.{bit-low, bit-above}
+use Rattle.image.proofs.Bits.{bit-low}
 
 none : ones 0 ≡ 0
 unfolding ones onesWithin

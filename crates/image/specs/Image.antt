@@ -1,7 +1,7 @@
 -- Image: one bit a fuse; fuse f is bit f mod 8 (bit 0 lowest) of byte f div 8. The fuse sum and the zero count over it.
 -- Document 01, "Three pictures of one part" and "Reading and writing the text".
 use Prim.Native.Nat.{ℕ, zero, suc, _+_, _*_, _-_, _/_, _%_, _^_}
-use mathlib.Core.Bool.{Bool, cond}
+use mathlib.Core.Bool.{cond}
 use mathlib.Core.List.{List, [], _∷_}
 use lib.Dec.{eqb}
 use lib.ListN.{length}

@@ -2,10 +2,9 @@
 -- the address of such a byte.
 use mathlib.Core.Path.{_≡_, refl, sym, _∙_, ap}
 use mathlib.Core.Logic.{_↔_}
-use mathlib.Core.Bool.{Bool, true, false, cond, _&&_}
-use Prim.Native.Nat.{ℕ, _+_, _*_, _-_, _/_, _%_, _^_, _≤_, _<_}
+use mathlib.Core.Bool.{true}
+use Prim.Native.Nat.{ℕ, _+_, _*_, _-_, _/_, _%_, _^_, _<_}
 use native.Mathlib.Omega.{arith}
-use lib.Dec.{ltb, eqb}
 use Rattle.part.specs.Device.{known}
 use Rattle.part.specs.Place.{hasByte, field, addressOfByte, byteOfAddress, valid}
 use Rattle.part.specs.declared.Device.{Device}

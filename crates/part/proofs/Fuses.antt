@@ -1,15 +1,15 @@
 -- Fuse numbers and places: each fuse below the count is the fuse of exactly one place that the device has.
 -- Stated once for every block count.
-use mathlib.Core.Path.{_≡_, refl, sym, _∙_, ap}
-use mathlib.Core.Bool.{Bool, true, false, cond, _&&_}
-use Prim.Native.Nat.{ℕ, _+_, _*_, _-_, _/_, _%_, _≤_, _<_}
+use mathlib.Core.Path.{_≡_, _∙_}
+use mathlib.Core.Bool.{true, false}
+use Prim.Native.Nat.{ℕ, _+_, _*_, _-_, _/_, _%_, _<_}
 use native.Mathlib.Omega.{arith}
 use native.Mathlib.Nat.{div-lt-iff-lt-mul, div-add-mod', mod-lt}
 use lib.Arith.{digits-div, digits-mod, digits-lt}
 use lib.Dec.{ltb}
 use borrow.Author.Tests.{lt-ltb, le-ltb}
 use Rattle.part.specs.Device.{fuseCount, blockFuses, mainStart, wireAndStart}
-use Rattle.part.specs.Place.{hasPlace, hasByte, widthOf, firstFuse, fuseOfPlace, placeOfFuse, placeInBlock}
+use Rattle.part.specs.Place.{hasPlace, hasByte, widthOf, fuseOfPlace, placeOfFuse, placeInBlock}
 use Rattle.part.specs.declared.Device.{Device}
 use Rattle.part.specs.declared.Place.{Place}
 use Rattle.part.specs.declared.BytePlace.{BytePlace}

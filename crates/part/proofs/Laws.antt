@@ -13,21 +13,18 @@
 --   table-of-sizes        document 01's table, with the lengths of the texts
 --   bench-cases           document 01's cases marked P
 use mathlib.Core.Path.{_≡_, refl, sym, _∙_, ap, ap₂, subst₂}
-use mathlib.Core.Bool.{Bool, true, false, cond, _&&_}
-use mathlib.Core.List.{List, [], _∷_}
-use Prim.Native.Nat.{ℕ, _+_, _*_, _^_, _≤_, _<_}
+use mathlib.Core.Bool.{true, cond}
+use Prim.Native.Nat.{ℕ, _^_, _≤_, _<_}
 use native.Mathlib.Omega.{arith}
 use lib.Dec.{ltb, eqb}
 use borrow.Author.Tests.{lt-ltb, ltb-true}
-use Rattle.part.specs.Outcome.{Outcome}
-use Rattle.part.specs.Outcome.Outcome.{accepted, refused}
+use Rattle.part.specs.Outcome.Outcome.{accepted}
 use Rattle.part.specs.Device.{known, fuseCount, columnWidth, imageBytes, readoutBytes, textBytes}
 use Rattle.part.specs.Answer.{number, value}
 use Rattle.part.specs.Place.{hasPlace, hasByte, widthOf, fuseOfPlace, placeOfFuse, addressOfByte, byteOfAddress, valid}
 use Rattle.part.specs.Convert.{addressOfFuse, fuseOfAddress, sizesOf}
 use Rattle.part.specs.Cases.{TableOfSizes, AllHold, cases}
 use Rattle.part.specs.declared.Device.{Device}
-use Rattle.part.specs.declared.Sizes.{Sizes}
 use Rattle.part.specs.declared.Place.{Place}
 use Rattle.part.specs.declared.BytePlace.{BytePlace}
 use Rattle.part.specs.declared.BytePlace.the-variants.{Main, WireAnd}
@@ -36,7 +33,7 @@ use Rattle.part.specs.declared.Refusal.the-variants.{UnknownDevice, Wron
 use Rattle.part.proofs.Facts.{and-iff, by-cases}
 use Rattle.part.proofs.Addresses.{again, address-small}
 use Rattle.part.proofs.Fuses.{of-place}
-use Rattle.part.proofs.Conversions.{SamePlace, address-of-fuse-iff, fuse-of-address-iff}
+use Rattle.part.proofs.Conversions.{address-of-fuse-iff}
 pub use Rattle.part.proofs.Conversions.{inverse}
 pub use Rattle.part.proofs.Addresses.{valid-iff}
 pub use Rattle.part.proofs.Readouts.{each-valid, ascending, none-left-out}

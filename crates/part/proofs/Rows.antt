@@ -1,6 +1,6 @@
 -- A row of `wide` columns of 8 bits and `more` columns of `narrow` bits: its bits are exactly the bits of its columns.
 -- Proved once, for the main area's rows (9, 6, 6) and the wire-AND area's (1, 7, 4).
-use mathlib.Core.Path.{_≡_, refl, sym, _∙_, ap}
+use mathlib.Core.Path.{_≡_, refl, _∙_, ap}
 use mathlib.Core.Bool.{Bool, true, false, cond}
 use Prim.Native.Nat.{ℕ, _+_, _*_, _-_, _/_, _%_, _≤_, _<_}
 use native.Mathlib.Omega.{arith}

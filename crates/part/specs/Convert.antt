@@ -1,7 +1,7 @@
 -- The two conversions between fuse numbers and addresses, and the sizes of a device, with their refusals:
 -- 1 for an unknown device; 3 for a fuse at or over the count, an address that no byte has, a bit at or over its width.
 use Prim.Native.Nat.{ℕ}
-use mathlib.Core.Bool.{Bool, cond, _&&_}
+use mathlib.Core.Bool.{cond, _&&_}
 use lib.Dec.{ltb}
 use Rattle.part.specs.Outcome.{Outcome}
 use Rattle.part.specs.Outcome.Outcome.{accepted, refused}

@@ -7,24 +7,22 @@
 --   readout-accepted     an image's readout is always accepted
 --   change-agrees        the readout of an image with one fuse changed is the readout with the bit at its address changed
 --   image-changed, image-others, readout-changed, readout-others   the fuse has the new state, every other fuse stands
-use mathlib.Core.Path.{_≡_, refl, sym, _∙_, ap, ap₂, subst, subst₂}
+use mathlib.Core.Path.{_≡_, sym, _∙_, ap, ap₂, subst₂}
 use mathlib.Core.Logic.{_≢_, _↔_}
-use mathlib.Core.Bool.{Bool, true, false, cond, _&&_}
-use mathlib.Core.List.{List, [], _∷_}
-use Prim.Native.Nat.{ℕ, zero, suc, _+_, _*_, _-_, _/_, _%_, _^_, _≤_, _<_}
+use mathlib.Core.Bool.{true, cond}
+use mathlib.Core.List.{List}
+use Prim.Native.Nat.{ℕ, _+_, _*_, _-_, _/_, _%_, _^_, _≤_, _<_}
 use native.Mathlib.Omega.{arith}
 use native.Mathlib.Nat.{mod-eq-of-lt, le-of-eq}
 use native.Mathlib.Decide.{ℕ-discrete}
-use lib.Dec.{ltb, leb, eqb}
+use lib.Dec.{ltb, eqb}
 use lib.ListN.{length, getD, set, length-set}
 use lib.Seq.{ext-getD, getD-set-same, getD-set-other}
-use mir.Syntax.{w8}
-use mir.Val.{Fits}
-use borrow.Author.Tests.{lt-ltb, le-ltb, ltb-true, ltb-false, lt-leb, leb-false, eqb-true, eq-eqb}
+use borrow.Author.Tests.{lt-ltb, le-ltb, ltb-true, lt-leb, leb-false, eqb-true, eq-eqb}
 use Rattle.part.specs.Outcome.{Outcome}
 use Rattle.part.specs.Outcome.Outcome.{accepted, refused}
 use Rattle.part.specs.Device.{known, fuseCount, imageBytes, readoutBytes}
-use Rattle.part.specs.Place.{hasByte, hasPlace, widthOf, firstFuse, fuseOfPlace, placeOfFuse, addressOfByte, byteOfAddress, indexOfByte, byteOfIndex}
+use Rattle.part.specs.Place.{hasByte, hasPlace, widthOf, firstFuse, placeOfFuse, addressOfByte, byteOfAddress, indexOfByte, byteOfIndex}
 use Rattle.part.specs.Convert.{fuseOfAddress}
 use Rattle.part.specs.declared.Device.{Device}
 use Rattle.part.specs.declared.Place.{Place}
@@ -34,12 +32,12 @@ use Rattle.part.proofs.Devices.{image-whole}
 use Rattle.part.proofs.Fuses.{at-fuse, of-place}
 use Rattle.part.proofs.Readouts.{at-index, of-byte}
 use Rattle.part.proofs.Addresses.{again}
-use Rattle.part.proofs.Conversions.{SamePlace, fuse-of-address-iff, passed}
-use Rattle.image.specs.Bits.{bitOf, bitAt, putBit, withBit, gathered, tabulate}
-use Rattle.image.specs.Image.{state, imageFrom, ifLength}
-use Rattle.image.proofs.Bits.{put-same, put-other, put-small, with-same, with-other, with-length, gathered-small, gathered-bit, gathered-same, gathered-own, bit-above, tabulate-length, tabulate-at}
+use Rattle.part.proofs.Conversions.{fuse-of-address-iff, passed}
+use Rattle.image.specs.Bits.{bitOf, bitAt, putBit, withBit, gathered}
+use Rattle.image.specs.Image.{state, imageFrom}
+use Rattle.image.proofs.Bits.{put-same, put-other, put-small, with-same, with-other, gathered-small, gathered-bit, gathered-same, gathered-own, bit-above, tabulate-length, tabulate-at}
 use Rattle.image.proofs.Counts.{state-bit}
-use Rattle.readout.specs.Readout.{widthAt, fuseAt, readoutFrom, readoutOf, stateIn, imageOf, strayAt, lowest, firstStray, toImage}
+use Rattle.readout.specs.Readout.{widthAt, fuseAt, readoutFrom, readoutOf, stateIn, imageOf, strayAt, firstStray, toImage}
 use Rattle.readout.proofs.Passages.{fuse-below, place-at}
 use Rattle.readout.proofs.Strays.{lowest-is, none-below}
 

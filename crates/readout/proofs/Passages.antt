@@ -1,27 +1,26 @@
 -- What the passages make, bit by bit: cutting an image's number by the device's widths gives its readout, and cutting a readout's
 -- number by bytes gives its image.
-use mathlib.Core.Path.{_≡_, refl, sym, _∙_, ap, ap₂, subst}
-use mathlib.Core.Bool.{Bool, true, false, cond, _&&_}
-use mathlib.Core.List.{List, [], _∷_, _++_, append-nil}
-use Prim.Native.Nat.{ℕ, zero, suc, _+_, _*_, _-_, _/_, _%_, _^_, _≤_, _<_, zero-le}
+use mathlib.Core.Path.{_≡_, sym, _∙_, ap, subst}
+use mathlib.Core.Bool.{true}
+use mathlib.Core.List.{List, append-nil}
+use Prim.Native.Nat.{ℕ, _+_, _*_, _-_, _/_, _%_, _^_, _<_}
 use native.Mathlib.Omega.{arith}
-use native.Mathlib.Nat.{div-one, zero-add, le-of-eq}
+use native.Mathlib.Nat.{zero-add, le-of-eq}
 use lib.Dec.{ltb}
-use lib.ListN.{length, getD, take, drop, replicate, length-replicate, drop-of-length-le}
+use lib.ListN.{length, getD, replicate, length-replicate, drop-of-length-le}
 use lib.Seq.{sets, sets-eq, ext-getD}
 use borrow.Author.Tests.{lt-ltb, ltb-true}
-use Rattle.cells.specs.Cells.{cut, join, total, repeat, number}
+use Rattle.cells.specs.Cells.{cut, join, number}
 use Rattle.cells.proofs.Laws.{cut-at, cut-length, cut-join, total-repeat}
 use Rattle.part.specs.Device.{known, fuseCount, imageBytes, readoutBytes}
-use Rattle.part.specs.Place.{hasByte, hasPlace, widthOf, firstFuse, fuseOfPlace, placeOfFuse, indexOfByte, byteOfIndex}
+use Rattle.part.specs.Place.{hasByte, hasPlace, widthOf, firstFuse, placeOfFuse, indexOfByte, byteOfIndex}
 use Rattle.part.specs.declared.Device.{Device}
-use Rattle.part.specs.declared.Place.{Place}
 use Rattle.part.specs.declared.BytePlace.{BytePlace}
 use Rattle.part.proofs.Facts.{and-iff}
 use Rattle.part.proofs.Devices.{image-whole}
 use Rattle.part.proofs.Fuses.{at-fuse, of-place}
 use Rattle.part.proofs.Readouts.{at-index, of-byte}
-use Rattle.image.specs.Bits.{bitOf, bitAt, gathered, tabulate}
+use Rattle.image.specs.Bits.{bitOf, bitAt}
 use Rattle.image.specs.Image.{state, imageFrom}
 use Rattle.image.proofs.Bits.{bit-low, bit-high, gathered-same, gathered-own, tabulate-length, tabulate-at}
 use Rattle.readout.specs.Readout.{widthAt, fuseAt, readoutFrom, readoutOf, stateIn, imageOf}

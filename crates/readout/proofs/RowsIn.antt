@@ -1,20 +1,20 @@
 -- The way back: cells joined above what is left over, and whole bytes taken off, are the bytes of the number that all cells join to.
 -- Then the loops over rows and blocks.
-use mathlib.Core.Path.{_≡_, refl, sym, _∙_, ap, ap₂, subst}
-use mathlib.Core.Bool.{Bool, true, false}
-use mathlib.Core.List.{List, [], _∷_, _++_, append-assoc}
-use Prim.Native.Nat.{ℕ, zero, suc, _+_, _*_, _-_, _/_, _%_, _^_, _≤_, _<_}
+use mathlib.Core.Path.{_≡_, refl, sym, _∙_, ap, subst}
+use mathlib.Core.Bool.{true, false}
+use mathlib.Core.List.{List, [], _++_}
+use Prim.Native.Nat.{ℕ, suc, _+_, _*_, _-_, _/_, _%_, _^_, _≤_, _<_}
 use native.Mathlib.Omega.{arith}
-use native.Mathlib.Nat.{add-mul, mul-assoc, add-assoc, mul-comm, add-comm, suc-mul, suc-add, zero-mul, zero-add, div-eq-of-lt, add-mul-div-right, add-mul-mod-self-right, mod-lt}
+use native.Mathlib.Nat.{mul-assoc, add-comm, zero-add, div-eq-of-lt, add-mul-div-right, add-mul-mod-self-right, mod-lt}
 use lib.Arith.{digits-lt}
-use lib.ListN.{length, getD, drop, replicate, length-append, length-replicate, replicate-append-replicate}
-use lib.Pow.{pow-pos, pow-add, pow-mono, shl-exact, shr-lt, shr-shr, mod-mod-pow}
+use lib.ListN.{length, getD, drop, replicate, length-replicate, replicate-append-replicate}
+use lib.Pow.{pow-pos, pow-add, pow-mono, shl-exact, shr-lt, mod-mod-pow}
 use lib.Bits.{bitAnd, and-block, and-mask, and-zero-r}
 use lib.Seq.{sets, length-sets, drop-drop}
 use mir.Syntax.{w64}
 use mir.Val.{Fits}
 use Rattle.cells.specs.Cells.{cut, join, total, repeat, number}
-use Rattle.cells.proofs.Laws.{word-at, cut-append, cut-low, cut-length, cut-sets, regrouped, join-append, join-small, join-few, total-append, total-replicate, total-repeat, length-repeat, sets-append}
+use Rattle.cells.proofs.Laws.{word-at, cut-append, cut-low, cut-length, regrouped, join-append, join-small, join-few, total-append, total-replicate, sets-append}
 use Rattle.part.specs.Device.{known, imageBytes, readoutBytes}
 use Rattle.part.specs.declared.Device.{Device}
 use Rattle.readout.proofs.Sizes.{room, pairs-of-block, main-total, main-length, main-whole, device-size, device-whole}
@@ -231,7 +231,7 @@ parts-in ws vs readout out next at at' byte byte' t ea eb en =
     let step = chunk ws vs readout out next at at' 0 0 0 0 byte byte' k m (omega arith) ea eb none (rw (plain x) en) in
     rw (total-append ws vs, both) (rw (plain (join vs (drop at' readout)), plain (join (ws ++ vs) (drop at readout))) at step)
 
--- The loop of `Left` in Rows.antt, the other way.
+-- The loop of `Left` in RowsOut.antt, the other way.
 pub record LeftIn (ws readout before out : List ℕ) (at byte count a b left : ℕ) : Type 0 where
   pub cells-left : a + left * length ws ≤ length readout
   pub bytes-left : b + left * wholeBytes ws ≤ length out

@@ -1,9 +1,9 @@
 -- The bytes that the code makes of the words that it takes from an image are the rows cut from the image's number.
 -- Then the loops over pairs of rows and over blocks.
-use mathlib.Core.Path.{_≡_, refl, sym, _∙_, ap, subst}
+use mathlib.Core.Path.{_≡_, refl, sym, _∙_, ap}
 use mathlib.Core.Bool.{Bool, true, false}
-use mathlib.Core.List.{List, [], _∷_, _++_}
-use Prim.Native.Nat.{ℕ, zero, suc, _+_, _*_, _-_, _/_, _%_, _^_, _≤_, _<_}
+use mathlib.Core.List.{List, _++_}
+use Prim.Native.Nat.{ℕ, suc, _+_, _*_, _-_, _/_, _^_, _≤_, _<_}
 use native.Mathlib.Omega.{arith}
 use native.Mathlib.Nat.{div-one}
 use lib.ListN.{length, drop, replicate}
@@ -14,7 +14,7 @@ use Rattle.cells.proofs.Laws.{cut-sets, piece}
 use Rattle.part.specs.Device.{known, imageBytes, readoutBytes}
 use Rattle.part.specs.declared.Device.{Device}
 use Rattle.readout.specs.Widths.{rowWidths, pairWidths, blockWidths, widths, wholeBytes}
-use Rattle.readout.proofs.Sizes.{room, pairs-of-block, main-total, main-length, main-whole, device-size, device-whole}
+use Rattle.readout.proofs.Sizes.{room, pairs-of-block, main-total, main-length, device-size, device-whole}
 
 -- cells of a word of eight bytes, behind some bits of it, where they lie `past` bits behind a start
 from-bit : (image ws : List ℕ) (start past p skip w : ℕ) → p + 8 ≤ length image → skip + total ws ≤ 64 → p * 8 + skip ≡ start + past

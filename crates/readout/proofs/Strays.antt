@@ -5,9 +5,9 @@ use mathlib.Core.Bool.{Bool, true, false, cond}
 use mathlib.Core.List.{List, [], _∷_, _++_}
 use Prim.Native.Nat.{ℕ, zero, suc, _+_, _*_, _-_, _/_, _%_, _^_, _≤_, _<_, suc-le-suc}
 use native.Mathlib.Omega.{arith}
-use native.Mathlib.Nat.{zero-add, add-zero, add-suc, suc-add, suc-mul, div-eq-of-lt, add-assoc, not-suc-le-zero, le-of-suc-le-suc, le-of-lt, zero-mul, mod-lt, mod-eq-of-lt, mul-le-mul}
+use native.Mathlib.Nat.{zero-add, add-zero, suc-add, div-eq-of-lt, add-assoc, not-suc-le-zero, le-of-suc-le-suc, le-of-lt, zero-mul, mod-lt, mod-eq-of-lt, mul-le-mul}
 use native.Mathlib.Numerals.{one-add}
-use lib.Dec.{eqb, ltb, leb}
+use lib.Dec.{eqb}
 use lib.ListN.{length, getD, drop, replicate, length-replicate}
 use mir.Syntax.{w8}
 use mir.Val.{Fits}

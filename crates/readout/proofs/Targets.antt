@@ -1,11 +1,11 @@
 -- What a call answers and what its target then holds: the tests of a device and of two lengths, 1 before 2, and then the rest.
 -- Assumes nothing.
-use mathlib.Core.Path.{_≡_, refl, sym, _∙_, ap}
+use mathlib.Core.Path.{_≡_, sym, _∙_, ap}
 use mathlib.Core.Bool.{true, false}
 use mathlib.Core.List.{List}
 use Prim.Native.Nat.{ℕ}
 use Rattle.part.specs.Outcome.{Outcome}
-use Rattle.part.specs.Outcome.Outcome.{accepted, refused}
+use Rattle.part.specs.Outcome.Outcome.{refused}
 use Rattle.part.specs.Device.{known}
 use Rattle.part.specs.Convert.{ifKnown}
 use Rattle.part.specs.declared.Device.{Device}

@@ -1,13 +1,12 @@
 -- The list of widths is that of the device's bytes: `widths-at` says that the width at an index is the byte's, and that the bits
 -- before it are the fuses before the byte's first.
-use mathlib.Core.Path.{_≡_, refl, sym, _∙_, ap, ap₂, subst}
-use mathlib.Core.Bool.{Bool, true, false, cond}
-use mathlib.Core.List.{List, [], _∷_, _++_}
-use Prim.Native.Nat.{ℕ, zero, suc, _+_, _*_, _-_, _/_, _%_, _^_, _≤_, _<_, zero-le}
+use mathlib.Core.Path.{_≡_, refl, sym, _∙_, ap, subst}
+use mathlib.Core.Bool.{true, false}
+use mathlib.Core.List.{List, _++_}
+use Prim.Native.Nat.{ℕ, zero, suc, _+_, _*_, _-_, _/_, _%_, _<_}
 use native.Mathlib.Omega.{arith}
-use native.Mathlib.Nat.{zero-add, add-zero, add-assoc, zero-mul, suc-mul, add-comm, mod-lt, div-add-mod', div-lt-iff-lt-mul, not-suc-le-zero, le-of-suc-le-suc, le-of-lt}
-use lib.Dec.{ltb}
-use lib.ListN.{length, getD, take, drop, replicate, length-append, length-replicate, getD-replicate, List·getD-append}
+use native.Mathlib.Nat.{zero-add, zero-mul, suc-mul, add-comm, mod-lt, div-add-mod', div-lt-iff-lt-mul, not-suc-le-zero, le-of-suc-le-suc, le-of-lt}
+use lib.ListN.{length, getD, take, replicate, length-replicate, List·getD-append}
 use lib.Seq.{take-append-le, take-append-add, getD-append-add}
 use borrow.Author.Tests.{lt-ltb, le-ltb}
 use Rattle.cells.specs.Cells.{total, repeat}
@@ -16,7 +15,6 @@ use Rattle.part.specs.Device.{known, readoutBytes, blockBytes, blockFuses, colu
 use Rattle.part.specs.Place.{widthOf, firstFuse, byteOfIndex, byteInBlock}
 use Rattle.part.specs.declared.Device.{Device}
 use Rattle.part.specs.declared.BytePlace.{BytePlace}
-use Rattle.part.specs.declared.BytePlace.the-variants.{Main, WireAnd}
 use Rattle.part.proofs.Facts.{compared, by-cases}
 use Rattle.readout.specs.Widths.{rowWidths, blockWidths, widths}
 use Rattle.readout.proofs.Sizes.{main-size, wire-and-size, block-size, device-size}

@@ -1,6 +1,6 @@
 -- Readout: one byte for each valid address, in ascending address order, value in the low bits, bits above the byte's width 0.
 -- The two passages between image and readout, refusals and target bytes included. Document 01, "Three pictures of one part".
-use Prim.Native.Nat.{ℕ, zero, suc, _+_, _*_, _/_, _%_, _^_}
+use Prim.Native.Nat.{ℕ, zero, suc, _^_}
 use mathlib.Core.Path.{_≡_}
 use mathlib.Core.Bool.{Bool, cond}
 use mathlib.Core.List.{List}

@@ -5,7 +5,7 @@ ghost use mathlib.Core.Bool.{true, false};
 ghost use Prim.Native.Nat.{_+_, _*_, _/_, _%_, _^_, _<_, _≤_};
 ghost use lib.ListN.{length, drop, replicate};
 ghost use lib.Seq.{sets};
-ghost use Rattle.cells.specs.Cells.{cut, join, total, repeat, number};
+ghost use Rattle.cells.specs.Cells.{cut, join, repeat, number};
 ghost use Rattle.part.specs.Device.{known, imageBytes, readoutBytes};
 ghost use Rattle.readout.specs.Widths.{rowWidths, pairWidths, blockWidths, widths, wholeBytes, bytesIn, fine};
 use cells::internal::joined;

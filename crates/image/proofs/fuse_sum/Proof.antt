@@ -1,6 +1,6 @@
 -- `fuse_sum` meets its contract: the two tests, and the sum.
 -- Assumes nothing.
-use mathlib.Core.Path.{_≡_, sym, _∙_, ap}
+use mathlib.Core.Path.{sym, _∙_, ap}
 use Rattle.part.specs.Outcome.Outcome.{accepted}
 use Rattle.part.proofs.Devices.{is-known, is-unknown}
 use Rattle.image.specs.Image.{fuseSum}

@@ -1,18 +1,16 @@
 -- `fuse_of_address` meets its contract: the tests are those of a valid address and of a bit within its width.
 -- Assumes nothing.
-use mathlib.Core.Path.{_≡_, _∙_, sym, ap, refl}
-use mathlib.Core.Bool.{Bool, true, false, not, cond, _&&_, and-false}
-use Prim.Native.Nat.{ℕ, _+_, _<_, _≤_, _^_}
+use mathlib.Core.Path.{_≡_, _∙_, sym}
+use mathlib.Core.Bool.{Bool, true, false, not, and-false}
+use Prim.Native.Nat.{ℕ, _+_, _<_, _≤_}
 use native.Mathlib.Nat.{le-of-lt}
 use native.Mathlib.Omega.{arith}
-use lib.Dec.{ltb}
 use mir.Syntax.{w32}
 use mir.Val.{Fits}
 use borrow.Author.Needs.{needs}
 use borrow.Author.Tests.{lt-ltb, le-ltb, eq-eqb, ne-eqb, not-true, not-false}
-use Rattle.part.specs.Outcome.{Outcome}
 use Rattle.part.specs.Outcome.Outcome.{accepted, refused}
-use Rattle.part.specs.Device.{known, fuseCount}
+use Rattle.part.specs.Device.{known}
 use Rattle.part.specs.Place.{hasPlace, hasByte, widthOf, firstFuse, addressOfByte, byteOfAddress, valid}
 use Rattle.part.specs.Convert.{fuseOfAddress}
 use Rattle.part.specs.declared.Device.{Device}

@@ -1,13 +1,12 @@
 -- `byte_taken` meets its contract: the byte stands above the bytes before it.
 -- Assumes nothing.
-use mathlib.Core.Path.{_≡_, refl, sym, _∙_, ap}
+use mathlib.Core.Path.{_≡_, sym, _∙_, ap}
 use mathlib.Core.List.{List}
-use Prim.Native.Nat.{ℕ, _+_, _*_, _%_, _^_, _<_, _≤_}
+use Prim.Native.Nat.{ℕ, _+_, _*_, _%_, _^_, _<_}
 use native.Mathlib.Omega.{arith}
-use native.Mathlib.Nat.{mod-eq-of-lt, add-zero}
-use lib.ListN.{length, getD, drop, replicate, length-replicate, replicate-append-replicate}
+use lib.ListN.{getD, drop, replicate, length-replicate, replicate-append-replicate}
 use lib.Pow.{shl-exact}
-use lib.Seq.{drop-drop, getD-drop}
+use lib.Seq.{getD-drop}
 use mir.Syntax.{w8, w64}
 use mir.Val.{Fits}
 use Rattle.cells.specs.Cells.{join}

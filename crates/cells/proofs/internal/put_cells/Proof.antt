@@ -1,11 +1,11 @@
 -- `put_cells` meets its contract. The invariant, said of what is left: the stores of the cells still to come, made now, give
 -- what all the stores give.
-use mathlib.Core.Path.{_≡_, refl, sym, _∙_, ap, ap₂}
+use mathlib.Core.Path.{_≡_, refl, _∙_}
 use mathlib.Core.List.{List}
-use Prim.Native.Nat.{ℕ, zero, suc, _+_, _*_, _-_, _/_, _%_, _^_, _<_, _≤_}
+use Prim.Native.Nat.{ℕ, suc, _+_, _-_, _/_, _%_, _^_, _<_, _≤_}
 use native.Mathlib.Omega.{arith}
 use native.Mathlib.Nat.{mod-lt, lt-of-lt-of-le, add-zero}
-use lib.ListN.{length, getD, drop, replicate, set, length-set}
+use lib.ListN.{length, replicate, set, length-set}
 use lib.Pow.{pow-mono, pow-pos}
 use lib.Seq.{sets}
 use mir.Syntax.{w8}

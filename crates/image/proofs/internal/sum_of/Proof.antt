@@ -1,8 +1,8 @@
 -- `sum_of` meets its contract. The invariant, said of what is left: the sum so far and the bytes still to come.
 -- Assumes nothing.
-use mathlib.Core.Path.{_≡_, refl, sym, _∙_, ap}
+use mathlib.Core.Path.{_≡_, sym, _∙_}
 use mathlib.Core.List.{List}
-use Prim.Native.Nat.{ℕ, suc, _+_, _-_, _%_, _^_, _<_, _≤_}
+use Prim.Native.Nat.{ℕ, _+_, _-_, _%_, _^_, _<_, _≤_}
 use native.Mathlib.Omega.{arith}
 use native.Mathlib.Nat.{mod-add-mod, mod-eq-of-lt, add-assoc, zero-add, add-zero}
 use native.Mathlib.Numerals.{add-one}

@@ -1,13 +1,13 @@
 -- `first_fuse` meets its contract: the device has the byte, so each of its parts is small and no sum wraps.
 -- Assumes nothing.
-use mathlib.Core.Path.{_≡_, refl}
+use mathlib.Core.Path.{_≡_}
 use mathlib.Core.Bool.{true}
-use Prim.Native.Nat.{ℕ, _+_, _*_, _<_, _≤_}
+use Prim.Native.Nat.{ℕ, _*_, _<_, _≤_}
 use native.Mathlib.Omega.{arith}
 use native.Mathlib.Nat.{mul-le-mul}
 use borrow.Author.Needs.{needs}
 use Rattle.part.specs.Device.{known, inBlock, mainStart, wireAndStart}
-use Rattle.part.specs.Place.{hasByte, firstFuse}
+use Rattle.part.specs.Place.{hasByte}
 use Rattle.part.specs.declared.Device.{Device}
 use Rattle.part.specs.declared.BytePlace.{BytePlace}
 use Rattle.part.specs.declared.BytePlace.the-variants.{Main, WireAnd}

@@ -1,7 +1,6 @@
 -- `text_bytes` meets its contract: the frame, the digits of the count and the L lines.
 -- Assumes nothing.
 use mathlib.Core.Path.{_≡_, _∙_, ap}
-use Prim.Native.Nat.{ℕ, _≤_}
 use native.Mathlib.Omega.{arith}
 use borrow.Author.Needs.{needs}
 use Rattle.part.specs.Device.{fuseCount, decimalDigits, textBytes}

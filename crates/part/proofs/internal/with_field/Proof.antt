@@ -1,7 +1,6 @@
 -- `with_field` meets its contract: what is shifted above the low bits is added to them. This is the law that ties the
 -- shifts of an address to a sum of powers of two.
 use mathlib.Core.Path.{_∙_, ap}
-use Prim.Native.Nat.{ℕ}
 use native.Mathlib.Nat.{mod-eq-of-lt}
 use lib.Bits.{bitOr, or-shifted-r}
 use borrow.Author.Needs.{needs}

@@ -4,7 +4,6 @@ use mathlib.Core.Path.{refl}
 use Prim.Native.Nat.{_+_, _^_, _<_}
 use native.Mathlib.Omega.{arith}
 use lib.ListN.{drop, replicate}
-use borrow.Author.Needs.{needs}
 use Rattle.cells.specs.Cells.{total}
 use Rattle.readout.proofs.RowsIn.{left-over, wire-and-rows}
 use Rattle.readout.proofs.internal.wire_and_rows_in.Statement.{statement}
