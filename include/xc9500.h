@@ -41,6 +41,21 @@ uint64_t xc9500_image_to_readout(uint32_t blocks, uint32_t class_, const uint8_t
 uint64_t xc9500_readout_to_image(uint32_t blocks, uint32_t class_, const uint8_t *readout, size_t readout_len,
                                  uint8_t *image, size_t image_len);
 
+/* Settings are numbered from 0 in the listing order: term literals, wire-AND, macrocell fields, block fields, global fields.
+   Where a result may be missing it is XC9500_NONE. */
+#define XC9500_NONE (((uint64_t)1 << 56) - 1)
+
+/* How many settings a device has. Refused: 1. */
+uint64_t xc9500_setting_count(uint32_t blocks, uint32_t class_);
+
+/* The fuse of a bit of a setting, lowest bit first; XC9500_NONE where the setting has no such bit. Refused: 1; 4 no such
+   setting. */
+uint64_t xc9500_setting_fuse(uint32_t blocks, uint32_t class_, uint32_t setting, uint32_t bit);
+
+/* The number of the setting at a fuse times 32, plus the bit; XC9500_NONE where no setting has the fuse. Refused: 1; 3 no
+   such fuse. */
+uint64_t xc9500_setting_at_fuse(uint32_t blocks, uint32_t class_, uint32_t fuse);
+
 #ifdef __cplusplus
 }
 #endif

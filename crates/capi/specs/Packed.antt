@@ -1,9 +1,13 @@
 -- How an answer is packed into one 64-bit word: the refusal's number in bits 56 to 63 (0: accepted), and its value, or the
 -- result, in the low 56 bits.
-use Prim.Native.Nat.{ℕ, _+_, _*_, _^_}
+use Prim.Native.Nat.{ℕ, _+_, _*_, _-_, _^_}
+use mathlib.Core.Option.{Option}
+use mathlib.Core.Option.Option.{none, some}
 use Rattle.part.specs.Outcome.{Outcome}
 use Rattle.part.specs.Outcome.Outcome.{accepted, refused}
 use Rattle.part.specs.declared.Device.{Device}
+use Rattle.settings.specs.Order.{numberOf}
+use Rattle.settings.specs.declared.Setting.{Setting}
 
 abbrev pub refusalWord : (number value : ℕ) → ℕ
 refusalWord number value = number * 2 ^ 56 + value
@@ -26,3 +30,17 @@ itself x = x
 -- the result of a call that has none
 abbrev pub nothing : Unit {0} → ℕ
 nothing x = 0
+
+-- a result that there may not be: 2^56 - 1 where there is none
+abbrev pub orNone : {A : Type 0} → (A → ℕ) → Option A → ℕ
+orNone result none = 2 ^ 56 - 1
+orNone result (some x) = result x
+
+-- the result of a setting and a bit: the setting's number times 32 plus the bit
+abbrev pub settingAndBit : Device → Setting × ℕ → ℕ
+settingAndBit d p = numberOf d (p .0) * 32 + p .1
+
+-- a call by setting number goes through the setting of that number
+abbrev pub through : {A : Type 0} → Outcome Setting → (Setting → Outcome A) → Outcome A
+through (accepted s) answer = answer s
+through (refused number value) answer = refused number value

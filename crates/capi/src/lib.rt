@@ -1,21 +1,30 @@
 // The C interface, declared in include/xc9500.h: numbers are u32, a slice is a pointer and a length, every answer is one u64.
 // Each function only calls its library function and packs the answer: specs/Packed.antt says how.
 ghost use mathlib.Core.Path.{_≡_};
-ghost use Rattle.part.specs.Answer.{number, value, addressOutcome, fuseOutcome};
+ghost use Rattle.part.specs.Answer.{number, value, addressOutcome, fuseOutcome, numberOutcome};
 ghost use Rattle.part.specs.Convert.{addressOfFuse, fuseOfAddress};
-ghost use Rattle.image.specs.Image.{numberOutcome, fuseSum, zeroCount};
+ghost use Rattle.image.specs.Image.{fuseSum, zeroCount};
 ghost use Rattle.readout.specs.Readout.{doneOutcome, written, toReadout, readoutOf, toImage, imageOf};
-ghost use Rattle.capi.specs.Packed.{packed, refusalWord, device, addressAndBit, itself, nothing};
-use image::NumberAnswer;
+ghost use Rattle.settings.specs.Answer.{bitOutcome};
+ghost use Rattle.settings.specs.Operations.{countOfSettings, settingOfNumber, fuseOfBit, settingAtFuse};
+ghost use Rattle.capi.specs.Packed.{packed, refusalWord, device, addressAndBit, itself, nothing, orNone, settingAndBit, through};
 use part::AddressAnswer;
 use part::Device;
 use part::DeviceAddress;
 use part::FuseAnswer;
 use part::FuseNumber;
+use part::NumberAnswer;
 use part::Refusal;
 use readout::DoneAnswer;
+use settings::BitAnswer;
+use settings::NamedAnswer;
+use settings::SettingAnswer;
+use settings::SettingNumber;
 
 const BIT_56: u64 = 1 << 56;
+
+// Where a result may be missing: no such bit, no such setting at a fuse.
+const NO_RESULT: u64 = BIT_56 - 1;
 
 fn refusal_word(r: Refusal) -> u64
     ensures { λ w. ⌜ w ≡ refusalWord (number r) (value r) ⌝ }
@@ -57,6 +66,16 @@ fn done_word(answer: DoneAnswer) -> u64
     match answer {
         DoneAnswer::Done => 0,
         DoneAnswer::Refused(r) => refusal_word(r),
+    }
+}
+
+fn bit_word(answer: BitAnswer) -> u64
+    ensures { λ w. ⌜ w ≡ packed (orNone itself) (bitOutcome answer) ⌝ }
+{
+    match answer {
+        BitAnswer::Fuse(fuse) => fuse.0 as u64,
+        BitAnswer::NoSuchBit => NO_RESULT,
+        BitAnswer::Refused(r) => refusal_word(r),
     }
 }
 
@@ -118,4 +137,42 @@ pub extern "C" fn xc9500_readout_to_image(
     ensures { λ _. ⌜ now (image .exit) ≡ written (toImage (device blocks class) (now (readout .entry)) (now (image .entry))) (imageOf (device blocks class) (now (readout .entry))) (now (image .entry)) ⌝ }
 {
     done_word(readout::readout_to_image(Device { blocks, class }, readout, image))
+}
+
+// How many settings a device has.
+#[no_mangle]
+pub extern "C" fn xc9500_setting_count(blocks: u32, class: u32) -> u64
+    ensures { λ w. ⌜ w ≡ packed itself (countOfSettings (device blocks class)) ⌝ }
+{
+    number_word(settings::setting_count(Device { blocks, class }))
+}
+
+// The fuse of a bit of a setting, by setting number.
+#[no_mangle]
+pub extern "C" fn xc9500_setting_fuse(blocks: u32, class: u32, setting: u32, bit: u32) -> u64
+    ensures { λ w. ⌜ w ≡ packed (orNone itself) (through (settingOfNumber (device blocks class) setting) (λ s. fuseOfBit (device blocks class) s bit)) ⌝ }
+{
+    let d = Device { blocks, class };
+    let answer = settings::setting_of_number(d, SettingNumber(setting));
+    match answer {
+        SettingAnswer::Setting(s) => bit_word(settings::fuse_of_bit(d, s, bit)),
+        SettingAnswer::Refused(r) => refusal_word(r),
+    }
+}
+
+// The number of the setting at a fuse times 32 plus the bit.
+#[no_mangle]
+pub extern "C" fn xc9500_setting_at_fuse(blocks: u32, class: u32, fuse: u32) -> u64
+    ensures { λ w. ⌜ w ≡ packed (orNone (settingAndBit (device blocks class))) (settingAtFuse (device blocks class) fuse) ⌝ }
+{
+    let d = Device { blocks, class };
+    let answer = settings::setting_at_fuse(d, FuseNumber(fuse));
+    match answer {
+        NamedAnswer::Bit(s, bit) => {
+            let number = settings::internal::number_of(d, s);
+            number.0 as u64 * 32 + bit as u64
+        }
+        NamedAnswer::Unnamed => NO_RESULT,
+        NamedAnswer::Refused(r) => refusal_word(r),
+    }
 }

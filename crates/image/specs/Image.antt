@@ -7,13 +7,10 @@ use lib.Dec.{eqb}
 use lib.ListN.{length}
 use Rattle.part.specs.Outcome.{Outcome}
 use Rattle.part.specs.Outcome.Outcome.{accepted, refused}
-use Rattle.part.specs.Answer.{number, value}
 use Rattle.part.specs.Device.{fuseCount, imageBytes}
 use Rattle.part.specs.Convert.{ifKnown}
 use Rattle.part.specs.declared.Device.{Device}
 use Rattle.image.specs.Bits.{bitAt, gathered, tabulate}
-use Rattle.image.specs.declared.NumberAnswer.{NumberAnswer}
-use Rattle.image.specs.declared.NumberAnswer.the-variants as answer
 
 -- the state of a fuse
 unfoldable pub state : List ℕ → ℕ → ℕ
@@ -45,8 +42,3 @@ fuseSum d image = ifKnown d (ifLength (length image) (imageBytes d) (accepted (s
 
 unfoldable pub zeroCount : Device → List ℕ → Outcome ℕ
 zeroCount d image = ifKnown d (ifLength (length image) (imageBytes d) (accepted (zerosBelow image (fuseCount d))))
-
--- what an answer that is a number says
-abbrev pub numberOutcome : NumberAnswer → Outcome ℕ
-numberOutcome (answer.Number x) = accepted x
-numberOutcome (answer.Refused r) = refused (number r) (value r)

@@ -1,16 +1,13 @@
 // The fuse image: the fuse sum and the zero count over it. The state of a fuse and the change of one stand in `internal`.
 // The definitions stand in specs/Image.antt.
 ghost use mathlib.Core.Path.{_≡_};
-ghost use Rattle.image.specs.Image.{numberOutcome, fuseSum, zeroCount};
+ghost use Rattle.part.specs.Answer.{numberOutcome};
+ghost use Rattle.image.specs.Image.{fuseSum, zeroCount};
 use part::Device;
+use part::NumberAnswer;
 use part::Refusal;
 
 pub mod internal;
-
-pub enum NumberAnswer {
-    Number(u32),
-    Refused(Refusal),
-}
 
 // The sum of the image's bytes, of which the low 16 bits are kept. Refused: 1, 2.
 pub fn fuse_sum(d: Device, image: &[u8]) -> NumberAnswer

@@ -1,6 +1,7 @@
 -- The laws of `part` that belong to no one function.
 -- Assumes nothing.
 pub mod Facts
+pub mod Tables
 pub mod Rows
 pub mod Fuses
 pub mod Addresses

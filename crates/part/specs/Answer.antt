@@ -12,6 +12,8 @@ use Rattle.part.specs.declared.AddressAnswer.{AddressAnswer}
 use Rattle.part.specs.declared.AddressAnswer.the-variants as address
 use Rattle.part.specs.declared.FuseAnswer.{FuseAnswer}
 use Rattle.part.specs.declared.FuseAnswer.the-variants as fuse
+use Rattle.part.specs.declared.NumberAnswer.{NumberAnswer}
+use Rattle.part.specs.declared.NumberAnswer.the-variants as answer
 
 -- "no."
 abbrev pub number : Refusal → ℕ
@@ -55,3 +57,8 @@ addressOutcome (address.Refused r) = refused (number r) (value r)
 abbrev pub fuseOutcome : FuseAnswer → Outcome ℕ
 fuseOutcome (fuse.Fuse f) = accepted (f .0)
 fuseOutcome (fuse.Refused r) = refused (number r) (value r)
+
+-- what an answer that is a plain number says, here and in the crates above
+abbrev pub numberOutcome : NumberAnswer → Outcome ℕ
+numberOutcome (answer.Number x) = accepted x
+numberOutcome (answer.Refused r) = refused (number r) (value r)

@@ -16,6 +16,13 @@ isClass c = eqb c 0 || eqb c 1
 unfoldable pub known : Device → Bool
 known d = isBlockCount (d .blocks) && isClass (d .class)
 
+-- what the crates above read of a device: its number of blocks, and whether its class is the large one
+abbrev pub blocksOf : Device → ℕ
+blocksOf d = d .blocks
+
+abbrev pub isLarge : Device → Bool
+isLarge d = eqb (d .class) 1
+
 -- a row has `wide` columns of 8 bits, and then columns of `narrow` bits: the bits of a column ..
 abbrev pub columnWidth : (wide narrow : ℕ) → ℕ → ℕ
 columnWidth wide narrow column = cond (ltb column wide) 8 narrow

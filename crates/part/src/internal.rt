@@ -3,7 +3,7 @@
 ghost use mathlib.Core.Path.{_≡_};
 ghost use mathlib.Core.Bool.{true};
 ghost use Prim.Native.Nat.{_+_, _*_, _^_, _<_, _≤_};
-ghost use Rattle.part.specs.Device.{known, columnWidth, columnStart, inBlock, inDevice, fuseCount, imageBytes, readoutBytes, textBytes, decimalDigits};
+ghost use Rattle.part.specs.Device.{known, blocksOf, isLarge, columnWidth, columnStart, inBlock, inDevice, fuseCount, imageBytes, readoutBytes, textBytes, decimalDigits};
 ghost use Rattle.part.specs.Place.{hasByte, widthOf, columnOf, bitOf, firstFuse, placeOfFuse, field, addressOfByte, byteOfAddress};
 use super::BytePlace;
 use super::Device;
@@ -36,6 +36,19 @@ const MAIN_TEXT: u32 = 72 * (3 * 10 + 15 + 108);
 const SUBAREA_TEXT: u32 = 18 * (10 + 5 + 36);
 // What a text has besides its L lines and the digits of the count.
 const TEXT_FRAME: u32 = 3 + (2 + 2) + 4 + (1 + 4 + 2) + (1 + 4);
+
+// What the crates above read of a device.
+pub fn blocks_of(d: Device) -> u32
+    ensures { λ r. ⌜ r ≡ blocksOf d ⌝ }
+{
+    d.blocks
+}
+
+pub fn is_large(d: Device) -> bool
+    ensures { λ r. ⌜ r ≡ isLarge d ⌝ }
+{
+    d.class == 1
+}
 
 // What a block of a known device has, of so much in its main area and so much in each of its subareas ..
 fn in_block(d: Device, main: u32, subarea: u32) -> u32

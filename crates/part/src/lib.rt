@@ -92,6 +92,12 @@ pub enum FuseAnswer {
     Refused(Refusal),
 }
 
+// A plain number: a sum, a count.
+pub enum NumberAnswer {
+    Number(u32),
+    Refused(Refusal),
+}
+
 // The refusal's number in the table of refusals.
 pub fn refusal_number(r: Refusal) -> u32
     ensures { λ k. ⌜ k ≡ number r ⌝ }

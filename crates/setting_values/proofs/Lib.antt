@@ -1,0 +1,4 @@
+-- Laws about the values of settings.
+-- Assumes nothing.
+pub mod Widths
+pub mod Laws

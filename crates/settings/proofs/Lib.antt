@@ -1,0 +1,8 @@
+-- Laws about the definitions of `settings`.
+-- Assumes nothing.
+pub mod Order
+pub mod Numbers
+pub mod Places
+pub mod OnFuses
+pub mod Asked
+pub mod Laws

@@ -1,0 +1,9 @@
+-- The definitions that the contracts of `settings` cite, in document 01's order.
+-- Assumes nothing.
+pub mod Fields
+pub mod Settings
+pub mod Order
+pub mod Back
+pub mod Answer
+pub mod Operations
+pub mod Cases

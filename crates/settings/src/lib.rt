@@ -1,0 +1,206 @@
+// The named settings of a part: their groups and fields, their numbers, the fuses of each, and the setting at a fuse.
+// The definitions that the contracts cite stand in specs/, the laws about them in proofs/Laws.antt.
+ghost use mathlib.Core.Path.{_≡_};
+ghost use Rattle.part.specs.Answer.{numberOutcome};
+ghost use Rattle.settings.specs.Answer.{settingOutcome, settingNumberOutcome, bitOutcome, namedOutcome};
+ghost use Rattle.settings.specs.Operations.{countOfSettings, settingOfNumber, numberOfSetting, bitsOfSetting, fuseOfBit, settingAtFuse};
+use part::Device;
+use part::FuseNumber;
+use part::NumberAnswer;
+use part::Refusal;
+
+pub mod internal;
+
+// Which sense of an input a literal takes: the input itself, or its complement.
+pub enum Polarity {
+    P,
+    N,
+}
+
+// The 27 fields of a macrocell; ALLOC and HP carry their term.
+pub enum MacrocellField {
+    Alloc(u32),
+    Inv,
+    ImportUpAlloc,
+    ImportDownAlloc,
+    ExportDir,
+    SumHp,
+    IobOeMux,
+    OeMux,
+    OutMux,
+    ClkMux,
+    RegMode,
+    RstMux,
+    SetMux,
+    Init,
+    UimOeMux,
+    UimOutInv,
+    IobGnd,
+    IobSlew,
+    Hp(u32),
+}
+
+// The fields that each block has.
+pub enum BlockField {
+    Enable,
+    ExportEnable,
+    PullupDisable,
+    ReadProtA,
+    ReadProtB,
+    WriteProt,
+}
+
+// The fields of the whole part; those of FCLK carry c, those of FOE carry e.
+pub enum GlobalField {
+    FsrInv,
+    FclkInv(u32),
+    FoeInv(u32),
+    FclkMux(u32),
+    FoeMux(u32),
+    Usercode,
+}
+
+// A setting: its group, its indices and, where the group has fields, its field. Any numbers; `has_setting` tells which exist.
+pub enum Setting {
+    Literal {
+        block: u32,
+        macrocell: u32,
+        term: u32,
+        input: u32,
+        polarity: Polarity,
+    },
+    WireAnd {
+        block: u32,
+        input: u32,
+        source: u32,
+        macrocell: u32,
+    },
+    Macrocell {
+        block: u32,
+        macrocell: u32,
+        field: MacrocellField,
+    },
+    Block {
+        block: u32,
+        field: BlockField,
+    },
+    Global(GlobalField),
+}
+
+// The number of a setting in the listing order.
+pub struct SettingNumber(pub u32);
+
+pub enum SettingAnswer {
+    Setting(Setting),
+    Refused(Refusal),
+}
+
+pub enum SettingNumberAnswer {
+    Number(SettingNumber),
+    Refused(Refusal),
+}
+
+// The fuse of a bit of a setting; `NoSuchBit` where the bit is at or over the setting's width.
+pub enum BitAnswer {
+    Fuse(FuseNumber),
+    NoSuchBit,
+    Refused(Refusal),
+}
+
+// The setting that a fuse belongs to, and which of its bits the fuse is.
+pub enum NamedAnswer {
+    Bit(Setting, u32),
+    Unnamed,
+    Refused(Refusal),
+}
+
+// How many settings the device has. Refused: 1.
+pub fn setting_count(d: Device) -> NumberAnswer
+    ensures { λ r. ⌜ numberOutcome r ≡ countOfSettings d ⌝ }
+{
+    if !part::is_known(d) {
+        return NumberAnswer::Refused(Refusal::UnknownDevice);
+    }
+    NumberAnswer::Number(internal::count_of(d))
+}
+
+// The setting of a number. Refused: 1, 4.
+pub fn setting_of_number(d: Device, number: SettingNumber) -> SettingAnswer
+    ensures { λ r. ⌜ settingOutcome r ≡ settingOfNumber d (number .0) ⌝ }
+{
+    if !part::is_known(d) {
+        return SettingAnswer::Refused(Refusal::UnknownDevice);
+    }
+    if internal::count_of(d) <= number.0 {
+        return SettingAnswer::Refused(Refusal::NoSuchSetting);
+    }
+    SettingAnswer::Setting(internal::setting_of(d, number))
+}
+
+// The number of a setting. Refused: 1, 4.
+pub fn number_of_setting(d: Device, s: Setting) -> SettingNumberAnswer
+    ensures { λ r. ⌜ settingNumberOutcome r ≡ numberOfSetting d s ⌝ }
+{
+    if !part::is_known(d) {
+        return SettingNumberAnswer::Refused(Refusal::UnknownDevice);
+    }
+    if !internal::has_setting(d, s) {
+        return SettingNumberAnswer::Refused(Refusal::NoSuchSetting);
+    }
+    SettingNumberAnswer::Number(internal::number_of(d, s))
+}
+
+// How many bits a setting has. Refused: 1, 4.
+pub fn bits_of_setting(d: Device, s: Setting) -> NumberAnswer
+    ensures { λ r. ⌜ numberOutcome r ≡ bitsOfSetting d s ⌝ }
+{
+    if !part::is_known(d) {
+        return NumberAnswer::Refused(Refusal::UnknownDevice);
+    }
+    if !internal::has_setting(d, s) {
+        return NumberAnswer::Refused(Refusal::NoSuchSetting);
+    }
+    NumberAnswer::Number(internal::bits_of(d, s))
+}
+
+// The fuse of a bit of a setting, lowest bit first. Refused: 1, 4.
+pub fn fuse_of_bit(d: Device, s: Setting, bit: u32) -> BitAnswer
+    ensures { λ r. ⌜ bitOutcome r ≡ fuseOfBit d s bit ⌝ }
+{
+    if !part::is_known(d) {
+        return BitAnswer::Refused(Refusal::UnknownDevice);
+    }
+    if !internal::has_setting(d, s) {
+        return BitAnswer::Refused(Refusal::NoSuchSetting);
+    }
+    if internal::bits_of(d, s) <= bit {
+        return BitAnswer::NoSuchBit;
+    }
+    BitAnswer::Fuse(internal::fuse_of(d, s, bit))
+}
+
+// The setting and the bit at a fuse. Refused: 1, 3.
+pub fn setting_at_fuse(d: Device, fuse: FuseNumber) -> NamedAnswer
+    ensures { λ r. ⌜ namedOutcome r ≡ settingAtFuse d (fuse .0) ⌝ }
+{
+    if !part::is_known(d) {
+        return NamedAnswer::Refused(Refusal::UnknownDevice);
+    }
+    if part::internal::fuse_count(d) <= fuse.0 {
+        return NamedAnswer::Refused(Refusal::NoSuchFuse);
+    }
+    let place = part::internal::place_of_fuse(d, fuse);
+    let candidate = internal::candidate_at(d, place);
+    let s = candidate.setting;
+    if !internal::has_setting(d, s) {
+        return NamedAnswer::Unnamed;
+    }
+    if internal::bits_of(d, s) <= candidate.bit {
+        return NamedAnswer::Unnamed;
+    }
+    let found = internal::fuse_of(d, s, candidate.bit);
+    if found.0 != fuse.0 {
+        return NamedAnswer::Unnamed;
+    }
+    NamedAnswer::Bit(s, candidate.bit)
+}
