@@ -4,7 +4,7 @@ ghost use mathlib.Core.Path.{_≡_};
 ghost use mathlib.Core.Bool.{true};
 ghost use Prim.Native.Nat.{_+_, _*_, _^_, _<_, _≤_};
 ghost use Rattle.part.specs.Device.{known, blocksOf, isLarge, columnWidth, columnStart, inBlock, inDevice, fuseCount, imageBytes, readoutBytes, textBytes, decimalDigits};
-ghost use Rattle.part.specs.Place.{hasByte, widthOf, columnOf, bitOf, firstFuse, placeOfFuse, field, addressOfByte, byteOfAddress};
+ghost use Rattle.part.specs.Place.{hasByte, widthOf, columnOf, bitOf, firstFuse, placeOfFuse, field, addressOfByte, byteOfAddress, indexOfByte};
 use super::BytePlace;
 use super::Device;
 use super::DeviceAddress;
@@ -196,6 +196,26 @@ pub fn first_fuse(d: Device, byte: BytePlace) -> FuseNumber
             let start = column_start(1, 7, column);
             let in_subarea = row * WIRE_AND_ROW_FUSES + start;
             FuseNumber(block * per_block + (MAIN_FUSES + (subarea * SUBAREA_FUSES + in_subarea)))
+        }
+    }
+}
+
+// The index of a byte in a readout.
+pub fn index_of_byte(d: Device, byte: BytePlace) -> u32
+    requires { ⌜ (known d ≡ true) × (hasByte d byte ≡ true) ⌝ }
+    ensures { λ r. ⌜ r ≡ indexOfByte d byte ⌝ }
+{
+    let per_block = in_block(d, MAIN_BYTES, SUBAREA_BYTES);
+    match byte {
+        BytePlace::Main { block, row, column } => block * per_block + (row * MAIN_COLUMNS + column),
+        BytePlace::WireAnd {
+            block,
+            subarea,
+            row,
+            column,
+        } => {
+            let in_subarea = row * WIRE_AND_COLUMNS + column;
+            block * per_block + (MAIN_BYTES + (subarea * SUBAREA_BYTES + in_subarea))
         }
     }
 }

@@ -370,7 +370,7 @@ fn global_place(d: Device, field: GlobalField, bit: u32) -> Place
 }
 
 // The place of a bit of a setting.
-fn place_of(d: Device, s: Setting, bit: u32) -> Place
+pub fn place_of(d: Device, s: Setting, bit: u32) -> Place
     requires { ⌜ (known d ≡ true) × (hasSetting d s ≡ true) × (bit < bitsOf s) ⌝ }
     ensures { λ r. ⌜ r ≡ placeOf s bit ⌝ }
 {

@@ -1,0 +1,216 @@
+-- Setting a pattern in an image or a readout: it reads back, every other fuse and bit stands, and the two ways agree.
+-- Stated once for images and readouts where both have it.
+use mathlib.Core.Path.{_≡_, refl, sym, _∙_, ap, ap₂, subst}
+use mathlib.Core.Logic.{_≢_}
+use mathlib.Core.Bool.{Bool, true, false, cond, _&&_}
+use mathlib.Core.List.{List}
+use Prim.Native.Nat.{ℕ, zero, suc, _+_, _*_, _/_, _%_, _^_, _<_, _≤_}
+use native.Mathlib.Omega.{arith}
+use native.Mathlib.Decide.{ℕ-discrete}
+use lib.Dec.{ltb}
+use lib.ListN.{length, getD, set}
+use lib.Seq.{getD-set-same, getD-set-other}
+use borrow.Author.Tests.{lt-ltb, le-ltb, lt-leb, leb-false}
+use Rattle.part.specs.Device.{known, fuseCount, imageBytes, readoutBytes}
+use Rattle.part.specs.declared.Device.{Device}
+use Rattle.part.proofs.Facts.{and-iff, compared}
+use Rattle.part.proofs.Devices.{image-whole}
+use Rattle.image.specs.Bits.{bitOf, bitAt, putBit, withBit, gathered}
+use Rattle.image.proofs.Bits.{put-small, with-length, gathered-same}
+use Rattle.readout.specs.Readout.{widthAt, fuseAt, readoutOf, strayAt}
+use Rattle.readout.proofs.Laws.{lying, change-agrees, Within}
+use Rattle.settings.specs.Settings.{hasSetting, bitsOf, fuseOf, lists}
+use Rattle.settings.specs.declared.Setting.{Setting}
+use Rattle.settings.proofs.Laws as settings
+use Rattle.edit.specs.Edit.{inImage, inReadout, bytesOf, byteOf, bitIn, stateOf, withState, patternAt, withBits, withPattern, strayAmong, strayOf}
+use Rattle.edit.proofs.Spots.{a-bit, put, put-length, put-other, put-same, put-read}
+
+-- where a fuse stands: inside the bytes, and no other fuse stands there
+pub inside : (d : Device) (form : Bool) (f : ℕ) → known d ≡ true → f < fuseCount d → byteOf d form f < bytesOf d form
+inside d false f k h = omega (arith, image-whole d k)
+inside d true f k h = lying d f h .index-below
+
+pub one-fuse : (d : Device) (form : Bool) (f g : ℕ) → f < fuseCount d → g < fuseCount d → byteOf d form f ≡ byteOf d form g → bitIn d form f ≡ bitIn d form g
+    → f ≡ g
+one-fuse d false f g hf hg e b = omega arith
+one-fuse d true f g hf hg e b = sym (lying d f hf .its-own) ∙ ap₂ (fuseAt d) e b ∙ lying d g hg .its-own
+
+-- a bit of a setting is one of its fuses, and lies below the count
+listed : (d : Device) (t : Setting) → hasSetting d t ≡ true → (b : ℕ) → b < bitsOf t → lists d t b ≡ true
+listed d t h b l = and-iff (hasSetting d t) (ltb b (bitsOf t)) .1 (h, lt-ltb b (bitsOf t) l)
+
+pub fuse-below : (d : Device) → known d ≡ true → (t : Setting) → hasSetting d t ≡ true → (b : ℕ) → b < bitsOf t → fuseOf d t b < fuseCount d
+fuse-below d k t h b l = settings.left-inverse d k .below t b (listed d t h b l)
+
+-- bits put one after the other, as the definition has it
+as-put : (d : Device) (form : Bool) (bytes : List ℕ) (s : Setting) (pattern w : ℕ)
+    → withBits d form bytes s pattern w ≡ put (λ b. byteOf d form (fuseOf d s b)) (λ b. bitIn d form (fuseOf d s b)) pattern bytes w
+unfolding withBits put
+as-put d form bytes s pattern zero = refl
+as-put d form bytes s pattern (suc w) = rw (as-put d form bytes s pattern w)
+
+module _ (d : Device) (k : known d ≡ true) (form : Bool) (bytes : List ℕ) (e : length bytes ≡ bytesOf d form)
+    (s : Setting) (h : hasSetting d s ≡ true) (pattern : ℕ) where
+  at : ℕ → ℕ
+  at b = byteOf d form (fuseOf d s b)
+
+  its : ℕ → ℕ
+  its b = bitIn d form (fuseOf d s b)
+
+  there : (b : ℕ) → b < bitsOf s → at b < length bytes
+  unfolding at
+  there b l = rw e (inside d form (fuseOf d s b) k (fuse-below d k s h b l))
+
+  differ : (b c : ℕ) → b < bitsOf s → c < bitsOf s → at b ≡ at c → its b ≡ its c → b ≡ c
+  unfolding at its
+  differ b c lb lc x y =
+      settings.apart d k s s b c (listed d s h b lb) (listed d s h c lc)
+      (one-fuse d form (fuseOf d s b) (fuseOf d s c) (fuse-below d k s h b lb) (fuse-below d k s h c lc) x y) .1
+
+  changed : List ℕ
+  changed = withPattern d form bytes s pattern
+
+  is-put : changed ≡ put at its pattern bytes (bitsOf s)
+  unfolding changed withPattern at its
+  is-put = as-put d form bytes s pattern (bitsOf s)
+
+  pub set-length : length (withPattern d form bytes s pattern) ≡ length bytes
+  unfolding changed
+  set-length = rw is-put (put-length at its pattern bytes (bitsOf s) there)
+
+  -- every bit of every byte that is none of the setting's stands as before
+  pub set-others : (i j : ℕ) → ((b : ℕ) → b < bitsOf s → (i ≡ byteOf d form (fuseOf d s b)) × (j ≡ bitIn d form (fuseOf d s b)) → ⊥)
+      → bitAt (withPattern d form bytes s pattern) i j ≡ bitAt bytes i j
+  unfolding changed at its
+  set-others i j apart = rw is-put (put-other at its pattern bytes (bitsOf s) there (bitsOf s) (omega arith) i j apart)
+
+  -- each fuse of the setting has the state that the pattern needs
+  pub set-fuses : (b : ℕ) → b < bitsOf s → stateOf d form (withPattern d form bytes s pattern) (fuseOf d s b) ≡ bitOf pattern b
+  unfolding changed at its
+  set-fuses b l = rw is-put (put-same at its pattern bytes (bitsOf s) there differ (bitsOf s) (omega arith) b l)
+
+  -- every other fuse stands as before
+  pub set-other-fuses : (f : ℕ) → f < fuseCount d → ((b : ℕ) → b < bitsOf s → fuseOf d s b ≢ f)
+      → stateOf d form (withPattern d form bytes s pattern) f ≡ stateOf d form bytes f
+  set-other-fuses f hf apart =
+      set-others (byteOf d form f) (bitIn d form f)
+      (λ b l x. apart b l (sym (one-fuse d form f (fuseOf d s b) hf (fuse-below d k s h b l) (x .0) (x .1))))
+
+  -- the setting reads as set, every other setting as before
+  pub set-reads : pattern < 2 ^ bitsOf s → patternAt d form (withPattern d form bytes s pattern) s ≡ pattern
+  unfolding patternAt changed at its
+  set-reads fits = rw is-put (put-read at its pattern bytes (bitsOf s) there differ fits)
+
+  pub set-others-read : (t : Setting) → hasSetting d t ≡ true → t ≢ s
+      → patternAt d form (withPattern d form bytes s pattern) t ≡ patternAt d form bytes t
+  unfolding patternAt
+  set-others-read t ht ne =
+      gathered-same (λ b. stateOf d form (withPattern d form bytes s pattern) (fuseOf d t b)) (λ b. stateOf d form bytes (fuseOf d t b)) (bitsOf t)
+      (λ b l.
+      set-other-fuses (fuseOf d t b) (fuse-below d k t ht b l)
+      (λ c m x. ne (settings.apart d k t s b c (listed d t ht b l) (listed d s h c m) (sym x) .0)))
+
+-- The two ways agree, bit after bit: the readout of the changed image is the changed readout
+module _ (d : Device) (k : known d ≡ true) (image : List ℕ) (e : length image ≡ imageBytes d)
+    (s : Setting) (h : hasSetting d s ≡ true) (pattern : ℕ) where
+  bits-length : (w : ℕ) → w ≤ bitsOf s → length (withBits d inImage image s pattern w) ≡ imageBytes d
+  unfolding withBits
+  bits-length zero l = e
+  bits-length (suc w) l =
+      let before = bits-length w (omega arith) in
+      with-length (withBits d inImage image s pattern w) _ _ (bitOf pattern w)
+      (rw before (inside d inImage (fuseOf d s w) k (fuse-below d k s h w l))) (a-bit pattern w)
+      ∙ before
+
+  bits-agree : (w : ℕ) → w ≤ bitsOf s
+      → readoutOf d (withBits d inImage image s pattern w) ≡ withBits d inReadout (readoutOf d image) s pattern w
+  unfolding withBits
+  bits-agree zero l = refl
+  bits-agree (suc w) l =
+      change-agrees d (withBits d inImage image s pattern w) (fuseOf d s w) (bitOf pattern w) k (bits-length w (omega arith))
+      (fuse-below d k s h w l) (a-bit pattern w)
+      ∙ ap (λ (r : List ℕ). withState d inReadout r (fuseOf d s w) (bitOf pattern w)) (bits-agree w (omega arith))
+
+  pub agrees : readoutOf d (withPattern d inImage image s pattern) ≡ withPattern d inReadout (readoutOf d image) s pattern
+  unfolding withPattern
+  agrees = bits-agree (bitsOf s) (omega arith)
+
+-- a byte keeps its bound where a bit within it is put
+module _ (bytes : List ℕ) (index b st bound : ℕ) (there : index < length bytes) (bit : st < 2) (within : b < bound) where
+  pub with-small : getD bytes index 0 < 2 ^ bound → getD (withBit bytes index b st) index 0 < 2 ^ bound
+  unfolding withBit
+  with-small h =
+      rw (getD-set-same bytes index (putBit (getD bytes index 0) b st) 0 there) (put-small (getD bytes index 0) b st bit bound h within)
+
+  pub with-elsewhere : (i : ℕ) → i ≢ index → getD (withBit bytes index b st) i 0 ≡ getD bytes i 0
+  unfolding withBit
+  with-elsewhere i ne = getD-set-other bytes index i (putBit (getD bytes index 0) b st) 0 ne
+
+-- so an image stays a list of bytes ..
+module _ (d : Device) (k : known d ≡ true) (image : List ℕ) (e : length image ≡ imageBytes d)
+    (s : Setting) (h : hasSetting d s ≡ true) (pattern : ℕ) (small : (i : ℕ) → getD image i 0 < 2 ^ 8) where
+  bits-small : (w : ℕ) → w ≤ bitsOf s → (i : ℕ) → getD (withBits d inImage image s pattern w) i 0 < 2 ^ 8
+  unfolding withBits
+  bits-small zero l i = small i
+  bits-small (suc w) l i =
+      let f = fuseOf d s w in
+      let before = withBits d inImage image s pattern w in
+      let there : f / 8 < length before =
+          rw (bits-length d k image e s h pattern w (omega arith)) (inside d inImage f k (fuse-below d k s h w l)) in
+      here (ℕ-discrete i (f / 8)) there (bits-small w (omega arith) i) (bits-small w (omega arith) (f / 8))
+    where
+      here : Dec (i ≡ fuseOf d s w / 8) → fuseOf d s w / 8 < length (withBits d inImage image s pattern w)
+          → getD (withBits d inImage image s pattern w) i 0 < 2 ^ 8 → getD (withBits d inImage image s pattern w) (fuseOf d s w / 8) 0 < 2 ^ 8
+          → getD (withState d inImage (withBits d inImage image s pattern w) (fuseOf d s w) (bitOf pattern w)) i 0 < 2 ^ 8
+      here (yes x) there own at =
+          rw x (with-small (withBits d inImage image s pattern w) (fuseOf d s w / 8) (fuseOf d s w % 8) (bitOf pattern w) 8 there (a-bit pattern w) (omega arith) at)
+      here (no x) there own at =
+          rw (with-elsewhere (withBits d inImage image s pattern w) (fuseOf d s w / 8) (fuseOf d s w % 8) (bitOf pattern w) 8 there (a-bit pattern w) (omega arith) i x) own
+
+  pub set-small : (i : ℕ) → getD (withPattern d inImage image s pattern) i 0 < 2 ^ 8
+  unfolding withPattern
+  set-small = bits-small (bitsOf s) (omega arith)
+
+-- .. and a readout byte without a bit above its width stays one
+module _ (d : Device) (k : known d ≡ true) (readout : List ℕ) (e : length readout ≡ readoutBytes d)
+    (s : Setting) (h : hasSetting d s ≡ true) (pattern : ℕ) where
+  readout-length : (w : ℕ) → w ≤ bitsOf s → length (withBits d inReadout readout s pattern w) ≡ readoutBytes d
+  unfolding withBits
+  readout-length zero l = e
+  readout-length (suc w) l =
+      let before = readout-length w (omega arith) in
+      with-length (withBits d inReadout readout s pattern w) _ _ (bitOf pattern w)
+      (rw before (inside d inReadout (fuseOf d s w) k (fuse-below d k s h w l))) (a-bit pattern w)
+      ∙ before
+
+  bits-clean : (w : ℕ) → w ≤ bitsOf s → (i : ℕ) → getD readout i 0 < 2 ^ widthAt d i → getD (withBits d inReadout readout s pattern w) i 0 < 2 ^ widthAt d i
+  unfolding withBits
+  bits-clean zero l i c = c
+  bits-clean (suc w) l i c =
+      let f = fuseOf d s w in
+      let below = fuse-below d k s h w l in
+      let there : byteOf d inReadout f < length (withBits d inReadout readout s pattern w) = rw (readout-length w (omega arith)) (inside d inReadout f k below) in
+      here (ℕ-discrete i (byteOf d inReadout f)) there (lying d f below .bit-below) (bits-clean w (omega arith) i c)
+    where
+      here : Dec (i ≡ byteOf d inReadout (fuseOf d s w)) → byteOf d inReadout (fuseOf d s w) < length (withBits d inReadout readout s pattern w)
+          → bitIn d inReadout (fuseOf d s w) < widthAt d (byteOf d inReadout (fuseOf d s w))
+          → getD (withBits d inReadout readout s pattern w) i 0 < 2 ^ widthAt d i
+          → getD (withState d inReadout (withBits d inReadout readout s pattern w) (fuseOf d s w) (bitOf pattern w)) i 0 < 2 ^ widthAt d i
+      here (yes x) there inBits own =
+          rw x (with-small (withBits d inReadout readout s pattern w) (byteOf d inReadout (fuseOf d s w)) (bitIn d inReadout (fuseOf d s w)) (bitOf pattern w) (widthAt d (byteOf d inReadout (fuseOf d s w))) there (a-bit pattern w) inBits (rw x at own))
+      here (no x) there inBits own =
+          rw (with-elsewhere (withBits d inReadout readout s pattern w) (byteOf d inReadout (fuseOf d s w)) (bitIn d inReadout (fuseOf d s w)) (bitOf pattern w) (widthAt d (byteOf d inReadout (fuseOf d s w))) there (a-bit pattern w) inBits i x) own
+
+  pub set-clean : (i : ℕ) → getD readout i 0 < 2 ^ widthAt d i → getD (withPattern d inReadout readout s pattern) i 0 < 2 ^ widthAt d i
+  unfolding withPattern
+  set-clean = bits-clean (bitsOf s) (omega arith)
+
+-- no byte that holds the setting has a bit above its width exactly if the scan goes through
+pub clean-through : (d : Device) (readout : List ℕ) (s : Setting) (w : ℕ)
+    → ((b : ℕ) → b < w → getD readout (byteOf d inReadout (fuseOf d s b)) 0 < 2 ^ widthAt d (byteOf d inReadout (fuseOf d s b)))
+    → strayAmong d readout s w ≡ readoutBytes d
+unfolding strayAmong strayAt
+clean-through d readout s zero clean = refl
+clean-through d readout s (suc w) clean =
+    rw (lt-leb (2 ^ widthAt d (byteOf d inReadout (fuseOf d s w))) (getD readout (byteOf d inReadout (fuseOf d s w)) 0) (clean w (omega arith)))
+    (clean-through d readout s w (λ b l. clean b (omega arith)))

@@ -1,0 +1,6 @@
+-- Laws about reading and setting.
+-- Assumes nothing.
+pub mod Spots
+pub mod Edits
+pub mod Steps
+pub mod Demand

@@ -1,0 +1,64 @@
+-- Demand 3, whole: a field for each of its sentences, in their order, over document 01's places and values, the conversions and the
+-- passages; it speaks of the definitions that the contracts of the operations cite.
+use mathlib.Core.Path.{_≡_}
+use mathlib.Core.Logic.{_≢_}
+use mathlib.Core.Bool.{true}
+use mathlib.Core.List.{List}
+use mathlib.Core.Option.Option.{some}
+use Prim.Native.Nat.{ℕ, _^_, _<_}
+use lib.ListN.{length, getD}
+use Rattle.part.specs.Outcome.{Outcome}
+use Rattle.part.specs.Outcome.Outcome.{accepted}
+use Rattle.part.specs.Device.{known, fuseCount, imageBytes}
+use Rattle.part.specs.declared.Device.{Device}
+use Rattle.image.specs.Bits.{bitOf}
+use Rattle.readout.specs.Readout.{readoutOf}
+use Rattle.settings.specs.Settings.{hasSetting, bitsOf, fuseOf}
+use Rattle.settings.specs.declared.Setting.{Setting}
+use Rattle.values.specs.Patterns.{patternIn}
+use Rattle.values.specs.declared.Value.{Value}
+use Rattle.setting_values.specs.Kinds.{kindOf}
+use Rattle.edit.specs.Edit.{inImage, inReadout, stateOf, readIn}
+
+-- "take any known device, any image of it, the readout of that image, any setting of that device and any value of that setting"; the
+-- value stands for a pattern of states
+pub record Taken (d : Device) (image : List ℕ) (s : Setting) (v : Value) (pattern : ℕ) : Type 0 where
+  pub device : known d ≡ true
+  pub size : length image ≡ imageBytes d
+  pub bytes : (i : ℕ) → getD image i 0 < 2 ^ 8
+  pub setting : hasSetting d s ≡ true
+  pub value : patternIn (kindOf d s) v ≡ some pattern
+
+-- what the calls gave: the answers of setting in the image and in the readout; the bytes after that; the readout of the changed image
+-- and the image of the changed readout; the answers of reading
+pub record Calls : Type 0 where
+  pub set-image : Outcome (Unit {0})
+  pub set-readout : Outcome (Unit {0})
+  pub image : List ℕ
+  pub readout : List ℕ
+  pub its-readout : List ℕ
+  pub its-image : List ℕ
+  pub read-image : Outcome Value
+  pub read-readout : Outcome Value
+
+pub record Demand3 (d : Device) (image : List ℕ) (s : Setting) (v : Value) (pattern : ℕ) (c : Calls) : Type 0 where
+  -- "Set it in the image, or set it straight in the readout's few bytes. Neither is refused."
+  pub not-refused : (c .set-image ≡ accepted tt) × (c .set-readout ≡ accepted tt)
+  -- "Then the changed readout equals, byte for byte, the readout of the changed image, .."
+  pub same-readout : c .readout ≡ c .its-readout
+  -- ".. and turned into an image it equals the changed image."
+  pub same-image : c .its-image ≡ c .image
+  -- "In the changed image and in the changed readout the setting reads as that value, .."
+  pub reads-as-set : (c .read-image ≡ accepted v) × (c .read-readout ≡ accepted v)
+  -- ".. and every other setting reads as it did before."
+  pub others-as-before : (t : Setting) → hasSetting d t ≡ true → t ≢ s
+      → (readIn d inImage (c .image) t ≡ readIn d inImage image t)
+      × (readIn d inReadout (c .readout) t ≡ readIn d inReadout (readoutOf d image) t)
+  -- "Each fuse listed for the setting stands as the value needs it."
+  pub listed-fuses : (b : ℕ) → b < bitsOf s
+      → (stateOf d inImage (c .image) (fuseOf d s b) ≡ bitOf pattern b)
+      × (stateOf d inReadout (c .readout) (fuseOf d s b) ≡ bitOf pattern b)
+  -- "Every other fuse of the part, named or not, stands as before."
+  pub other-fuses : (f : ℕ) → f < fuseCount d → ((b : ℕ) → b < bitsOf s → fuseOf d s b ≢ f)
+      → (stateOf d inImage (c .image) f ≡ stateOf d inImage image f)
+      × (stateOf d inReadout (c .readout) f ≡ stateOf d inReadout (readoutOf d image) f)

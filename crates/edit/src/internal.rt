@@ -1,0 +1,248 @@
+// Bits of a setting in an image or a readout: what the operations need, and no caller.
+// A function here may require that the device has the setting and the bytes their length.
+ghost use mathlib.Core.Path.{_≡_};
+ghost use mathlib.Core.Bool.{true, cond, not, _&&_};
+ghost use Prim.Native.Nat.{_/_, _^_, _<_};
+ghost use lib.Dec.{eqb, ltb};
+ghost use lib.ListN.{length, getD};
+ghost use Rattle.part.specs.Device.{known};
+ghost use Rattle.settings.specs.Settings.{hasSetting, bitsOf, fuseOf};
+ghost use Rattle.part.specs.Answer.{numberOutcome};
+ghost use Rattle.readout.specs.Readout.{doneOutcome, Written};
+ghost use Rattle.setting_values.specs.Operations.{valueOutcome};
+ghost use Rattle.edit.specs.Edit.{bytesOf, byteOf, bitIn, patternAt, withPattern, strayOf, strayIn, readIn, setIn, withValue, readPattern, setPattern, withNumbered};
+use part::Device;
+use part::NumberAnswer;
+use part::Refusal;
+use readout::DoneAnswer;
+use setting_values::ValueAnswer;
+use settings::Setting;
+use settings::SettingNumber;
+use values::Value;
+use values::internal::Found;
+
+// A byte of an image or a readout, and one of its bits.
+struct Spot {
+    index: usize,
+    bit: u32,
+}
+
+// Where a bit of a setting stands.
+fn spot_of(d: Device, readout: bool, s: Setting, bit: u32) -> Spot
+    requires { ⌜ (known d ≡ true) × (hasSetting d s ≡ true) × (bit < bitsOf s) ⌝ }
+    ensures { λ r. ⌜ (r .index ≡ byteOf d readout (fuseOf d s bit)) × (r .bit ≡ bitIn d readout (fuseOf d s bit)) ⌝ }
+{
+    let place = settings::internal::place_of(d, s, bit);
+    let byte = place.byte;
+    if readout {
+        return Spot {
+            index: part::internal::index_of_byte(d, byte) as usize,
+            bit: place.bit,
+        };
+    }
+    let first = part::internal::first_fuse(d, byte);
+    let fuse = first.0 + place.bit;
+    Spot {
+        index: (fuse / 8) as usize,
+        bit: fuse % 8,
+    }
+}
+
+// The states of a setting's fuses, lowest bit first.
+pub fn pattern_at(d: Device, readout: bool, bytes: &[u8], s: Setting) -> u32
+    requires { ⌜ (known d ≡ true) × (hasSetting d s ≡ true) × (length (now bytes) ≡ bytesOf d readout) ⌝ }
+    ensures { λ r. ⌜ r ≡ patternAt d readout (now (bytes .entry)) s ⌝ }
+{
+    let width = settings::internal::bits_of(d, s);
+    let mut pattern: u32 = 0;
+    let mut bit: u32 = 0;
+    while bit < width {
+        let spot = spot_of(d, readout, s, bit);
+        let state = image::internal::bit_of(bytes, spot.index, spot.bit);
+        pattern += state << bit;
+        bit += 1;
+    }
+    pattern
+}
+
+// The states of a setting's fuses put in place.
+pub fn put_pattern(d: Device, readout: bool, bytes: &mut [u8], s: Setting, pattern: u32)
+    requires { ⌜ (known d ≡ true) × (hasSetting d s ≡ true) × (length (now bytes) ≡ bytesOf d readout) ⌝ }
+    ensures { λ _. ⌜ now (bytes .exit) ≡ withPattern d readout (now (bytes .entry)) s pattern ⌝ }
+{
+    let width = settings::internal::bits_of(d, s);
+    let mut bit: u32 = 0;
+    while bit < width {
+        let spot = spot_of(d, readout, s, bit);
+        let state = (pattern >> bit) % 2;
+        image::internal::set_bit(bytes, spot.index, spot.bit, state);
+        bit += 1;
+    }
+}
+
+// The bits of a byte above a width.
+fn above_width(bytes: &[u8], index: usize, width: u32) -> u32
+    requires { ⌜ (index < length (now bytes)) × (width < 32) ⌝ }
+    ensures { λ r. ⌜ r ≡ getD (now (bytes .entry)) index 0 / 2 ^ width ⌝ }
+{
+    bytes[index] as u32 >> width
+}
+
+// The lower of two indices, where the first counts only if its byte has bits above its width.
+fn lower(above: u32, index: usize, lowest: usize) -> usize
+    ensures { λ r. ⌜ r ≡ cond (not (eqb above 0) && ltb index lowest) index lowest ⌝ }
+{
+    if (above != 0) & (index < lowest) {
+        return index;
+    }
+    lowest
+}
+
+// The lowest index of a readout byte that holds the setting and has a bit above its width, or the length.
+pub fn stray_of(d: Device, readout: &[u8], s: Setting) -> usize
+    requires { ⌜ (known d ≡ true) × (hasSetting d s ≡ true) × (length (now readout) ≡ bytesOf d true) ⌝ }
+    ensures { λ r. ⌜ r ≡ strayOf d (now (readout .entry)) s ⌝ }
+{
+    let bits = settings::internal::bits_of(d, s);
+    let mut lowest: usize = readout.len();
+    let mut bit: u32 = 0;
+    while bit < bits {
+        let place = settings::internal::place_of(d, s, bit);
+        let byte = place.byte;
+        let index = part::internal::index_of_byte(d, byte) as usize;
+        let width = part::internal::width_of(byte);
+        let above = above_width(readout, index, width);
+        lowest = lower(above, index, lowest);
+        bit += 1;
+    }
+    lowest
+}
+
+// The same for an image or a readout: an image has no bits above a width.
+fn stray_in(d: Device, readout: bool, bytes: &[u8], s: Setting) -> usize
+    requires { ⌜ (known d ≡ true) × (hasSetting d s ≡ true) × (length (now bytes) ≡ bytesOf d readout) ⌝ }
+    ensures { λ r. ⌜ r ≡ strayIn d readout (now (bytes .entry)) s ⌝ }
+{
+    if readout {
+        return stray_of(d, bytes, s);
+    }
+    bytes.len()
+}
+
+// The exact length of an image or a readout.
+fn bytes_of(d: Device, readout: bool) -> usize
+    requires { ⌜ known d ≡ true ⌝ }
+    ensures { λ r. ⌜ r ≡ bytesOf d readout ⌝ }
+{
+    if readout {
+        return part::internal::readout_bytes(d) as usize;
+    }
+    part::internal::image_bytes(d) as usize
+}
+
+// The value of a setting. Refused: 1, 2, 4, 6.
+pub fn read(d: Device, readout: bool, bytes: &[u8], s: Setting) -> ValueAnswer
+    ensures { λ r. ⌜ valueOutcome r ≡ readIn d readout (now (bytes .entry)) s ⌝ }
+{
+    if !part::is_known(d) {
+        return ValueAnswer::Refused(Refusal::UnknownDevice);
+    }
+    if bytes.len() != bytes_of(d, readout) {
+        return ValueAnswer::Refused(Refusal::WrongLength);
+    }
+    if !settings::internal::has_setting(d, s) {
+        return ValueAnswer::Refused(Refusal::NoSuchSetting);
+    }
+    let stray = stray_in(d, readout, bytes, s);
+    if stray < bytes.len() {
+        let index = stray as u32;
+        return ValueAnswer::Refused(Refusal::StrayBit(index));
+    }
+    let kind = setting_values::internal::kind_of(d, s);
+    let pattern = pattern_at(d, readout, bytes, s);
+    ValueAnswer::Value(values::internal::value_in(kind, pattern))
+}
+
+// A setting set to a value. Refused: 1, 2, 4, 5, 6.
+pub fn set(d: Device, readout: bool, bytes: &mut [u8], s: Setting, v: Value) -> DoneAnswer
+    ensures { λ r. ⌜ Written (setIn d readout (now (bytes .entry)) s v) (doneOutcome r) (withValue d readout (now (bytes .entry)) s v) (now (bytes .entry)) (now (bytes .exit)) ⌝ }
+{
+    if !part::is_known(d) {
+        return DoneAnswer::Refused(Refusal::UnknownDevice);
+    }
+    if bytes.len() != bytes_of(d, readout) {
+        return DoneAnswer::Refused(Refusal::WrongLength);
+    }
+    if !settings::internal::has_setting(d, s) {
+        return DoneAnswer::Refused(Refusal::NoSuchSetting);
+    }
+    let kind = setting_values::internal::kind_of(d, s);
+    let found = values::internal::pattern_in(kind, v);
+    match found {
+        Found::Pattern(pattern) => {
+            let stray = stray_in(d, readout, bytes, s);
+            if stray < bytes.len() {
+                let index = stray as u32;
+                return DoneAnswer::Refused(Refusal::StrayBit(index));
+            }
+            put_pattern(d, readout, bytes, s, pattern);
+            DoneAnswer::Done
+        }
+        Found::NoSuchValue => DoneAnswer::Refused(Refusal::NoSuchValue),
+    }
+}
+
+// The pattern of a setting, by its number. Refused: 1, 2, 4, 6.
+pub fn read_numbered(d: Device, readout: bool, bytes: &[u8], number: SettingNumber) -> NumberAnswer
+    ensures { λ r. ⌜ numberOutcome r ≡ readPattern d readout (now (bytes .entry)) (number .0) ⌝ }
+{
+    if !part::is_known(d) {
+        return NumberAnswer::Refused(Refusal::UnknownDevice);
+    }
+    if bytes.len() != bytes_of(d, readout) {
+        return NumberAnswer::Refused(Refusal::WrongLength);
+    }
+    if settings::internal::count_of(d) <= number.0 {
+        return NumberAnswer::Refused(Refusal::NoSuchSetting);
+    }
+    let s = settings::internal::setting_of(d, number);
+    let stray = stray_in(d, readout, bytes, s);
+    if stray < bytes.len() {
+        let index = stray as u32;
+        return NumberAnswer::Refused(Refusal::StrayBit(index));
+    }
+    NumberAnswer::Number(pattern_at(d, readout, bytes, s))
+}
+
+// A setting set to a pattern, by its number. Refused: 1, 2, 4, 5, 6.
+pub fn set_numbered(
+    d: Device,
+    readout: bool,
+    bytes: &mut [u8],
+    number: SettingNumber,
+    pattern: u32,
+) -> DoneAnswer
+    ensures { λ r. ⌜ Written (setPattern d readout (now (bytes .entry)) (number .0) pattern) (doneOutcome r) (withNumbered d readout (now (bytes .entry)) (number .0) pattern) (now (bytes .entry)) (now (bytes .exit)) ⌝ }
+{
+    if !part::is_known(d) {
+        return DoneAnswer::Refused(Refusal::UnknownDevice);
+    }
+    if bytes.len() != bytes_of(d, readout) {
+        return DoneAnswer::Refused(Refusal::WrongLength);
+    }
+    if settings::internal::count_of(d) <= number.0 {
+        return DoneAnswer::Refused(Refusal::NoSuchSetting);
+    }
+    let s = settings::internal::setting_of(d, number);
+    let kind = setting_values::internal::kind_of(d, s);
+    if !values::internal::fits(kind, pattern) {
+        return DoneAnswer::Refused(Refusal::NoSuchValue);
+    }
+    let stray = stray_in(d, readout, bytes, s);
+    if stray < bytes.len() {
+        let index = stray as u32;
+        return DoneAnswer::Refused(Refusal::StrayBit(index));
+    }
+    put_pattern(d, readout, bytes, s, pattern);
+    DoneAnswer::Done
+}
