@@ -14,6 +14,7 @@ mod jedec_writer;
 mod layout;
 pub mod random;
 mod setting;
+mod settings_vectors;
 mod value;
 pub mod vectors;
 

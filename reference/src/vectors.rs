@@ -8,6 +8,7 @@ use crate::image::{
     zero_count,
 };
 use crate::jedec_writer::text_bytes;
+use crate::settings_vectors::settings_vectors;
 use std::fmt::Write;
 
 /// A program's name, and what it prints.
@@ -17,31 +18,37 @@ type Program = (&'static str, fn() -> String);
 pub const PROGRAMS: &[Program] = &[
     ("part_vectors", part_vectors),
     ("readout_vectors", readout_vectors),
+    ("settings_vectors", settings_vectors),
 ];
 
 /// A digest of many words: for each, 1000003 times the digest plus the word, modulo a prime.
-struct Digest {
-    value: u64,
+pub(crate) struct Digest {
+    pub value: u64,
 }
 
 impl Digest {
     const PRIME: u64 = 4_294_967_291;
 
-    fn new() -> Digest {
+    pub fn new() -> Digest {
         Digest { value: 0 }
     }
 
-    fn take_in(&mut self, word: u64) {
+    pub fn take_in(&mut self, word: u64) {
         self.value = (1_000_003 * self.value + word % Digest::PRIME) % Digest::PRIME;
     }
 }
 
 /// The word that the C interface gives for an answer.
-fn word(answer: Answer<u64>) -> u64 {
+pub(crate) fn word(answer: Answer<u64>) -> u64 {
     match answer {
         Ok(result) => result,
         Err(refusal) => (u64::from(refusal.number) << 56) + refusal.value,
     }
+}
+
+/// The two halves of such a word, printed.
+pub(crate) fn halves(word: u64) -> String {
+    format!("refused {} result {}", word >> 56, word % (1 << 56))
 }
 
 fn word_of_fuse(device: Device, fuse: u32) -> u64 {
@@ -54,7 +61,7 @@ fn word_of_address(device: Device, address: u32, bit: u32) -> u64 {
 }
 
 /// Every block count below 18, known or not, with the two classes and one that is none.
-fn devices_and_others() -> Vec<Device> {
+pub(crate) fn devices_and_others() -> Vec<Device> {
     let mut devices = Vec::new();
     for blocks in 0..18 {
         for class in 0..3 {
@@ -90,7 +97,6 @@ fn part_vectors() -> String {
         blocks: 2,
         class: SMALL,
     };
-    let halves = |word: u64| format!("refused {} result {}", word >> 56, word % (1 << 56));
     for fuse in [0, 71, 72, 107, 108, 7775, 7776, 7784, 9072, 18143, 18144] {
         let answer = halves(word_of_fuse(smallest, fuse));
         writeln!(lines, "fuse {fuse} {answer}").unwrap();
@@ -142,13 +148,7 @@ fn passage(answer: Answer<()>, bytes: &[u8]) -> String {
     for &byte in bytes {
         digest.take_in(u64::from(byte));
     }
-    let word = word(answer.map(|()| 0));
-    format!(
-        "{} refused {} result {}",
-        digest.value,
-        word >> 56,
-        word % (1 << 56)
-    )
+    format!("{} {}", digest.value, halves(word(answer.map(|()| 0))))
 }
 
 /// The sums, the counts and the passages of one device with slices of these lengths.

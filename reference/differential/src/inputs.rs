@@ -1,4 +1,4 @@
-// What the tests put in: odd devices, images, readouts with and without stray bits, wrong lengths.
+// What the tests put in: edges, odd devices, images, readouts with and without stray bits, lengths.
 // All that is random comes from the generator that is handed over, so a run can be repeated.
 
 use xc9500_reference::random::Random;
@@ -20,6 +20,24 @@ const RANDOM_STRAYS: u32 = 40;
 pub fn random_number(random: &mut Random) -> u32 {
     let bits = random.below(33);
     random.below(1 << bits) as u32
+}
+
+/// Numbers where a width, a mask or a sign could go wrong: around 0 and around each power of two.
+pub fn edges() -> Vec<u32> {
+    let mut edges = vec![0, u32::MAX];
+    for power in 0..32 {
+        let edge = 1u32 << power;
+        edges.extend([
+            edge - 1,
+            edge,
+            edge.saturating_add(1),
+            !edge,
+            u32::MAX - edge + 1,
+        ]);
+    }
+    edges.sort();
+    edges.dedup();
+    edges
 }
 
 /// Every pair of small numbers, and pairs that a narrower number would take for a known device.

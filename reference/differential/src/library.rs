@@ -72,4 +72,7 @@ header! {
     fn xc9500_zero_count(device: Device, image: &[u8]);
     fn xc9500_image_to_readout(device: Device, image: &[u8], readout: &mut [u8]);
     fn xc9500_readout_to_image(device: Device, readout: &[u8], image: &mut [u8]);
+    fn xc9500_setting_count(device: Device);
+    fn xc9500_setting_fuse(device: Device, setting: u32, bit: u32);
+    fn xc9500_setting_at_fuse(device: Device, fuse: u32);
 }

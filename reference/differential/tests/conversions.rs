@@ -1,31 +1,13 @@
 // The differential test of the two conversions: the library's answers against the reference's.
 // Every fuse and every address of 17 bits, then edges, random numbers and unknown devices.
 
-use xc9500_differential::inputs::{odd_devices, random_number};
+use xc9500_differential::inputs::{edges, odd_devices, random_number};
 use xc9500_differential::library::{xc9500_address_of_fuse, xc9500_fuse_of_address};
 use xc9500_differential::tally::Tally;
 use xc9500_reference::random::Random;
 use xc9500_reference::{address_of_fuse, all_devices, fuse_count, fuse_of_address, Device};
 
 const ROUNDS: u32 = 300_000;
-
-/// Numbers where a width, a mask or a sign could go wrong: around 0 and around each power of two.
-fn edges() -> Vec<u32> {
-    let mut edges = vec![0, u32::MAX];
-    for power in 0..32 {
-        let edge = 1u32 << power;
-        edges.extend([
-            edge - 1,
-            edge,
-            edge.saturating_add(1),
-            !edge,
-            u32::MAX - edge + 1,
-        ]);
-    }
-    edges.sort();
-    edges.dedup();
-    edges
-}
 
 #[test]
 fn address_of_fuse_agrees() {
