@@ -2,53 +2,57 @@
 -- Assumes nothing.
 use mathlib.Core.Path.{_≡_, refl, sym, _∙_, ap}
 use mathlib.Core.Logic.{_≢_}
-use mathlib.Core.Bool.{Bool, true, false}
+use mathlib.Core.Bool.{Bool, true, false, cond}
 use mathlib.Core.List.{List}
 use mathlib.Core.Option.Option.{some}
 use Prim.Native.Nat.{ℕ, _^_, _<_}
 use native.Mathlib.Omega.{arith}
+use lib.Dec.{eqb, ltb}
 use lib.ListN.{length, getD}
-use borrow.Author.Tests.{eq-eqb, le-ltb}
-use Rattle.part.specs.Outcome.Outcome.{accepted}
+use borrow.Author.Tests.{eq-eqb, le-ltb, lt-ltb}
+use Rattle.part.specs.Outcome.{Outcome}
+use Rattle.part.specs.Outcome.Outcome.{accepted, refused}
 use Rattle.part.specs.Device.{known, fuseCount, imageBytes, readoutBytes}
 use Rattle.part.specs.declared.Device.{Device}
 use Rattle.image.specs.Bits.{bitOf}
 use Rattle.readout.specs.Readout.{readoutOf, imageOf, widthAt}
 use Rattle.readout.proofs.Laws.{from-length, readout-accepted, image-again, Within}
 use Rattle.settings.specs.Settings.{hasSetting, bitsOf, fuseOf}
+use Rattle.settings.specs.Order.{countOf, settingOf}
 use Rattle.settings.specs.declared.Setting.{Setting}
+use Rattle.settings.proofs.Numbers.{number-again}
 use Rattle.values.specs.Values.{bitsIn, valueIn}
 use Rattle.values.specs.Patterns.{patternIn}
 use Rattle.values.specs.declared.Value.{Value}
 use Rattle.values.proofs.Laws as values
 use Rattle.setting_values.specs.Kinds.{kindOf, valueOf}
 use Rattle.setting_values.proofs.Widths.{kind-bits}
-use Rattle.edit.specs.Edit.{inImage, inReadout, bytesOf, byteOf, patternAt, withPattern, withValue, strayAmong, strayIn, readIn, setIn}
+use Rattle.edit.specs.Edit.{inImage, inReadout, bytesOf, byteOf, patternAt, withPattern, withValue, strayAmong, strayIn, readIn, setIn, readPattern, setPattern, withNumbered}
 use Rattle.edit.specs.Demand.{Taken, Calls, Demand3}
 use Rattle.edit.proofs.Edits.{inside, fuse-below, set-length, set-fuses, set-other-fuses, set-reads, set-others-read, agrees, set-small, set-clean, clean-through}
 
 -- reading and setting are not refused where the device, the length and the setting are right and no byte of the setting has a bit above
 -- its width
-Clean : Device → Bool → List ℕ → Setting → Type 0
+abbrev pub Clean : Device → Bool → List ℕ → Setting → Type 0
 Clean d form bytes t = strayIn d form bytes t ≡ bytesOf d form
 
 image-clean : (d : Device) (bytes : List ℕ) (t : Setting) → Clean d inImage bytes t
-unfolding Clean strayIn
+unfolding strayIn
 image-clean d bytes t = refl
 
 readout-clean : (d : Device) (bytes : List ℕ) (t : Setting) → strayAmong d bytes t (bitsOf t) ≡ readoutBytes d → Clean d inReadout bytes t
-unfolding Clean strayIn
+unfolding strayIn
 readout-clean d bytes t e = e
 
 pub reads : (d : Device) (form : Bool) (bytes : List ℕ) (t : Setting) → known d ≡ true → length bytes ≡ bytesOf d form → hasSetting d t ≡ true
     → Clean d form bytes t → readIn d form bytes t ≡ accepted (valueOf d t (patternAt d form bytes t))
-unfolding readIn Clean
+unfolding readIn
 reads d form bytes t k e h clean =
     rw (k, eq-eqb (length bytes) (bytesOf d form) e, h, clean, le-ltb (bytesOf d form) (bytesOf d form) (omega arith))
 
 pub sets : (d : Device) (form : Bool) (bytes : List ℕ) (t : Setting) (v : Value) (pattern : ℕ) → known d ≡ true → length bytes ≡ bytesOf d form
     → hasSetting d t ≡ true → patternIn (kindOf d t) v ≡ some pattern → Clean d form bytes t → setIn d form bytes t v ≡ accepted tt
-unfolding setIn Clean
+unfolding setIn
 sets d form bytes t v pattern k e h p clean =
     rw (k, eq-eqb (length bytes) (bytesOf d form) e, h, p, clean, le-ltb (bytesOf d form) (bytesOf d form) (omega arith))
 
@@ -145,3 +149,56 @@ module _ (d : Device) (image : List ℕ) (s : Setting) (v : Value) (pattern : �
       set-other-fuses d k inReadout before before-length s (taken .setting) pattern f l apart,
     );
   })
+
+-- of the calls, each of which gave what its definition says
+pub of-calls : (d : Device) (image : List ℕ) (s : Setting) (v : Value) (pattern : ℕ) → Taken d image s v pattern
+    → (a b : Outcome (Unit {0})) (changed readout its-readout its-image : List ℕ) (x y : Outcome Value)
+    → a ≡ setIn d inImage image s v → b ≡ setIn d inReadout (readoutOf d image) s v → changed ≡ withValue d inImage image s v
+    → readout ≡ withValue d inReadout (readoutOf d image) s v → its-readout ≡ readoutOf d changed → its-image ≡ imageOf d readout
+    → x ≡ readIn d inImage changed s → y ≡ readIn d inReadout readout s
+    → Demand3 d image s v pattern
+        (record {
+          set-image = a;
+          set-readout = b;
+          image = changed;
+          readout = readout;
+          its-readout = its-readout;
+          its-image = its-image;
+          read-image = x;
+          read-readout = y;
+        })
+of-calls d image s v pattern taken a b changed readout its-readout its-image x y ea eb ec er ei em ex ey =
+    rw (ea, eb, ex, ey, ei, em, ec, er) (holds d image s v pattern taken)
+
+-- an outcome with its result turned into another
+abbrev pub mapped : {A B : Type 0} → (A → B) → Outcome A → Outcome B
+mapped f (accepted x) = accepted (f x)
+mapped f (refused number value) = refused number value
+
+mapped-cond : {A B : Type 0} (f : A → B) (t : Bool) (x y : Outcome A) → mapped f (cond t x y) ≡ cond t (mapped f x) (mapped f y)
+mapped-cond f true x y = refl
+mapped-cond f false x y = refl
+
+-- The edit by number and pattern is the edit by the setting and the value that they stand for, refusals included
+module _ (d : Device) (k : known d ≡ true) (form : Bool) (bytes : List ℕ) (number : ℕ) (below : number < countOf d) where
+  s : Setting
+  s = settingOf d number
+
+  there : hasSetting d s ≡ true
+  unfolding s
+  there = number-again d number below .0
+
+  pub reads-numbered : readIn d form bytes (settingOf d number) ≡ mapped (valueOf d (settingOf d number)) (readPattern d form bytes number)
+  unfolding readPattern readIn s
+  reads-numbered =
+      let value = valueOf d (settingOf d number) in
+      rw (lt-ltb number (countOf d) below, there, mapped-cond value (known d) _ _, mapped-cond value (eqb (length bytes) (bytesOf d form)) _ _, mapped-cond value (ltb (strayIn d form bytes (settingOf d number)) (bytesOf d form)) _ _)
+
+  pub sets-numbered : (pattern : ℕ) → pattern < 2 ^ bitsOf (settingOf d number)
+      → (setPattern d form bytes number pattern ≡ setIn d form bytes (settingOf d number) (valueOf d (settingOf d number) pattern))
+      × (withNumbered d form bytes number pattern ≡ withValue d form bytes (settingOf d number) (valueOf d (settingOf d number) pattern))
+  unfolding setPattern setIn withNumbered withValue s
+  sets-numbered pattern fits =
+      let value : patternIn (kindOf d (settingOf d number)) (valueOf d (settingOf d number) pattern) ≡ some pattern =
+          values.pattern-iff (kindOf d (settingOf d number)) _ pattern .1 (rw (kind-bits d (settingOf d number) there) fits, refl) in
+      (rw (lt-ltb number (countOf d) below, there, lt-ltb pattern (2 ^ bitsOf (settingOf d number)) fits, value), rw value)

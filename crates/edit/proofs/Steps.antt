@@ -21,7 +21,7 @@ use Rattle.part.specs.declared.Place.{Place}
 use Rattle.part.specs.declared.BytePlace.{BytePlace}
 use Rattle.part.proofs.Facts.{and-iff, compared}
 use Rattle.part.proofs.Laws.{width-small}
-use Rattle.part.proofs.Devices.{fuses-small}
+use Rattle.part.proofs.Devices.{fuses-small, image-whole, in-device-small}
 use Rattle.part.proofs.Fuses.{of-place}
 use Rattle.part.proofs.Readouts.{of-byte}
 use Rattle.image.specs.Bits.{bitOf, bitAt, gathered}
@@ -36,6 +36,12 @@ use Rattle.setting_values.proofs.Widths.{kind-bits}
 use Rattle.values.proofs.Laws as values
 use Rattle.edit.specs.Edit.{bytesOf, byteOf, bitIn, stateOf, strayAmong}
 use Rattle.edit.proofs.Edits.{inside, fuse-below}
+
+-- no image and no readout has more bytes than those of the largest device
+pub bytes-few : (d : Device) (form : Bool) → known d ≡ true → bytesOf d form ≤ 40320
+unfolding readoutBytes
+bytes-few d false k = omega (arith, fuses-small d k, image-whole d k)
+bytes-few d true k = in-device-small d 1080 90 k
 
 -- a setting has at most 32 bits
 pub bits-few : (d : Device) (s : Setting) → hasSetting d s ≡ true → bitsOf s ≤ 32

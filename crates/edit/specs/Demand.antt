@@ -9,15 +9,17 @@ use Prim.Native.Nat.{ℕ, _^_, _<_}
 use lib.ListN.{length, getD}
 use Rattle.part.specs.Outcome.{Outcome}
 use Rattle.part.specs.Outcome.Outcome.{accepted}
-use Rattle.part.specs.Device.{known, fuseCount, imageBytes}
+use Rattle.part.specs.Device.{known, fuseCount, imageBytes, readoutBytes}
 use Rattle.part.specs.declared.Device.{Device}
 use Rattle.image.specs.Bits.{bitOf}
-use Rattle.readout.specs.Readout.{readoutOf}
+use Rattle.readout.specs.Readout.{readoutOf, doneOutcome}
 use Rattle.settings.specs.Settings.{hasSetting, bitsOf, fuseOf}
 use Rattle.settings.specs.declared.Setting.{Setting}
 use Rattle.values.specs.Patterns.{patternIn}
 use Rattle.values.specs.declared.Value.{Value}
 use Rattle.setting_values.specs.Kinds.{kindOf}
+use Rattle.setting_values.specs.Operations.{valueOutcome}
+use Rattle.edit.specs.declared.BothAnswer.{BothAnswer}
 use Rattle.edit.specs.Edit.{inImage, inReadout, stateOf, readIn}
 
 -- "take any known device, any image of it, the readout of that image, any setting of that device and any value of that setting"; the
@@ -62,3 +64,27 @@ pub record Demand3 (d : Device) (image : List ℕ) (s : Setting) (v : Value) (pa
   pub other-fuses : (f : ℕ) → f < fuseCount d → ((b : ℕ) → b < bitsOf s → fuseOf d s b ≢ f)
       → (stateOf d inImage (c .image) f ≡ stateOf d inImage image f)
       × (stateOf d inReadout (c .readout) f ≡ stateOf d inReadout (readoutOf d image) f)
+
+-- the calls of `both_ways`: what it answered, and what its four slices then held
+abbrev pub callsOf : BothAnswer → (image readout its-readout its-image : List ℕ) → Calls
+callsOf r image readout its-readout its-image = record {
+  set-image = doneOutcome (r .«set_image»);
+  set-readout = doneOutcome (r .«set_readout»);
+  image = image;
+  readout = readout;
+  its-readout = its-readout;
+  its-image = its-image;
+  read-image = valueOutcome (r .«read_image»);
+  read-readout = valueOutcome (r .«read_readout»);
+}
+
+-- its three other slices have the lengths of a readout, a readout and an image
+pub record Room (d : Device) (readout its-readout its-image : List ℕ) : Type 0 where
+  pub readout-size : length readout ≡ readoutBytes d
+  pub its-readout-size : length its-readout ≡ readoutBytes d
+  pub its-image-size : length its-image ≡ imageBytes d
+
+-- what `both_ways` ensures of its calls: demand 3, for whatever it was given
+abbrev pub BothWays : Device → (image readout its-readout its-image : List ℕ) → Setting → Value → Calls → Type 0
+BothWays d image readout its-readout its-image s v c =
+    (pattern : ℕ) → Taken d image s v pattern → Room d readout its-readout its-image → Demand3 d image s v pattern c

@@ -17,7 +17,8 @@ use Rattle.readout.specs.Readout.{written, Written}
 abbrev pub tested : {A : Type 0} → Device → (l x m y : ℕ) → Outcome A → Outcome A
 tested d l x m y inner = ifKnown d (ifLength l x (ifLength m y inner))
 
-says : {A : Type 0} (o answer : Outcome A) (result before : List ℕ) → answer ≡ o → Written o answer result before (written answer result before)
+-- an answer that is the outcome's, and what it leaves in the target
+pub says : {A : Type 0} (o answer : Outcome A) (result before : List ℕ) → answer ≡ o → Written o answer result before (written answer result before)
 says o answer result before e = record { answers = e; holds = ap (λ (x : Outcome _). written x result before) e }
 
 module _ {A : Type 0} (d : Device) (l x m y : ℕ) (inner : Outcome A) (result before : List ℕ) where

@@ -3,8 +3,9 @@
 
 use xc9500_reference::random::Random;
 use xc9500_reference::{
-    address_of_fuse, all_devices, fuse_count, fuse_of_address, image_bytes, image_to_readout,
-    readout_bytes, Device, BLOCK_COUNTS,
+    address_of_fuse, all_devices, fuse_count, fuse_of_address, fuses_of_setting, image_bytes,
+    image_to_readout, readout_bytes, setting_count, setting_of_number, Device, Setting,
+    BLOCK_COUNTS,
 };
 
 /// The bytes of an image or a readout, with a name that tells them from the others.
@@ -15,6 +16,13 @@ const RANDOM_INPUTS: u32 = 8;
 
 /// Random places of stray bits, one at a time and several at a time.
 const RANDOM_STRAYS: u32 = 40;
+
+/// Random literals to edit, and as many wire-AND; random numbers for USERCODE.
+const RANDOM_SETTINGS: u32 = 150;
+const RANDOM_USERCODES: u32 = 12;
+
+/// The macrocells of which every field is edited: the first and last of each of the two bits.
+const MACROCELLS: [u32; 4] = [0, 8, 9, 17];
 
 /// A number with a random number of bits, so that small ones are as likely as large ones.
 pub fn random_number(random: &mut Random) -> u32 {
@@ -139,8 +147,7 @@ pub fn readouts(device: Device, random: &mut Random) -> Vec<Input> {
 
 /// Readouts with one bit at 1, at a corner.
 pub fn corner_readouts(device: Device) -> Vec<Input> {
-    let has_byte = |address: &u32| fuse_of_address(device, *address, 0).is_ok();
-    let addresses: Vec<u32> = (0..1 << 17).filter(has_byte).collect();
+    let addresses = addresses(device);
     let one_fuse = |fuse: u32| {
         let (address, bit) = address_of_fuse(device, fuse).unwrap();
         let mut readout = vec![0; addresses.len()];
@@ -217,8 +224,92 @@ fn corners(device: Device) -> Vec<u32> {
     fuses.into_iter().skip(class).step_by(2).collect()
 }
 
+/// The valid addresses of a device; the position of one is the index of its readout byte.
+fn addresses(device: Device) -> Vec<u32> {
+    let has_byte = |address: &u32| fuse_of_address(device, *address, 0).is_ok();
+    (0..1 << 17).filter(has_byte).collect()
+}
+
+/// A setting to edit: its number, the patterns to put there, and the readout bytes that hold it.
+pub struct Edited {
+    pub setting: u32,
+    pub width: u32,
+    pub patterns: Vec<u32>,
+    pub bytes: Vec<usize>,
+}
+
+/// All settings of the device and of each block, all of some macrocells, random ones of the others.
+pub fn settings_to_edit(device: Device, random: &mut Random) -> Vec<Edited> {
+    let (mut literals, mut wire_ands, mut numbers) = (Vec::new(), Vec::new(), Vec::new());
+    for number in 0..setting_count(device).unwrap() {
+        match setting_of_number(device, number).unwrap() {
+            Setting::Literal { .. } => literals.push(number),
+            Setting::WireAnd { .. } => wire_ands.push(number),
+            Setting::Macrocell {
+                block, macrocell, ..
+            } => {
+                let is_edge = block == 0 || block == device.blocks - 1;
+                if is_edge && MACROCELLS.contains(&macrocell) || random.below(64) == 0 {
+                    numbers.push(number);
+                }
+            }
+            Setting::Block { .. } | Setting::Global { .. } => numbers.push(number),
+        }
+    }
+    for many in [literals, wire_ands] {
+        numbers.extend([many[0], many[many.len() - 1]]);
+        for _ in 0..RANDOM_SETTINGS {
+            numbers.push(random.pick(&many));
+        }
+    }
+
+    let addresses = addresses(device);
+    let index_of_fuse = |fuse: &u32| {
+        let (address, _) = address_of_fuse(device, *fuse).unwrap();
+        addresses.binary_search(&address).unwrap()
+    };
+    let mut edited = Vec::new();
+    for setting in numbers {
+        let fuses = fuses_of_setting(device, setting).unwrap();
+        let width = fuses.len() as u32;
+        edited.push(Edited {
+            setting,
+            width,
+            patterns: patterns(width, random),
+            bytes: fuses.iter().map(index_of_fuse).collect(),
+        });
+    }
+    edited
+}
+
+/// Of a setting with few bits every pattern, up and down again, so that each bit changes both ways
+/// and once not at all; of USERCODE all 0, all 1, each bit alone or alone missing, random ones.
+fn patterns(width: u32, random: &mut Random) -> Vec<u32> {
+    if width <= 3 {
+        return (0..1 << width).chain((0..1 << width).rev()).collect();
+    }
+    let mut patterns = vec![0, u32::MAX, 0];
+    for bit in 0..width {
+        patterns.extend([1 << bit, !(1 << bit)]);
+    }
+    for _ in 0..RANDOM_USERCODES {
+        patterns.push(random.next_u64() as u32);
+    }
+    patterns
+}
+
+/// Some patterns with a bit at or above a width: the lowest and the highest, each power of two that
+/// a narrower number would lose; USERCODE has none.
+pub fn too_wide(width: u32) -> Vec<u32> {
+    if width == 32 {
+        return Vec::new();
+    }
+    let first = 1 << width;
+    vec![first, first + 1, 1 << 8, 1 << 16, 1 << 31, u32::MAX]
+}
+
 /// The readout of the image of all 1: each byte has the bits of its width.
-fn all_ones(device: Device) -> Vec<u8> {
+pub fn all_ones(device: Device) -> Vec<u8> {
     let image = vec![0xFF; image_bytes(device).unwrap()];
     let mut readout = vec![0; readout_bytes(device).unwrap()];
     image_to_readout(device, &image, &mut readout).unwrap();

@@ -4,6 +4,7 @@
 //! Differential tests and benchmark of the XC9500 fuse-map library against the reference.
 
 pub mod comparison;
+pub mod edits;
 pub mod inputs;
 pub mod library;
 pub mod optimised;

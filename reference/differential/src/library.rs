@@ -75,4 +75,8 @@ header! {
     fn xc9500_setting_count(device: Device);
     fn xc9500_setting_fuse(device: Device, setting: u32, bit: u32);
     fn xc9500_setting_at_fuse(device: Device, fuse: u32);
+    fn xc9500_read_in_image(device: Device, image: &[u8], setting: u32);
+    fn xc9500_read_in_readout(device: Device, readout: &[u8], setting: u32);
+    fn xc9500_set_in_image(device: Device, image: &mut [u8], setting: u32, pattern: u32);
+    fn xc9500_set_in_readout(device: Device, readout: &mut [u8], setting: u32, pattern: u32);
 }

@@ -400,6 +400,458 @@ fn gather_sevens(bytes: u64) -> u64 {
     fourteens & 0x3FFF_0000_3FFF | (fourteens & 0x3FFF_0000_3FFF_0000) >> 2
 }
 
+// Settings by number. Each setting but USERCODE lies at one column and bit of one row, or of up to
+// three rows that follow one another in the main area, so its first bit tells the others.
+
+/// The settings of a block in each group, and the rows and bytes of a main area.
+const LITERALS: u32 = 18 * 5 * 72;
+const MACROCELL_FIELDS: u32 = 27;
+const BLOCK_FIELDS: u32 = 6;
+const MAIN_ROW_FUSES: u32 = 3 * STRIP_FUSES;
+const MAIN_ROW_BYTES: u32 = 15;
+
+/// The first number of each group after the literals, and what divides a wire-AND number into its
+/// block and input and its row.
+#[derive(Clone, Copy)]
+struct Numbers {
+    wire_and: u32,
+    macrocells: u32,
+    blocks: u32,
+    globals: u32,
+    rows: u32,
+    reciprocal: u64,
+}
+
+/// By block count, as PARTS.
+static NUMBERS: [Numbers; MOST_BLOCKS + 1] = {
+    let mut numbers = [Numbers {
+        wire_and: 0,
+        macrocells: 0,
+        blocks: 0,
+        globals: 0,
+        rows: 0,
+        reciprocal: 0,
+    }; MOST_BLOCKS + 1];
+    let mut blocks = 1;
+    while blocks <= MOST_BLOCKS as u32 {
+        let rows = SUBAREA_STRIPS * blocks;
+        let wire_and = LITERALS * blocks;
+        let macrocells = wire_and + 36 * rows * blocks;
+        let fields = macrocells + 18 * MACROCELL_FIELDS * blocks;
+        // Exact for every wire-AND number of the part.
+        let reciprocal = (1u64 << 32).div_ceil(rows as u64);
+        let excess = reciprocal * rows as u64 - (1 << 32);
+        assert!(excess * ((macrocells - wire_and) as u64) < 1 << 32);
+        numbers[blocks as usize] = Numbers {
+            wire_and,
+            macrocells,
+            blocks: fields,
+            globals: fields + BLOCK_FIELDS * blocks,
+            rows,
+            reciprocal,
+        };
+        blocks += 1;
+    }
+    numbers
+};
+
+/// A position in a row: its first fuse there and its byte, with the bits above that byte's width.
+#[derive(Clone, Copy)]
+struct InRow {
+    fuse: u8,
+    byte: u8,
+    bit: u8,
+    above: u8,
+}
+
+/// The position of each term of a block in its row, macrocell by macrocell.
+static TERMS: [InRow; 90] = {
+    let mut terms = [InRow {
+        fuse: 0,
+        byte: 0,
+        bit: 0,
+        above: 0,
+    }; 90];
+    let mut i = 0;
+    while i < 90 {
+        let (macrocell, term) = (i / 5, i % 5);
+        let column = term + macrocell % 3 * 5;
+        let bit = macrocell / 3;
+        let first = if column < 9 {
+            8 * column
+        } else {
+            72 + 6 * (column - 9)
+        };
+        terms[i as usize] = InRow {
+            fuse: first + bit,
+            byte: column,
+            bit,
+            above: if column < 9 { 0 } else { 0xC0 },
+        };
+        i += 1;
+    }
+    terms
+};
+
+/// The position of each input in its wire-AND row.
+static INPUTS: [InRow; 36] = {
+    let mut inputs = [InRow {
+        fuse: 0,
+        byte: 0,
+        bit: 0,
+        above: 0,
+    }; 36];
+    let mut i = 0;
+    while i < 36 {
+        let (column, bit) = (i % 5, i / 5);
+        inputs[i as usize] = InRow {
+            fuse: if column == 0 {
+                bit
+            } else {
+                8 + 7 * (column - 1) + bit
+            },
+            byte: column,
+            bit,
+            above: if column == 0 { 0 } else { 0x80 },
+        };
+        i += 1;
+    }
+    inputs
+};
+
+/// First row, column and number of rows of a field; a macrocell has its own column.
+type Field = (u8, u8, u8);
+
+static OF_MACROCELL: [Field; MACROCELL_FIELDS as usize] = [
+    (12, 0, 2),
+    (14, 0, 2),
+    (16, 0, 2),
+    (18, 0, 2),
+    (20, 0, 2),
+    (22, 0, 1),
+    (23, 0, 1),
+    (24, 0, 1),
+    (25, 0, 1),
+    (26, 0, 1),
+    (27, 0, 2),
+    (29, 0, 3),
+    (35, 0, 1),
+    (36, 0, 2),
+    (40, 0, 1),
+    (41, 0, 1),
+    (42, 0, 1),
+    (43, 0, 1),
+    (44, 0, 2),
+    (46, 0, 1),
+    (48, 0, 1),
+    (49, 0, 1),
+    (50, 0, 1),
+    (51, 0, 1),
+    (52, 0, 1),
+    (53, 0, 1),
+    (54, 0, 1),
+];
+
+static OF_BLOCK: [Field; BLOCK_FIELDS as usize] = [
+    (67, 0, 1),
+    (67, 1, 1),
+    (68, 6, 1),
+    (11, 3, 1),
+    (68, 3, 1),
+    (68, 0, 1),
+];
+
+/// USERCODE is told by its width.
+const USERCODE: Field = (6, 0, 32);
+
+static OF_SMALL: [Field; 12] = [
+    (0, 1, 1),
+    (0, 2, 1),
+    (0, 3, 1),
+    (0, 4, 1),
+    (0, 5, 1),
+    (0, 6, 1),
+    (3, 2, 2),
+    (3, 3, 2),
+    (3, 4, 2),
+    (3, 5, 2),
+    (3, 6, 2),
+    USERCODE,
+];
+
+static OF_LARGE: [Field; 16] = [
+    (0, 1, 1),
+    (0, 2, 1),
+    (0, 3, 1),
+    (0, 4, 1),
+    (0, 5, 1),
+    (0, 6, 1),
+    (0, 7, 1),
+    (0, 8, 1),
+    (3, 2, 2),
+    (3, 3, 2),
+    (3, 4, 2),
+    (3, 5, 2),
+    (3, 6, 2),
+    (3, 7, 2),
+    (3, 8, 2),
+    USERCODE,
+];
+
+/// Where the first bit of a setting lies, and how many it has.
+struct Spot {
+    fuse: u32,
+    byte: u32,
+    bit: u32,
+    above: u8,
+    width: u32,
+}
+
+/// A field of a block, at bit 6 or 7 of a column of eight bits.
+#[inline(always)]
+fn field(part: Part, block: u32, (row, column, width): Field, bit: u32) -> Spot {
+    let (row, column) = (u32::from(row), u32::from(column));
+    Spot {
+        fuse: block * part.block_strips * STRIP_FUSES + row * MAIN_ROW_FUSES + column * 8 + bit,
+        byte: block * part.block_strips * 5 + row * MAIN_ROW_BYTES + column,
+        bit,
+        above: 0,
+        width: u32::from(width),
+    }
+}
+
+/// The spot of a setting of a known device; refusal 4 if it has none.
+#[inline(always)]
+fn spot(device: Device, part: Part, setting: u32) -> Answer<Spot> {
+    let numbers = &NUMBERS[device.blocks as usize];
+    if setting < numbers.wire_and {
+        let block = setting / LITERALS;
+        let position = TERMS[(setting / 72 - block * 90) as usize];
+        // The positive literal is numbered first and lies in the second row.
+        let row = setting % 72 ^ 1;
+        return Ok(Spot {
+            fuse: block * part.block_strips * STRIP_FUSES
+                + row * MAIN_ROW_FUSES
+                + u32::from(position.fuse),
+            byte: block * part.block_strips * 5 + row * MAIN_ROW_BYTES + u32::from(position.byte),
+            bit: u32::from(position.bit),
+            above: position.above,
+            width: 1,
+        });
+    }
+    if setting < numbers.macrocells {
+        let number = setting - numbers.wire_and;
+        let block_and_input = (u64::from(number) * numbers.reciprocal >> 32) as u32;
+        let row = number - block_and_input * numbers.rows;
+        let block = block_and_input / 36;
+        let position = INPUTS[(block_and_input - block * 36) as usize];
+        let strip = block * part.block_strips + MAIN_STRIPS + row;
+        return Ok(Spot {
+            fuse: strip * STRIP_FUSES + u32::from(position.fuse),
+            byte: strip * 5 + u32::from(position.byte),
+            bit: u32::from(position.bit),
+            above: position.above,
+            width: 1,
+        });
+    }
+    if setting < numbers.blocks {
+        let number = setting - numbers.macrocells;
+        let macrocell = number / MACROCELL_FIELDS;
+        let (row, _, width) = OF_MACROCELL[(number - macrocell * MACROCELL_FIELDS) as usize];
+        let (block, macrocell) = (macrocell / 18, macrocell % 18);
+        let column = (macrocell % 9) as u8;
+        return Ok(field(part, block, (row, column, width), 6 + macrocell / 9));
+    }
+    if setting < numbers.globals {
+        let number = setting - numbers.blocks;
+        let block = number / BLOCK_FIELDS;
+        let of_block = OF_BLOCK[(number - block * BLOCK_FIELDS) as usize];
+        return Ok(field(part, block, of_block, 6));
+    }
+    let fields: &[Field] = if device.class == LARGE {
+        &OF_LARGE
+    } else {
+        &OF_SMALL
+    };
+    match fields.get((setting - numbers.globals) as usize) {
+        Some(of_device) => Ok(field(part, 0, *of_device, 6)),
+        None => refuse(4, 0),
+    }
+}
+
+/// Refusal 5 if a pattern has a bit at or above a width.
+#[inline(always)]
+fn check_pattern(pattern: u32, width: u32) -> Answer<()> {
+    if u64::from(pattern) >> width == 0 {
+        Ok(())
+    } else {
+        refuse(5, 0)
+    }
+}
+
+/// Refusal 6 if the byte that holds a setting has a bit above its width.
+#[inline(always)]
+fn check_spot(readout: &[u8], spot: &Spot) -> Answer<()> {
+    if readout[spot.byte as usize] & spot.above == 0 {
+        Ok(())
+    } else {
+        refuse(6, u64::from(spot.byte))
+    }
+}
+
+#[inline(always)]
+fn put_bit(byte: &mut u8, bit: u32, state: u32) {
+    *byte = *byte & !(1 << bit) | ((state & 1) << bit) as u8;
+}
+
+// USERCODE is the upper two bits of the first eight bytes of rows 6 and 7, the first byte highest.
+// In an image row 7 starts in the middle of a byte.
+const ROW_6: usize = 6;
+const ROW_7: usize = 7;
+
+/// The upper two bits of each byte.
+const UPPER: u64 = 0xC0C0_C0C0_C0C0_C0C0;
+
+/// The upper two bits of each byte, together in the low sixteen bits.
+#[inline]
+fn gather_uppers(bytes: u64) -> u32 {
+    let twos = bytes >> 6 & 0x0303_0303_0303_0303;
+    let fours = (twos | twos >> 6) & 0x000F_000F_000F_000F;
+    let eights = (fours | fours >> 12) & 0x0000_00FF_0000_00FF;
+    ((eights | eights >> 24) & 0xFFFF) as u32
+}
+
+/// The way back, with the other bits at 0.
+#[inline]
+fn spread_uppers(bits: u32) -> u64 {
+    let sixteen = u64::from(bits & 0xFFFF);
+    let eights = (sixteen | sixteen << 24) & 0x0000_00FF_0000_00FF;
+    let fours = (eights | eights << 12) & 0x000F_000F_000F_000F;
+    let twos = (fours | fours << 6) & 0x0303_0303_0303_0303;
+    twos << 6
+}
+
+#[inline]
+fn eight_bytes(bytes: &[u8], at: usize) -> &[u8; 8] {
+    bytes[at..].first_chunk().expect("every part has the row")
+}
+
+#[inline]
+fn eight_bytes_mut(bytes: &mut [u8], at: usize) -> &mut [u8; 8] {
+    bytes[at..]
+        .first_chunk_mut()
+        .expect("every part has the row")
+}
+
+/// USERCODE's pattern in whole bytes from an index.
+#[inline]
+fn uppers_at(bytes: &[u8], at: usize) -> u32 {
+    gather_uppers(u64::from_be_bytes(*eight_bytes(bytes, at)))
+}
+
+#[inline]
+fn put_uppers_at(bytes: &mut [u8], at: usize, bits: u32) {
+    let row = eight_bytes_mut(bytes, at);
+    *row = (u64::from_be_bytes(*row) & !UPPER | spread_uppers(bits)).to_be_bytes();
+}
+
+const ROW_6_IN_IMAGE: usize = ROW_6 * MAIN_ROW_FUSES as usize / 8;
+const ROW_7_IN_IMAGE: usize = ROW_7 * MAIN_ROW_FUSES as usize / 8;
+const ROW_6_IN_READOUT: usize = ROW_6 * MAIN_ROW_BYTES as usize;
+const ROW_7_IN_READOUT: usize = ROW_7 * MAIN_ROW_BYTES as usize;
+
+#[inline]
+fn usercode_in_image(image: &[u8]) -> u32 {
+    let low = u64::from_le_bytes(*eight_bytes(image, ROW_7_IN_IMAGE)) >> 4;
+    let row_7 = low | u64::from(image[ROW_7_IN_IMAGE + 8]) << 60;
+    uppers_at(image, ROW_6_IN_IMAGE) << 16 | gather_uppers(row_7.swap_bytes())
+}
+
+#[inline]
+fn put_usercode_in_image(image: &mut [u8], pattern: u32) {
+    put_uppers_at(image, ROW_6_IN_IMAGE, pattern >> 16);
+    let bits = spread_uppers(pattern).swap_bytes();
+    let row_7 = eight_bytes_mut(image, ROW_7_IN_IMAGE);
+    *row_7 = (u64::from_le_bytes(*row_7) & !(UPPER << 4) | bits << 4).to_le_bytes();
+    let last = &mut image[ROW_7_IN_IMAGE + 8];
+    *last = *last & !(UPPER >> 60) as u8 | (bits >> 60) as u8;
+}
+
+/// The pattern of a setting in an image.
+pub fn read_in_image(device: Device, image: &[u8], setting: u32) -> Answer<u32> {
+    let part = Part::of(device)?;
+    part.check_image(image)?;
+    let spot = spot(device, part, setting)?;
+    if spot.width == 32 {
+        return Ok(usercode_in_image(image));
+    }
+    let mut pattern = 0;
+    for i in 0..spot.width {
+        let fuse = spot.fuse + i * MAIN_ROW_FUSES;
+        pattern |= u32::from(image[fuse as usize / 8] >> (fuse % 8) & 1) << i;
+    }
+    Ok(pattern)
+}
+
+/// Puts a setting to a pattern in an image.
+pub fn set_in_image(device: Device, image: &mut [u8], setting: u32, pattern: u32) -> Answer<()> {
+    let part = Part::of(device)?;
+    part.check_image(image)?;
+    let spot = spot(device, part, setting)?;
+    check_pattern(pattern, spot.width)?;
+    if spot.width == 32 {
+        put_usercode_in_image(image, pattern);
+        return Ok(());
+    }
+    for i in 0..spot.width {
+        let fuse = spot.fuse + i * MAIN_ROW_FUSES;
+        put_bit(&mut image[fuse as usize / 8], fuse % 8, pattern >> i);
+    }
+    Ok(())
+}
+
+/// The pattern of a setting in a readout, unless a byte that holds it has a bit above its width.
+pub fn read_in_readout(device: Device, readout: &[u8], setting: u32) -> Answer<u32> {
+    let part = Part::of(device)?;
+    part.check_readout(readout)?;
+    let spot = spot(device, part, setting)?;
+    if spot.width == 32 {
+        let row_6 = uppers_at(readout, ROW_6_IN_READOUT);
+        return Ok(row_6 << 16 | uppers_at(readout, ROW_7_IN_READOUT));
+    }
+    check_spot(readout, &spot)?;
+    let mut pattern = 0;
+    for i in 0..spot.width {
+        let byte = readout[(spot.byte + i * MAIN_ROW_BYTES) as usize];
+        pattern |= u32::from(byte >> spot.bit & 1) << i;
+    }
+    Ok(pattern)
+}
+
+/// Puts a setting to a pattern in a readout, unless a byte that holds it has a bit above its width.
+pub fn set_in_readout(
+    device: Device,
+    readout: &mut [u8],
+    setting: u32,
+    pattern: u32,
+) -> Answer<()> {
+    let part = Part::of(device)?;
+    part.check_readout(readout)?;
+    let spot = spot(device, part, setting)?;
+    check_pattern(pattern, spot.width)?;
+    if spot.width == 32 {
+        put_uppers_at(readout, ROW_6_IN_READOUT, pattern >> 16);
+        put_uppers_at(readout, ROW_7_IN_READOUT, pattern);
+        return Ok(());
+    }
+    check_spot(readout, &spot)?;
+    for i in 0..spot.width {
+        let byte = &mut readout[(spot.byte + i * MAIN_ROW_BYTES) as usize];
+        put_bit(byte, spot.bit, pattern >> i);
+    }
+    Ok(())
+}
+
 #[inline]
 fn u64_at<const N: usize>(bytes: &[u8; N], at: usize) -> u64 {
     u64::from_le_bytes(*bytes[at..].first_chunk().expect("the word is in the rows"))

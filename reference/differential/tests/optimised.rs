@@ -2,6 +2,7 @@
 // A benchmark against a wrong program would compare nothing.
 
 use xc9500_differential::comparison::{Comparison, IMAGE, NO_TARGET, READOUT};
+use xc9500_differential::edits::{Access, EditComparison};
 use xc9500_differential::inputs::{damaged_readouts, images, readouts};
 use xc9500_differential::optimised;
 use xc9500_reference::random::Random;
@@ -93,4 +94,42 @@ fn passages() {
     }
     to_readout.assert_refusals(&[1, 2]);
     to_image.assert_refusals(&[1, 2, 6]);
+}
+
+#[test]
+fn reading_and_setting() {
+    let mut random = Random::new(0x9500_0023);
+    let mut comparison = EditComparison::new(
+        [
+            "optimised read_in_image",
+            "optimised set_in_image",
+            "optimised read_in_readout",
+            "optimised set_in_readout",
+        ],
+        Access {
+            read: |device, image, setting| {
+                optimised::read_in_image(device, image, setting).map(u64::from)
+            },
+            set: |device, image, setting, pattern| {
+                optimised::set_in_image(device, image, setting, pattern).map(|()| 0)
+            },
+        },
+        Access {
+            read: |device, readout, setting| {
+                optimised::read_in_readout(device, readout, setting).map(u64::from)
+            },
+            set: |device, readout, setting, pattern| {
+                optimised::set_in_readout(device, readout, setting, pattern).map(|()| 0)
+            },
+        },
+        |device, image, readout| optimised::image_to_readout(device, image, readout).map(|()| 0),
+    );
+    for device in all_devices() {
+        comparison.edits(device, &mut random);
+    }
+    comparison.setting_numbers(&mut random);
+    comparison.wrong_lengths(&mut random);
+    comparison.unknown_devices(&mut random);
+    comparison.several_faults(&mut random);
+    comparison.assert_refusals();
 }

@@ -19,6 +19,9 @@ const RUN_NANOSECONDS: u64 = 10_000_000;
 /// One program's pass over a row's input; it answers a sum of all that it gave.
 type Pass = Box<dyn FnMut() -> u64>;
 
+/// Reading or setting; the last number is the pattern, which reading takes no notice of.
+type Edit = fn(Device, &mut [u8], u32, u32) -> Answer<u64>;
+
 /// One operation on one part.
 struct Row {
     operation: &'static str,
@@ -47,6 +50,14 @@ fn rows() -> Vec<Row> {
     rows.extend(of_two_and_sixteen(zero_count));
     rows.extend(of_two_and_sixteen(image_to_readout));
     rows.extend(of_two_and_sixteen(readout_to_image));
+    rows.extend(of_two_and_sixteen(read_literals_in_image));
+    rows.extend(of_two_and_sixteen(set_literals_in_image));
+    rows.extend(of_two_and_sixteen(read_usercode_in_image));
+    rows.extend(of_two_and_sixteen(set_usercode_in_image));
+    rows.extend(of_two_and_sixteen(read_literals_in_readout));
+    rows.extend(of_two_and_sixteen(set_literals_in_readout));
+    rows.extend(of_two_and_sixteen(read_usercode_in_readout));
+    rows.extend(of_two_and_sixteen(set_usercode_in_readout));
     rows
 }
 
@@ -107,14 +118,11 @@ fn image_to_readout(device: Device) -> Row {
 }
 
 fn readout_to_image(device: Device) -> Row {
-    let image = random_image(device);
-    let mut readout = vec![0; reference::readout_bytes(device).expect("the device is known")];
-    reference::image_to_readout(device, &image, &mut readout).expect("the lengths are right");
     whole_part(
         "readout to image",
         device,
-        readout,
-        image.len(),
+        random_readout(device),
+        random_image(device).len(),
         library::xc9500_readout_to_image,
         |device, readout, image| reference::readout_to_image(device, readout, image).map(|()| 0),
         |device, readout, image| optimised::readout_to_image(device, readout, image).map(|()| 0),
@@ -124,6 +132,209 @@ fn readout_to_image(device: Device) -> Row {
 fn random_image(device: Device) -> Vec<u8> {
     let length = reference::image_bytes(device).expect("the device is known");
     Random::new(0x9500_1000).bytes(length)
+}
+
+/// The readout of that image.
+fn random_readout(device: Device) -> Vec<u8> {
+    let mut readout = vec![0; reference::readout_bytes(device).expect("the device is known")];
+    reference::image_to_readout(device, &random_image(device), &mut readout)
+        .expect("the lengths are right");
+    readout
+}
+
+const READ_IN_IMAGE: [Edit; 3] = [
+    |device, image, setting, _| library::xc9500_read_in_image(device, image, setting),
+    |device, image, setting, _| reference::read_in_image(device, image, setting).map(u64::from),
+    |device, image, setting, _| optimised::read_in_image(device, image, setting).map(u64::from),
+];
+
+const SET_IN_IMAGE: [Edit; 3] = [
+    library::xc9500_set_in_image,
+    |device, image, setting, pattern| {
+        reference::set_in_image(device, image, setting, pattern).map(|()| 0)
+    },
+    |device, image, setting, pattern| {
+        optimised::set_in_image(device, image, setting, pattern).map(|()| 0)
+    },
+];
+
+const READ_IN_READOUT: [Edit; 3] = [
+    |device, readout, setting, _| library::xc9500_read_in_readout(device, readout, setting),
+    |device, readout, setting, _| {
+        reference::read_in_readout(device, readout, setting).map(u64::from)
+    },
+    |device, readout, setting, _| {
+        optimised::read_in_readout(device, readout, setting).map(u64::from)
+    },
+];
+
+const SET_IN_READOUT: [Edit; 3] = [
+    library::xc9500_set_in_readout,
+    |device, readout, setting, pattern| {
+        reference::set_in_readout(device, readout, setting, pattern).map(|()| 0)
+    },
+    |device, readout, setting, pattern| {
+        optimised::set_in_readout(device, readout, setting, pattern).map(|()| 0)
+    },
+];
+
+fn read_literals_in_image(device: Device) -> Row {
+    let image = random_image(device);
+    edits(
+        "read literal, image",
+        device,
+        image,
+        literals,
+        READ_IN_IMAGE,
+    )
+}
+
+fn set_literals_in_image(device: Device) -> Row {
+    let image = random_image(device);
+    edits("set literal, image", device, image, literals, SET_IN_IMAGE)
+}
+
+fn read_usercode_in_image(device: Device) -> Row {
+    let image = random_image(device);
+    edits(
+        "read USERCODE, image",
+        device,
+        image,
+        usercodes,
+        READ_IN_IMAGE,
+    )
+}
+
+fn set_usercode_in_image(device: Device) -> Row {
+    let image = random_image(device);
+    edits(
+        "set USERCODE, image",
+        device,
+        image,
+        usercodes,
+        SET_IN_IMAGE,
+    )
+}
+
+fn read_literals_in_readout(device: Device) -> Row {
+    let readout = random_readout(device);
+    edits(
+        "read literal, readout",
+        device,
+        readout,
+        literals,
+        READ_IN_READOUT,
+    )
+}
+
+fn set_literals_in_readout(device: Device) -> Row {
+    let readout = random_readout(device);
+    edits(
+        "set literal, readout",
+        device,
+        readout,
+        literals,
+        SET_IN_READOUT,
+    )
+}
+
+fn read_usercode_in_readout(device: Device) -> Row {
+    let readout = random_readout(device);
+    edits(
+        "read USERCODE, readout",
+        device,
+        readout,
+        usercodes,
+        READ_IN_READOUT,
+    )
+}
+
+fn set_usercode_in_readout(device: Device) -> Row {
+    let readout = random_readout(device);
+    edits(
+        "set USERCODE, readout",
+        device,
+        readout,
+        usercodes,
+        SET_IN_READOUT,
+    )
+}
+
+/// Calls of a pass over settings: many, so that the loop around them is well predicted.
+const EDITS: usize = 4096;
+
+/// A setting and a pattern for each call of a pass.
+type Asked = Vec<(u32, u32)>;
+
+/// Random literals of the last block with random states.
+fn literals(device: Device) -> Asked {
+    const OF_A_BLOCK: u32 = 18 * 5 * 72;
+    let first = OF_A_BLOCK * (device.blocks - 1);
+    let mut random = Random::new(0x9500_1001);
+    let mut literal = || {
+        let setting = first + random.below(u64::from(OF_A_BLOCK)) as u32;
+        (setting, random.below(2) as u32)
+    };
+    (0..EDITS).map(|_| literal()).collect()
+}
+
+/// The last setting with random numbers.
+fn usercodes(device: Device) -> Asked {
+    let usercode = reference::setting_count(device).expect("the device is known") - 1;
+    let mut random = Random::new(0x9500_1002);
+    let mut usercode = || (usercode, random.next_u64() as u32);
+    (0..EDITS).map(|_| usercode()).collect()
+}
+
+/// The row of reading or setting, a pass of which is many calls on one image or readout.
+fn edits(
+    operation: &'static str,
+    device: Device,
+    bytes: Vec<u8>,
+    asked: fn(Device) -> Asked,
+    [library, reference, optimised]: [Edit; 3],
+) -> Row {
+    // The bytes are compared here, once; a pass sums the answers.
+    let asked: Rc<[(u32, u32)]> = asked(device).into();
+    let [by_library, by_reference, by_optimised] = [library, reference, optimised].map(|edit| {
+        let mut bytes = bytes.clone();
+        for (setting, pattern) in asked.iter() {
+            edit(device, &mut bytes, *setting, *pattern).expect("the setting is there");
+        }
+        bytes
+    });
+    assert!(
+        by_library == by_reference && by_optimised == by_reference,
+        "{operation}: the programs disagree"
+    );
+
+    let bytes = Rc::new(RefCell::new(bytes));
+    let pass = |edit: Edit| -> Pass {
+        let (bytes, asked) = (bytes.clone(), asked.clone());
+        Box::new(move || {
+            let mut bytes = bytes.borrow_mut();
+            let mut sum: u64 = 0;
+            for (setting, pattern) in asked.iter() {
+                let answer = edit(
+                    black_box(device),
+                    black_box(&mut bytes),
+                    black_box(*setting),
+                    black_box(*pattern),
+                );
+                sum = sum.wrapping_mul(3).wrapping_add(as_number(answer));
+            }
+            sum
+        })
+    };
+    Row {
+        operation,
+        device,
+        calls: EDITS as u64,
+        call: "setting",
+        library: pass(library),
+        reference: pass(reference),
+        optimised: pass(optimised),
+    }
 }
 
 /// The row of an operation of which a pass is one call; the target is empty where it has none.

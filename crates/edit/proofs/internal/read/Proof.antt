@@ -1,67 +1,101 @@
+-- `read` meets its contract: the tests are the definition's.
+-- Assumes nothing.
+use mathlib.Core.Path.{_≡_, sym, _∙_, ap}
+use mathlib.Core.Bool.{Bool, true, false}
+use mathlib.Core.List.{List}
+use Prim.Native.Nat.{ℕ, _<_, _≤_}
+use native.Mathlib.Omega.{arith}
+use mir.Syntax.{w32}
+use mir.Val.{Fits}
+use lib.ListN.{length}
+use borrow.Author.Tests.{eq-eqb, ne-eqb, lt-ltb, le-ltb}
+use Rattle.part.specs.Outcome.Outcome.{accepted, refused}
+use Rattle.part.specs.Device.{known}
+use Rattle.part.specs.declared.Device.{Device}
+use Rattle.part.proofs.Devices.{is-known, is-unknown}
+use Rattle.settings.specs.Settings.{hasSetting}
+use Rattle.settings.specs.declared.Setting.{Setting}
+use Rattle.settings.proofs.Asked.{has, has-not}
+use Rattle.values.specs.Values.{valueIn}
+use Rattle.values.specs.declared.Value.{Value}
+use Rattle.values.specs.declared.Kind.{Kind}
+use Rattle.setting_values.specs.Kinds.{kindOf}
+use Rattle.edit.specs.Edit.{bytesOf, patternAt, strayIn, readIn}
+use Rattle.edit.proofs.Steps.{bytes-few}
 use borrow.Author.Needs.{needs}
 use Rattle.edit.proofs.internal.read.Statement.{statement}
 use Rattle.edit.proofs.internal.read.Tie as tie
 use Rattle.edit.proofs.internal.read.Reads as reads
-use Rattle.edit.proofs.internal.read.Lts as lts
-use Rattle.edit.proofs.internal.bytes_of.Reads as bytes-of-reads
-use Rattle.edit.proofs.internal.pattern_at.Reads as pattern-at-reads
-use Rattle.edit.proofs.internal.stray_in.Reads as stray-in-reads
-use Rattle.part.proofs.is_known.Reads as is-known-reads
-use Rattle.setting_values.proofs.internal.kind_of.Reads as kind-of-reads
-use Rattle.settings.proofs.internal.has_setting.Reads as has-setting-reads
-use Rattle.values.proofs.internal.value_in.Reads as value-in-reads
 
--- src/internal.rt:147:9
+no-device : (d : Device) (form : Bool) (bytes : List ℕ) (s : Setting) → known d ≡ false → refused 1 0 ≡ readIn d form bytes s
+unfolding readIn
+no-device d form bytes s k = rw k
+
+module _ (d : Device) (form : Bool) (bytes : List ℕ) (s : Setting) (size : ℕ) (k : known d ≡ true) (e : size ≡ bytesOf d form) where
+  wrong-length : (length bytes ≡ size → ⊥) → refused 2 0 ≡ readIn d form bytes s
+  unfolding readIn
+  wrong-length ne = rw (k, ne-eqb (length bytes) (bytesOf d form) (λ f. ne (f ∙ sym e)))
+
+  module _ (n : length bytes ≡ size) where
+    its-size : length bytes ≡ bytesOf d form
+    its-size = n ∙ e
+
+    small : (stray : ℕ) → stray < length bytes → Fits w32 stray
+    small stray l = record { fits = omega (arith, its-size, bytes-few d form k) }
+
+    no-setting : hasSetting d s ≡ false → refused 4 0 ≡ readIn d form bytes s
+    unfolding readIn
+    no-setting h = rw (k, eq-eqb (length bytes) (bytesOf d form) its-size, h)
+
+    module _ (h : hasSetting d s ≡ true) (stray : ℕ) (g : stray ≡ strayIn d form bytes s) where
+      a-stray : stray < length bytes → refused 6 stray ≡ readIn d form bytes s
+      unfolding readIn
+      a-stray l = rw (k, eq-eqb (length bytes) (bytesOf d form) its-size, h, ← g, lt-ltb stray (bytesOf d form) (omega (arith, its-size)))
+
+      the-value : (kd : Kind) (pattern : ℕ) (v : Value) → length bytes ≤ stray → kd ≡ kindOf d s → pattern ≡ patternAt d form bytes s → v ≡ valueIn kd pattern
+          → accepted v ≡ readIn d form bytes s
+      unfolding readIn
+      the-value kd pattern v l f p w =
+          rw (k, eq-eqb (length bytes) (bytesOf d form) its-size, h, ← g, le-ltb stray (bytesOf d form) (omega (arith, its-size)), w, f, p)
+
 is-known-requires : tie.Need-is-known-requires
 is-known-requires c κs = search needs
 
--- src/internal.rt:148:9
 returns : tie.Need-returns
-returns c = ?
+returns c = search (needs, is-unknown, no-device)
 
--- src/internal.rt:150:23
 bytes-of-requires : tie.Need-bytes-of-requires
-bytes-of-requires c κs = ?
+bytes-of-requires c κs = search (needs, is-known)
 
--- src/internal.rt:151:9
 returns-2 : tie.Need-returns-2
-returns-2 c = ?
+returns-2 c = search (needs, is-known, wrong-length)
 
--- src/internal.rt:153:9
 has-setting-requires : tie.Need-has-setting-requires
 has-setting-requires c κs = search needs
 
--- src/internal.rt:154:9
 returns-3 : tie.Need-returns-3
-returns-3 c = ?
+returns-3 c = search (needs, is-known, has-not, no-setting)
 
--- src/internal.rt:156:9
 stray-in-requires : tie.Need-stray-in-requires
-stray-in-requires c κs = ?
+stray-in-requires c κs = (search (needs, is-known), has _ _ _ (c .before .has-setting .ensures) (c .if3 .left), search (needs, its-size))
 
--- src/internal.rt:158:21
 cast-index : tie.Need-cast-index
-cast-index c = ?
+cast-index c = search (needs, is-known, small)
 
--- src/internal.rt:159:9
 returns-4 : tie.Need-returns-4
-returns-4 c = ?
+returns-4 c = search (needs, is-known, has, a-stray)
 
--- src/internal.rt:161:9
 kind-of-requires : tie.Need-kind-of-requires
 kind-of-requires c κs = search needs
 
--- src/internal.rt:162:9
 pattern-at-requires : tie.Need-pattern-at-requires
-pattern-at-requires c κs = ?
+pattern-at-requires c κs = (search (needs, is-known), has _ _ _ (c .before .before .before .before .has-setting .ensures) (c .before .before .before .if3 .left), search (needs, its-size))
 
--- src/internal.rt:163:24
 value-in-requires : tie.Need-value-in-requires
 value-in-requires c κs = search needs
 
--- src/internal.rt:144:1
 returns-5 : tie.Need-returns-5
-returns-5 c = ?
+returns-5 c = search (needs, is-known, has, the-value)
 
 pub read-spec : {M : Type 1} → statement M
 read-spec =

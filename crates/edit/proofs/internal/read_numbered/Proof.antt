@@ -1,62 +1,102 @@
+-- `read_numbered` meets its contract: the tests are the definition's.
+-- Assumes nothing.
+use mathlib.Core.Path.{_≡_, sym, _∙_, ap}
+use mathlib.Core.Bool.{Bool, true, false}
+use mathlib.Core.List.{List}
+use Prim.Native.Nat.{ℕ, _<_, _≤_}
+use native.Mathlib.Omega.{arith}
+use mir.Syntax.{w32}
+use mir.Val.{Fits}
+use lib.ListN.{length}
+use borrow.Author.Tests.{eq-eqb, ne-eqb, lt-ltb, le-ltb}
+use Rattle.part.specs.Outcome.Outcome.{accepted, refused}
+use Rattle.part.specs.Device.{known}
+use Rattle.part.specs.declared.Device.{Device}
+use Rattle.part.proofs.Devices.{is-known, is-unknown}
+use Rattle.settings.specs.Settings.{hasSetting}
+use Rattle.settings.specs.Order.{countOf, settingOf}
+use Rattle.settings.specs.declared.Setting.{Setting}
+use Rattle.settings.proofs.Numbers.{number-again}
+use Rattle.edit.specs.Edit.{bytesOf, patternAt, strayIn, readPattern}
+use Rattle.edit.proofs.Steps.{bytes-few}
 use borrow.Author.Needs.{needs}
 use Rattle.edit.proofs.internal.read_numbered.Statement.{statement}
 use Rattle.edit.proofs.internal.read_numbered.Tie as tie
 use Rattle.edit.proofs.internal.read_numbered.Reads as reads
-use Rattle.edit.proofs.internal.read_numbered.Lts as lts
-use Rattle.edit.proofs.internal.bytes_of.Reads as bytes-of-reads
-use Rattle.edit.proofs.internal.pattern_at.Reads as pattern-at-reads
-use Rattle.edit.proofs.internal.stray_in.Reads as stray-in-reads
-use Rattle.part.proofs.is_known.Reads as is-known-reads
-use Rattle.settings.proofs.internal.count_of.Reads as count-of-reads
-use Rattle.settings.proofs.internal.setting_of.Reads as setting-of-reads
 
--- src/internal.rt:199:9
+no-device : (d : Device) (form : Bool) (bytes : List ℕ) (x : ℕ) → known d ≡ false → refused 1 0 ≡ readPattern d form bytes x
+unfolding readPattern
+no-device d form bytes x k = rw k
+
+below : (d : Device) (x count : ℕ) → count ≡ countOf d → x < count → x < countOf d
+below d x count e l = omega arith
+
+there : (d : Device) (x count : ℕ) (s : Setting) → count ≡ countOf d → x < count → s ≡ settingOf d x → hasSetting d s ≡ true
+there d x count s e l f = rw f (number-again d x (below d x count e l) .0)
+
+its-size : (d : Device) (form : Bool) (n size : ℕ) → size ≡ bytesOf d form → n ≡ size → n ≡ bytesOf d form
+its-size d form n size e f = f ∙ e
+
+module _ (d : Device) (form : Bool) (bytes : List ℕ) (x size : ℕ) (k : known d ≡ true) (e : size ≡ bytesOf d form) where
+  wrong-length : (length bytes ≡ size → ⊥) → refused 2 0 ≡ readPattern d form bytes x
+  unfolding readPattern
+  wrong-length ne = rw (k, ne-eqb (length bytes) (bytesOf d form) (λ f. ne (f ∙ sym e)))
+
+  module _ (n : length bytes ≡ size) where
+    small : (stray : ℕ) → stray < length bytes → Fits w32 stray
+    small stray l = record { fits = omega (arith, n, e, bytes-few d form k) }
+
+    module _ (count : ℕ) (f : count ≡ countOf d) where
+      no-number : count ≤ x → refused 4 0 ≡ readPattern d form bytes x
+      unfolding readPattern
+      no-number l = rw (k, eq-eqb (length bytes) (bytesOf d form) (n ∙ e), le-ltb x (countOf d) (omega arith))
+
+      module _ (l : x < count) (s : Setting) (g : s ≡ settingOf d x) (stray : ℕ) (q : stray ≡ strayIn d form bytes s) where
+        a-stray : stray < length bytes → refused 6 stray ≡ readPattern d form bytes x
+        unfolding readPattern
+        a-stray m =
+            rw (k, eq-eqb (length bytes) (bytesOf d form) (n ∙ e), lt-ltb x (countOf d) (omega arith), ← g, ← q, lt-ltb stray (bytesOf d form) (omega arith))
+
+        the-pattern : (pattern : ℕ) → length bytes ≤ stray → pattern ≡ patternAt d form bytes s → accepted pattern ≡ readPattern d form bytes x
+        unfolding readPattern
+        the-pattern pattern m p =
+            rw (k, eq-eqb (length bytes) (bytesOf d form) (n ∙ e), lt-ltb x (countOf d) (omega arith), ← g, ← q, le-ltb stray (bytesOf d form) (omega arith), p)
+
 is-known-requires : tie.Need-is-known-requires
 is-known-requires c κs = search needs
 
--- src/internal.rt:200:9
 returns : tie.Need-returns
-returns c = ?
+returns c = search (needs, is-unknown, no-device)
 
--- src/internal.rt:202:23
 bytes-of-requires : tie.Need-bytes-of-requires
-bytes-of-requires c κs = ?
+bytes-of-requires c κs = search (needs, is-known)
 
--- src/internal.rt:203:9
 returns-2 : tie.Need-returns-2
-returns-2 c = ?
+returns-2 c = search (needs, is-known, wrong-length)
 
--- src/internal.rt:205:8
 count-of-requires : tie.Need-count-of-requires
-count-of-requires c κs = ?
+count-of-requires c κs = search (needs, is-known)
 
--- src/internal.rt:206:9
 returns-3 : tie.Need-returns-3
-returns-3 c = ?
+returns-3 c = search (needs, is-known, no-number)
 
--- src/internal.rt:208:9
 setting-of-requires : tie.Need-setting-of-requires
-setting-of-requires c κs = ?
+setting-of-requires c κs = (search (needs, is-known), search (needs, below))
 
--- src/internal.rt:209:9
 stray-in-requires : tie.Need-stray-in-requires
-stray-in-requires c κs = ?
+stray-in-requires c κs = (search (needs, is-known), search (needs, there), search (needs, its-size))
 
--- src/internal.rt:211:21
 cast-index : tie.Need-cast-index
-cast-index c = ?
+cast-index c = search (needs, is-known, small)
 
--- src/internal.rt:212:9
 returns-4 : tie.Need-returns-4
-returns-4 c = ?
+returns-4 c = search (needs, is-known, a-stray)
 
--- src/internal.rt:214:26
 pattern-at-requires : tie.Need-pattern-at-requires
-pattern-at-requires c κs = ?
+pattern-at-requires c κs = (search (needs, is-known), search (needs, there), search (needs, its-size))
 
--- src/internal.rt:196:1
 returns-5 : tie.Need-returns-5
-returns-5 c = ?
+returns-5 c = search (needs, is-known, the-pattern)
 
 pub read-numbered-spec : {M : Type 1} → statement M
 read-numbered-spec =

@@ -1,87 +1,146 @@
+-- `set` meets its contract: the tests are the definition's, and nothing is written before the last of them.
+-- Assumes nothing.
+use mathlib.Core.Path.{_≡_, sym, _∙_, ap}
+use mathlib.Core.Bool.{Bool, true, false}
+use mathlib.Core.List.{List}
+use mathlib.Core.Option.{Option}
+use mathlib.Core.Option.Option.{none, some}
+use Prim.Native.Nat.{ℕ, _<_, _≤_}
+use native.Mathlib.Omega.{arith}
+use mir.Syntax.{w32}
+use mir.Val.{Fits}
+use lib.ListN.{length}
+use borrow.Author.Tests.{eq-eqb, ne-eqb, lt-ltb, le-ltb}
+use Rattle.part.specs.Outcome.{Outcome}
+use Rattle.part.specs.Outcome.Outcome.{accepted, refused}
+use Rattle.part.specs.Device.{known}
+use Rattle.part.specs.declared.Device.{Device}
+use Rattle.part.proofs.Devices.{is-known, is-unknown}
+use Rattle.readout.specs.Readout.{Written, written}
+use Rattle.readout.proofs.Targets.{says}
+use Rattle.settings.specs.Settings.{hasSetting}
+use Rattle.settings.specs.declared.Setting.{Setting}
+use Rattle.settings.proofs.Asked.{has, has-not}
+use Rattle.values.specs.Patterns.{patternIn, foundPattern}
+use Rattle.values.specs.declared.Value.{Value}
+use Rattle.values.specs.declared.Kind.{Kind}
+use Rattle.values.specs.declared.internal.Found.{Found}
+use Rattle.values.specs.declared.internal.Found.the-variants.{Pattern, NoSuchValue}
+use Rattle.setting_values.specs.Kinds.{kindOf}
+use Rattle.edit.specs.Edit.{bytesOf, strayIn, setIn, withPattern, withValue}
+use Rattle.edit.proofs.Steps.{bytes-few}
 use borrow.Author.Needs.{needs}
 use Rattle.edit.proofs.internal.set.Statement.{statement}
 use Rattle.edit.proofs.internal.set.Tie as tie
 use Rattle.edit.proofs.internal.set.Reads as reads
-use Rattle.edit.proofs.internal.set.Lts as lts
-use Rattle.edit.proofs.internal.bytes_of.Reads as bytes-of-reads
-use Rattle.edit.proofs.internal.put_pattern.Reads as put-pattern-reads
-use Rattle.edit.proofs.internal.stray_in.Reads as stray-in-reads
-use Rattle.part.proofs.is_known.Reads as is-known-reads
-use Rattle.setting_values.proofs.internal.kind_of.Reads as kind-of-reads
-use Rattle.settings.proofs.internal.has_setting.Reads as has-setting-reads
-use Rattle.values.proofs.internal.pattern_in.Reads as pattern-in-reads
 
--- src/internal.rt:170:9
+-- what the call must give: the outcome's answer, and the bytes that go with it
+abbrev Given : Device → Bool → List ℕ → Setting → Value → Outcome (Unit {0}) → List ℕ → Type 0
+Given d form bytes s v answer after = Written (setIn d form bytes s v) answer (withValue d form bytes s v) bytes after
+
+refusal : (d : Device) (form : Bool) (bytes : List ℕ) (s : Setting) (v : Value) (n x : ℕ) → refused n x ≡ setIn d form bytes s v
+    → Given d form bytes s v (refused n x) bytes
+refusal d form bytes s v n x e = says (setIn d form bytes s v) (refused n x) (withValue d form bytes s v) bytes e
+
+no-device : (d : Device) (form : Bool) (bytes : List ℕ) (s : Setting) (v : Value) → known d ≡ false → Given d form bytes s v (refused 1 0) bytes
+unfolding setIn
+no-device d form bytes s v k = refusal d form bytes s v 1 0 (rw k)
+
+module _ (d : Device) (form : Bool) (bytes : List ℕ) (s : Setting) (v : Value) (size : ℕ) (k : known d ≡ true) (e : size ≡ bytesOf d form) where
+  wrong-length : (length bytes ≡ size → ⊥) → Given d form bytes s v (refused 2 0) bytes
+  unfolding setIn
+  wrong-length ne = refusal d form bytes s v 2 0 (rw (k, ne-eqb (length bytes) (bytesOf d form) (λ f. ne (f ∙ sym e))))
+
+  module _ (n : length bytes ≡ size) where
+    its-size : length bytes ≡ bytesOf d form
+    its-size = n ∙ e
+
+    small : (stray : ℕ) → stray < length bytes → Fits w32 stray
+    small stray l = record { fits = omega (arith, its-size, bytes-few d form k) }
+
+    no-setting : hasSetting d s ≡ false → Given d form bytes s v (refused 4 0) bytes
+    unfolding setIn
+    no-setting h = refusal d form bytes s v 4 0 (rw (k, eq-eqb (length bytes) (bytesOf d form) its-size, h))
+
+    module _ (h : hasSetting d s ≡ true) (kd : Kind) (o : Found) (f : kd ≡ kindOf d s) (g : foundPattern o ≡ patternIn kd v) where
+      its : patternIn (kindOf d s) v ≡ foundPattern o
+      its = ap (λ (x : Kind). patternIn x v) (sym f) ∙ sym g
+
+      no-value : o ≡ NoSuchValue → Given d form bytes s v (refused 5 0) bytes
+      unfolding setIn
+      no-value w = refusal d form bytes s v 5 0 (rw (k, eq-eqb (length bytes) (bytesOf d form) its-size, h, its, w))
+
+      module _ (pattern : ℕ) (w : o ≡ Pattern pattern) (stray : ℕ) (q : stray ≡ strayIn d form bytes s) where
+        a-stray : stray < length bytes → Given d form bytes s v (refused 6 stray) bytes
+        unfolding setIn
+        a-stray l =
+            refusal d form bytes s v 6 stray
+            (rw (k, eq-eqb (length bytes) (bytesOf d form) its-size, h, its, w, ← q, lt-ltb stray (bytesOf d form) (omega (arith, its-size))))
+
+        done : length bytes ≤ stray → accepted tt ≡ setIn d form bytes s v
+        unfolding setIn
+        done l =
+            rw (k, eq-eqb (length bytes) (bytesOf d form) its-size, h, its, w, ← q, le-ltb stray (bytesOf d form) (omega (arith, its-size)))
+
+        the-set : (after : List ℕ) → length bytes ≤ stray → after ≡ withPattern d form bytes s pattern → Given d form bytes s v (accepted tt) after
+        unfolding withValue
+        the-set after l x =
+            let same = done l in
+            record { answers = same; holds = rw (← same, its, w) x }
+
 is-known-requires : tie.Need-is-known-requires
 is-known-requires c κs = search needs
 
--- src/internal.rt:171:9
 returns : tie.Need-returns
-returns c = ?
+returns c = search (needs, is-unknown, no-device)
 
--- src/internal.rt:173:23
 bytes-of-requires : tie.Need-bytes-of-requires
-bytes-of-requires c κs = ?
+bytes-of-requires c κs = search (needs, is-known)
 
--- src/internal.rt:174:9
 returns-2 : tie.Need-returns-2
-returns-2 c = ?
+returns-2 c = search (needs, is-known, wrong-length)
 
--- src/internal.rt:176:9
 has-setting-requires : tie.Need-has-setting-requires
 has-setting-requires c κs = search needs
 
--- src/internal.rt:177:9
 returns-3 : tie.Need-returns-3
-returns-3 c = ?
+returns-3 c = search (needs, is-known, has-not, no-setting)
 
--- src/internal.rt:179:9
 kind-of-requires : tie.Need-kind-of-requires
 kind-of-requires c κs = search needs
 
--- src/internal.rt:180:9
 pattern-in-requires : tie.Need-pattern-in-requires
 pattern-in-requires c κs = search needs
 
--- src/internal.rt:182:24
 enum-known-found : tie.Need-enum-known-found
 enum-known-found c = search needs
 
--- src/internal.rt:183:17
 stray-in-requires : tie.Need-stray-in-requires
-stray-in-requires c κs = ?
+stray-in-requires c κs = (search (needs, is-known), has _ _ _ (c .before .before .before .before .before .before .before .has-setting .ensures) (c .before .before .before .before .before .before .if3 .left), search (needs, its-size))
 
--- src/internal.rt:185:29
 cast-index : tie.Need-cast-index
-cast-index c = ?
+cast-index c = search (needs, is-known, small)
 
--- src/internal.rt:186:17
 same-length : tie.Need-same-length
 same-length c = search needs
 
--- src/internal.rt:186:17
 returns-4 : tie.Need-returns-4
-returns-4 c = ?
+returns-4 c = search (needs, is-known, has, a-stray)
 
--- src/internal.rt:188:13
 put-pattern-requires : tie.Need-put-pattern-requires
-put-pattern-requires c κs = ?
+put-pattern-requires c κs = (search (needs, is-known), has _ _ _ (c .before .before .before .before .before .before .before .before .before .before .has-setting .ensures) (c .before .before .before .before .before .before .before .before .before .if3 .left), search (needs, its-size))
 
--- src/internal.rt:191:51
 enum-told : tie.Need-enum-told
 enum-told c = search needs
 
--- src/internal.rt:167:1
 same-length-2 : tie.Need-same-length-2
 same-length-2 c = search needs
 
--- src/internal.rt:167:1
 returns-5 : tie.Need-returns-5
-returns-5 c = ?
+returns-5 c = search (needs, is-known, has, the-set)
 
--- src/internal.rt:167:1
 returns-6 : tie.Need-returns-6
-returns-6 c = ?
+returns-6 c = search (needs, is-known, has, no-value)
 
 pub set-spec : {M : Type 1} → statement M
 set-spec =

@@ -1,20 +1,39 @@
+-- `stray_in` meets its contract: by what the bytes are.
+-- Assumes nothing.
+use mathlib.Core.Path.{_≡_, _∙_}
+use mathlib.Core.Bool.{Bool, true, false}
+use mathlib.Core.List.{List}
+use Prim.Native.Nat.{ℕ}
+use lib.ListN.{length}
+use Rattle.part.specs.Device.{readoutBytes}
+use Rattle.part.specs.declared.Device.{Device}
+use Rattle.settings.specs.declared.Setting.{Setting}
+use Rattle.edit.specs.Edit.{bytesOf, strayOf, strayIn}
+use borrow.Author.Needs.{needs}
 use Rattle.edit.proofs.internal.stray_in.Statement.{statement}
 use Rattle.edit.proofs.internal.stray_in.Tie as tie
 use Rattle.edit.proofs.internal.stray_in.Reads as reads
-use Rattle.edit.proofs.internal.stray_in.Lts as lts
-use Rattle.edit.proofs.internal.stray_of.Reads as stray-of-reads
 
--- src/internal.rt:127:9
+module _ (d : Device) (form : Bool) (bytes : List ℕ) (s : Setting) (r : ℕ) where
+  its-size : form ≡ true → length bytes ≡ bytesOf d form → length bytes ≡ readoutBytes d
+  its-size f e = rw f at e
+
+  of-readout : form ≡ true → r ≡ strayOf d bytes s → r ≡ strayIn d form bytes s
+  unfolding strayIn
+  of-readout f e = rw f e
+
+  of-image : form ≡ false → length bytes ≡ bytesOf d form → length bytes ≡ strayIn d form bytes s
+  unfolding strayIn
+  of-image f e = rw f (rw f at e)
+
 stray-of-requires : tie.Need-stray-of-requires
-stray-of-requires c κs = ?
+stray-of-requires c κs = search (needs, its-size)
 
--- src/internal.rt:127:9
 returns : tie.Need-returns
-returns c = ?
+returns c = search (needs, of-readout)
 
--- src/internal.rt:122:1
 returns-2 : tie.Need-returns-2
-returns-2 c = ?
+returns-2 c = search (needs, of-image)
 
 pub stray-in-spec : {M : Type 1} → statement M
 stray-in-spec = tie.close (tie.spec stray-of-requires returns returns-2)

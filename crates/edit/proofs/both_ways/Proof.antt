@@ -1,0 +1,131 @@
+-- `both_ways` meets its contract: each call gave what its definition says, and demand 3 holds of the definitions.
+-- Assumes nothing.
+use mathlib.Core.Path.{_≡_, refl, sym, _∙_, ap, subst}
+use mathlib.Core.Bool.{true}
+use mathlib.Core.List.{List}
+use Prim.Native.Nat.{ℕ}
+use lib.ListN.{length}
+use borrow.Author.Tests.{eq-eqb}
+use Rattle.part.specs.Outcome.{Outcome}
+use Rattle.part.specs.Outcome.Outcome.{accepted}
+use Rattle.part.specs.Device.{known, imageBytes, readoutBytes}
+use Rattle.part.specs.declared.Device.{Device}
+use Rattle.readout.specs.Readout.{Written, written, toReadout, readoutOf, toImage, imageOf}
+use Rattle.readout.proofs.Laws.{from-length, readout-accepted, accepted-iff, Within}
+use Rattle.settings.specs.declared.Setting.{Setting}
+use Rattle.values.specs.declared.Value.{Value}
+use Rattle.edit.specs.Edit.{inImage, inReadout, withValue, withPattern, readIn, setIn}
+use Rattle.edit.specs.Demand.{Taken, Room, Calls, BothWays}
+use Rattle.edit.proofs.Edits.{set-length}
+use Rattle.edit.proofs.Demand.{holds, of-calls}
+use borrow.Author.Needs.{needs}
+use Rattle.edit.proofs.both_ways.Statement.{statement}
+use Rattle.edit.proofs.both_ways.Tie as tie
+use Rattle.edit.proofs.both_ways.Reads as reads
+
+-- what an accepted call left in its target
+left : {A : Type 0} {o answer : Outcome A} {x : A} {result before after : List ℕ} → Written o answer result before after → o ≡ accepted x → after ≡ result
+left {result = result} {before = before} w e = w .holds ∙ ap (λ (p : Outcome _). written p result before) e
+
+passes : (d : Device) (image target : List ℕ) → known d ≡ true → length image ≡ imageBytes d → length target ≡ readoutBytes d
+    → toReadout d image target ≡ accepted tt
+unfolding toReadout
+passes d image target k e f = rw (k, eq-eqb (length image) (imageBytes d) e, eq-eqb (length target) (readoutBytes d) f)
+
+readout-size : (d : Device) (image : List ℕ) → length (readoutOf d image) ≡ readoutBytes d
+unfolding readoutOf
+readout-size d image = from-length d _
+
+image-size : (d : Device) (image : List ℕ) (s : Setting) (v : Value) (pattern : ℕ) → Taken d image s v pattern
+    → length (withValue d inImage image s v) ≡ imageBytes d
+unfolding withValue
+image-size d image s v pattern t =
+    rw (t .value) (set-length d (t .device) inImage image (t .size) s (t .setting) pattern ∙ t .size)
+
+ran : (d : Device) (image readout its-readout its-image : List ℕ) (s : Setting) (v : Value)
+    (o1 a b o4 o5 : Outcome (Unit {0})) (x y : Outcome Value) (readout1 image2 readout2 its-readout1 its-image1 : List ℕ)
+    → Written (toReadout d image readout) o1 (readoutOf d image) readout readout1
+    → Written (setIn d inImage image s v) a (withValue d inImage image s v) image image2
+    → Written (setIn d inReadout readout1 s v) b (withValue d inReadout readout1 s v) readout1 readout2
+    → Written (toReadout d image2 its-readout) o4 (readoutOf d image2) its-readout its-readout1
+    → Written (toImage d readout2 its-image) o5 (imageOf d readout2) its-image its-image1
+    → x ≡ readIn d inImage image2 s → y ≡ readIn d inReadout readout2 s
+    → BothWays d image readout its-readout its-image s v
+        (record {
+          set-image = a;
+          set-readout = b;
+          image = image2;
+          readout = readout2;
+          its-readout = its-readout1;
+          its-image = its-image1;
+          read-image = x;
+          read-readout = y;
+        })
+ran d image readout its-readout its-image s v o1 a b o4 o5 x y readout1 image2 readout2 its-readout1 its-image1 w1 w2 w3 w4 w5 ex ey pattern t room =
+    let k = t .device in
+    let whole = holds d image s v pattern t in
+    let first : readout1 ≡ readoutOf d image = left w1 (passes d image readout k (t .size) (room .readout-size)) in
+    let changed : image2 ≡ withValue d inImage image s v = left w2 (whole .not-refused .0) in
+    let set3 : Written (setIn d inReadout (readoutOf d image) s v) b (withValue d inReadout (readoutOf d image) s v) (readoutOf d image) readout2 =
+        subst (λ (r : List ℕ). Written (setIn d inReadout r s v) b (withValue d inReadout r s v) r readout2) first w3 in
+    let changed3 : readout2 ≡ withValue d inReadout (readoutOf d image) s v = left set3 (whole .not-refused .1) in
+    let size2 : length image2 ≡ imageBytes d = ap length changed ∙ image-size d image s v pattern t in
+    let its : its-readout1 ≡ readoutOf d image2 = left w4 (passes d image2 its-readout k size2 (room .its-readout-size)) in
+    let same : readout2 ≡ readoutOf d image2 = changed3 ∙ whole .same-readout ∙ ap (readoutOf d) (sym changed) in
+    let clean : Within d readout2 = subst (Within d) (sym same) (readout-accepted d image2) in
+    let taken-in : toImage d readout2 its-image ≡ accepted tt =
+        accepted-iff d readout2 its-image .1 (k, ap length same ∙ readout-size d image2, room .its-image-size, clean) in
+    of-calls d image s v pattern t a b image2 readout2 its-readout1 its-image1 x y (w2 .answers) (set3 .answers) changed changed3 its (left w5 taken-in) ex ey
+
+image-to-readout-requires : tie.Need-image-to-readout-requires
+image-to-readout-requires c κs = search needs
+
+set-in-image-requires : tie.Need-set-in-image-requires
+set-in-image-requires c κs = search needs
+
+set-in-readout-requires : tie.Need-set-in-readout-requires
+set-in-readout-requires c κs = search needs
+
+image-to-readout-requires-2 : tie.Need-image-to-readout-requires-2
+image-to-readout-requires-2 c κs = search needs
+
+readout-to-image-requires : tie.Need-readout-to-image-requires
+readout-to-image-requires c κs = search needs
+
+read-in-image-requires : tie.Need-read-in-image-requires
+read-in-image-requires c κs = search needs
+
+read-in-readout-requires : tie.Need-read-in-readout-requires
+read-in-readout-requires c κs = search needs
+
+same-length : tie.Need-same-length
+same-length c = search needs
+
+same-length-2 : tie.Need-same-length-2
+same-length-2 c = search needs
+
+same-length-3 : tie.Need-same-length-3
+same-length-3 c = search needs
+
+same-length-4 : tie.Need-same-length-4
+same-length-4 c = search needs
+
+returns : tie.Need-returns
+returns c = ran _ _ _ _ _ _ _ _ _ _ _ _ _ _ _ _ _ _ _ (c .before .before .before .before .before .before .before .before .before .before .before .before .before .before .before .before .before .before .before .before .before .before .before .before .image-to-readout .ensures) (c .before .before .before .before .before .before .before .before .before .before .before .before .before .before .before .before .before .before .before .before .set-in-image .ensures) (c .before .before .before .before .before .before .before .before .before .before .before .before .before .before .before .before .set-in-readout .ensures) (c .before .before .before .before .before .before .before .before .before .before .before .image-to-readout2 .ensures) (c .before .before .before .before .before .before .readout-to-image .ensures) (c .before .before .read-in-image .ensures) (c .read-in-readout .ensures)
+
+pub both-ways-spec : {M : Type 1} → statement M
+both-ways-spec =
+    tie.close
+    (tie.spec
+    image-to-readout-requires
+    set-in-image-requires
+    set-in-readout-requires
+    image-to-readout-requires-2
+    readout-to-image-requires
+    read-in-image-requires
+    read-in-readout-requires
+    same-length
+    same-length-2
+    same-length-3
+    same-length-4
+    returns)

@@ -1,0 +1,172 @@
+// What the vectors program of reading and setting prints, worked out by the plain access to settings.
+// Many settings are read, set one after the other on the same bytes, and read again.
+
+use crate::access::{read_in_image, read_in_readout, set_in_image, set_in_readout};
+use crate::catalogue::{number_of_setting, setting_count};
+use crate::device::{Answer, Device, SMALL};
+use crate::image::{image_bytes, image_to_readout, readout_bytes};
+use crate::setting::{MacrocellField, Setting};
+use crate::value::{pattern_of_value, Value, ValueName};
+use crate::vectors::{devices_and_others, fill, halves, word, Digest};
+use std::fmt::Write;
+
+#[derive(Clone, Copy)]
+enum Picture {
+    Image,
+    Readout,
+}
+
+fn read(picture: Picture, device: Device, bytes: &[u8], setting: u32) -> u64 {
+    let answer = match picture {
+        Picture::Image => read_in_image(device, bytes, setting),
+        Picture::Readout => read_in_readout(device, bytes, setting),
+    };
+    word(answer.map(u64::from))
+}
+
+fn set(picture: Picture, device: Device, bytes: &mut [u8], setting: u32, pattern: u32) -> u64 {
+    let answer = match picture {
+        Picture::Image => set_in_image(device, bytes, setting, pattern),
+        Picture::Readout => set_in_readout(device, bytes, setting, pattern),
+    };
+    word(answer.map(|()| 0))
+}
+
+/// Settings asked for one by one from the end, and all settings asked for.
+const FROM_THE_END: usize = 400;
+const ASKED: usize = 4900;
+
+/// The numbers to ask for: from a few past the last down through some hundreds, then in steps of 61
+/// through all. Where there is no setting, the few past the last are all.
+fn numbers_to_ask(device: Device) -> Vec<u32> {
+    let past = setting_count(device).unwrap_or(0) + 8;
+    let mut numbers: Vec<u32> = (0..past).rev().take(FROM_THE_END + 1).collect();
+    while numbers.len() < ASKED {
+        let last = numbers[numbers.len() - 1];
+        // A row that has come down to 0 stays in the steps' row, but for single ones down again.
+        let falls = numbers.len() <= FROM_THE_END && last > 0;
+        numbers.push(if falls { last - 1 } else { (last + 61) % past });
+    }
+    numbers
+}
+
+/// The pattern to put at the k-th of them; the eighth after the first is USERCODE.
+fn pattern_to_put(k: usize, turn: u32) -> u32 {
+    if k == 8 {
+        0x1234_5678 + turn
+    } else {
+        (k as u32 + turn) % 7 % 5
+    }
+}
+
+fn reads(picture: Picture, device: Device, bytes: &[u8]) -> u64 {
+    let mut digest = Digest::new();
+    for setting in numbers_to_ask(device) {
+        digest.take_in(read(picture, device, bytes, setting));
+    }
+    digest.value
+}
+
+fn sets(picture: Picture, device: Device, bytes: &mut [u8], turn: u32) -> u64 {
+    let mut digest = Digest::new();
+    for (k, setting) in numbers_to_ask(device).into_iter().enumerate() {
+        let pattern = pattern_to_put(k, turn);
+        digest.take_in(set(picture, device, bytes, setting, pattern));
+    }
+    digest.value
+}
+
+fn digest_of(bytes: &[u8]) -> u64 {
+    let mut digest = Digest::new();
+    for byte in bytes {
+        digest.take_in(u64::from(*byte));
+    }
+    digest.value
+}
+
+/// What is read, what setting answers, what is read then, and the bytes.
+fn edits(picture: Picture, device: Device, bytes: &mut [u8], turn: u32) -> String {
+    let read = reads(picture, device, bytes);
+    let set = sets(picture, device, bytes, turn);
+    let then = reads(picture, device, bytes);
+    let bytes = digest_of(bytes);
+    format!("read {read} set {set} then {then} bytes {bytes}")
+}
+
+/// Edits of an image, of any bytes as a readout, and of the image's readout.
+fn answers(device: Device, image_length: usize, readout_length: usize) -> String {
+    let mut image = vec![0; image_length];
+    let mut readout = vec![0; readout_length];
+    fill(&mut image, 1);
+    fill(&mut readout, 2);
+    let in_image = edits(Picture::Image, device, &mut image, 0);
+    let in_any = edits(Picture::Readout, device, &mut readout, 1);
+    let passage = halves(word(
+        image_to_readout(device, &image, &mut readout).map(|()| 0),
+    ));
+    let in_its_readout = edits(Picture::Readout, device, &mut readout, 2);
+    format!(
+        "image {image_length} {in_image} readout {readout_length} {in_any} \
+         {passage} {in_its_readout}"
+    )
+}
+
+/// OE_MUX as it is read, then set to FOE2 and read again.
+fn set_to_foe2(picture: Picture, device: Device, bytes: &mut [u8], oe_mux: u32) -> Answer<String> {
+    let before = read(picture, device, bytes, oe_mux);
+    let foe2 = pattern_of_value(device, oe_mux, Value::Named(ValueName::Foe2))?;
+    let set = set(picture, device, bytes, oe_mux, foe2);
+    let then = read(picture, device, bytes, oe_mux);
+    let bytes = digest_of(bytes);
+    Ok(format!("{before} set {set} then {then} bytes {bytes}"))
+}
+
+/// Document 01's case: an image of ones, in which two fuses are cleared and one is kept.
+fn document_case(smallest: Device) -> Answer<Vec<String>> {
+    let setting = Setting::Macrocell {
+        block: 0,
+        macrocell: 0,
+        field: MacrocellField::OeMux,
+    };
+    let oe_mux = number_of_setting(smallest, setting)?;
+    let mut image = vec![255; image_bytes(smallest)?];
+    let mut readout = vec![0; readout_bytes(smallest)?];
+    let passage = image_to_readout(smallest, &image, &mut readout);
+    // The program prints this answer alone, with the space that parts it from what it follows.
+    let mut lines = vec![format!(" {}", halves(word(passage.map(|()| 0))))];
+    let in_image = set_to_foe2(Picture::Image, smallest, &mut image, oe_mux)?;
+    lines.push(format!("OE_MUX in the image {in_image}"));
+    for fuse in [3138, 3246, 3354] {
+        lines.push(format!("byte of fuse {fuse} {}", image[fuse / 8]));
+    }
+    let in_readout = set_to_foe2(Picture::Readout, smallest, &mut readout, oe_mux)?;
+    lines.push(format!("OE_MUX in the readout {in_readout}"));
+    Ok(lines)
+}
+
+/// Document 01's case; then each device, with the lengths one off, right, and one off the other way.
+pub(crate) fn edit_vectors() -> String {
+    let smallest = Device {
+        blocks: 2,
+        class: SMALL,
+    };
+    let mut lines = String::new();
+    for line in document_case(smallest).expect("the smallest part has the setting") {
+        writeln!(lines, "{line}").unwrap();
+    }
+    for device in devices_and_others() {
+        let Device { blocks, class } = device;
+        let sized = if device.is_known() { device } else { smallest };
+        let image = image_bytes(sized).unwrap();
+        let readout = readout_bytes(sized).unwrap();
+        for (image, readout) in [
+            (image - 1, readout + 1),
+            (image, readout),
+            (image + 1, readout - 1),
+        ] {
+            let answers = answers(device, image, readout);
+            writeln!(lines, "blocks {blocks} class {class} {answers}").unwrap();
+        }
+    }
+    lines
+}
