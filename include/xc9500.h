@@ -56,6 +56,21 @@ uint64_t xc9500_setting_fuse(uint32_t blocks, uint32_t class_, uint32_t setting,
    such fuse. */
 uint64_t xc9500_setting_at_fuse(uint32_t blocks, uint32_t class_, uint32_t fuse);
 
+/* A pattern is the states of a setting's fuses, its bit 0 the state of the fuse of bit 0. Refused by the functions below: 1; 2 an image or
+   a readout that has not the exact length; 4 no such setting; 5 a pattern that does not fit (set only); and in a readout 6, a byte
+   that holds the setting has a bit above its width, with the lowest index of such a byte. A refusal changes no byte. */
+
+/* The pattern of a setting in an image, and in a readout. */
+uint64_t xc9500_read_in_image(uint32_t blocks, uint32_t class_, const uint8_t *image, size_t image_len, uint32_t setting);
+uint64_t xc9500_read_in_readout(uint32_t blocks, uint32_t class_, const uint8_t *readout, size_t readout_len,
+                                uint32_t setting);
+
+/* A setting set to a pattern in an image, and in a readout: 0. */
+uint64_t xc9500_set_in_image(uint32_t blocks, uint32_t class_, uint8_t *image, size_t image_len, uint32_t setting,
+                             uint32_t pattern);
+uint64_t xc9500_set_in_readout(uint32_t blocks, uint32_t class_, uint8_t *readout, size_t readout_len, uint32_t setting,
+                               uint32_t pattern);
+
 #ifdef __cplusplus
 }
 #endif

@@ -36,14 +36,14 @@ fn set(picture: Picture, device: Device, bytes: &mut [u8], setting: u32, pattern
 const FROM_THE_END: usize = 400;
 const ASKED: usize = 4900;
 
-/// The numbers to ask for: from a few past the last down through some hundreds, then in steps of 61
-/// through all. Where there is no setting, the few past the last are all.
+/// The numbers to ask for: from a few past the last down through some hundreds, then in steps
+/// through all.
 fn numbers_to_ask(device: Device) -> Vec<u32> {
     let past = setting_count(device).unwrap_or(0) + 8;
-    let mut numbers: Vec<u32> = (0..past).rev().take(FROM_THE_END + 1).collect();
+    let mut numbers = vec![past - 1];
     while numbers.len() < ASKED {
         let last = numbers[numbers.len() - 1];
-        // A row that has come down to 0 stays in the steps' row, but for single ones down again.
+        // A device that is unknown has no more than those few, and they end at 0 again and again.
         let falls = numbers.len() <= FROM_THE_END && last > 0;
         numbers.push(if falls { last - 1 } else { (last + 61) % past });
     }
@@ -132,8 +132,7 @@ fn document_case(smallest: Device) -> Answer<Vec<String>> {
     let mut image = vec![255; image_bytes(smallest)?];
     let mut readout = vec![0; readout_bytes(smallest)?];
     let passage = image_to_readout(smallest, &image, &mut readout);
-    // The program prints this answer alone, with the space that parts it from what it follows.
-    let mut lines = vec![format!(" {}", halves(word(passage.map(|()| 0))))];
+    let mut lines = vec![format!("readout of ones {}", word(passage.map(|()| 0)))];
     let in_image = set_to_foe2(Picture::Image, smallest, &mut image, oe_mux)?;
     lines.push(format!("OE_MUX in the image {in_image}"));
     for fuse in [3138, 3246, 3354] {

@@ -8,6 +8,7 @@ mod bench;
 mod catalogue;
 mod conversion;
 mod device;
+mod edit_vectors;
 mod image;
 mod jedec_reader;
 mod jedec_writer;

@@ -3,6 +3,7 @@
 
 use crate::conversion::{address_of_fuse, fuse_of_address};
 use crate::device::{Answer, Device, Refusal, SMALL};
+use crate::edit_vectors::edit_vectors;
 use crate::image::{
     fuse_count, fuse_sum, image_bytes, image_to_readout, readout_bytes, readout_to_image,
     zero_count,
@@ -19,6 +20,7 @@ pub const PROGRAMS: &[Program] = &[
     ("part_vectors", part_vectors),
     ("readout_vectors", readout_vectors),
     ("settings_vectors", settings_vectors),
+    ("edit_vectors", edit_vectors),
 ];
 
 /// A digest of many words: for each, 1000003 times the digest plus the word, modulo a prime.
@@ -134,7 +136,7 @@ fn part_vectors() -> String {
 }
 
 /// Bytes that look random: bits 16 to 23 of the words after the seed.
-fn fill(bytes: &mut [u8], seed: u64) {
+pub(crate) fn fill(bytes: &mut [u8], seed: u64) {
     let mut word = seed;
     for byte in bytes {
         word = (word * 1_103_515_245 + 12_345) % (1 << 31);

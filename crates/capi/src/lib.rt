@@ -7,6 +7,7 @@ ghost use Rattle.image.specs.Image.{fuseSum, zeroCount};
 ghost use Rattle.readout.specs.Readout.{doneOutcome, written, toReadout, readoutOf, toImage, imageOf};
 ghost use Rattle.settings.specs.Answer.{bitOutcome};
 ghost use Rattle.settings.specs.Operations.{countOfSettings, settingOfNumber, fuseOfBit, settingAtFuse};
+ghost use Rattle.edit.specs.Edit.{inImage, inReadout, readPattern, setPattern, withNumbered};
 ghost use Rattle.capi.specs.Packed.{packed, refusalWord, device, addressAndBit, itself, nothing, orNone, settingAndBit, through};
 use part::AddressAnswer;
 use part::Device;
@@ -175,4 +176,65 @@ pub extern "C" fn xc9500_setting_at_fuse(blocks: u32, class: u32, fuse: u32) -> 
         NamedAnswer::Unnamed => NO_RESULT,
         NamedAnswer::Refused(r) => refusal_word(r),
     }
+}
+
+// The pattern of a setting in an image, by setting number.
+#[no_mangle]
+pub extern "C" fn xc9500_read_in_image(blocks: u32, class: u32, image: &[u8], setting: u32) -> u64
+    ensures { λ w. ⌜ w ≡ packed itself (readPattern (device blocks class) inImage (now (image .entry)) setting) ⌝ }
+{
+    number_word(edit::read_pattern_in_image(
+        Device { blocks, class },
+        image,
+        SettingNumber(setting),
+    ))
+}
+
+// A setting set to a pattern in an image, by setting number.
+#[no_mangle]
+pub extern "C" fn xc9500_set_in_image(
+    blocks: u32,
+    class: u32,
+    image: &mut [u8],
+    setting: u32,
+    pattern: u32,
+) -> u64
+    ensures { λ w. ⌜ w ≡ packed nothing (setPattern (device blocks class) inImage (now (image .entry)) setting pattern) ⌝ }
+    ensures { λ _. ⌜ now (image .exit) ≡ written (setPattern (device blocks class) inImage (now (image .entry)) setting pattern) (withNumbered (device blocks class) inImage (now (image .entry)) setting pattern) (now (image .entry)) ⌝ }
+{
+    let d = Device { blocks, class };
+    done_word(edit::set_pattern_in_image(d, image, SettingNumber(setting), pattern))
+}
+
+// The pattern of a setting in a readout, by setting number.
+#[no_mangle]
+pub extern "C" fn xc9500_read_in_readout(
+    blocks: u32,
+    class: u32,
+    readout: &[u8],
+    setting: u32,
+) -> u64
+    ensures { λ w. ⌜ w ≡ packed itself (readPattern (device blocks class) inReadout (now (readout .entry)) setting) ⌝ }
+{
+    number_word(edit::read_pattern_in_readout(
+        Device { blocks, class },
+        readout,
+        SettingNumber(setting),
+    ))
+}
+
+// A setting set to a pattern in a readout, by setting number.
+#[no_mangle]
+pub extern "C" fn xc9500_set_in_readout(
+    blocks: u32,
+    class: u32,
+    readout: &mut [u8],
+    setting: u32,
+    pattern: u32,
+) -> u64
+    ensures { λ w. ⌜ w ≡ packed nothing (setPattern (device blocks class) inReadout (now (readout .entry)) setting pattern) ⌝ }
+    ensures { λ _. ⌜ now (readout .exit) ≡ written (setPattern (device blocks class) inReadout (now (readout .entry)) setting pattern) (withNumbered (device blocks class) inReadout (now (readout .entry)) setting pattern) (now (readout .entry)) ⌝ }
+{
+    let d = Device { blocks, class };
+    done_word(edit::set_pattern_in_readout(d, readout, SettingNumber(setting), pattern))
 }

@@ -36,11 +36,11 @@ use Rattle.edit.proofs.Edits.{inside, fuse-below, set-length, set-fuses
 abbrev pub Clean : Device → Bool → List ℕ → Setting → Type 0
 Clean d form bytes t = strayIn d form bytes t ≡ bytesOf d form
 
-image-clean : (d : Device) (bytes : List ℕ) (t : Setting) → Clean d inImage bytes t
+pub image-clean : (d : Device) (bytes : List ℕ) (t : Setting) → Clean d inImage bytes t
 unfolding strayIn
 image-clean d bytes t = refl
 
-readout-clean : (d : Device) (bytes : List ℕ) (t : Setting) → strayAmong d bytes t (bitsOf t) ≡ readoutBytes d → Clean d inReadout bytes t
+pub readout-clean : (d : Device) (bytes : List ℕ) (t : Setting) → strayAmong d bytes t (bitsOf t) ≡ readoutBytes d → Clean d inReadout bytes t
 unfolding strayIn
 readout-clean d bytes t e = e
 
@@ -157,48 +157,15 @@ pub of-calls : (d : Device) (image : List ℕ) (s : Setting) (v : Value) (patter
     → readout ≡ withValue d inReadout (readoutOf d image) s v → its-readout ≡ readoutOf d changed → its-image ≡ imageOf d readout
     → x ≡ readIn d inImage changed s → y ≡ readIn d inReadout readout s
     → Demand3 d image s v pattern
-        (record {
-          set-image = a;
-          set-readout = b;
-          image = changed;
-          readout = readout;
-          its-readout = its-readout;
-          its-image = its-image;
-          read-image = x;
-          read-readout = y;
-        })
+    (record {
+      set-image = a;
+      set-readout = b;
+      image = changed;
+      readout = readout;
+      its-readout = its-readout;
+      its-image = its-image;
+      read-image = x;
+      read-readout = y;
+    })
 of-calls d image s v pattern taken a b changed readout its-readout its-image x y ea eb ec er ei em ex ey =
     rw (ea, eb, ex, ey, ei, em, ec, er) (holds d image s v pattern taken)
-
--- an outcome with its result turned into another
-abbrev pub mapped : {A B : Type 0} → (A → B) → Outcome A → Outcome B
-mapped f (accepted x) = accepted (f x)
-mapped f (refused number value) = refused number value
-
-mapped-cond : {A B : Type 0} (f : A → B) (t : Bool) (x y : Outcome A) → mapped f (cond t x y) ≡ cond t (mapped f x) (mapped f y)
-mapped-cond f true x y = refl
-mapped-cond f false x y = refl
-
--- The edit by number and pattern is the edit by the setting and the value that they stand for, refusals included
-module _ (d : Device) (k : known d ≡ true) (form : Bool) (bytes : List ℕ) (number : ℕ) (below : number < countOf d) where
-  s : Setting
-  s = settingOf d number
-
-  there : hasSetting d s ≡ true
-  unfolding s
-  there = number-again d number below .0
-
-  pub reads-numbered : readIn d form bytes (settingOf d number) ≡ mapped (valueOf d (settingOf d number)) (readPattern d form bytes number)
-  unfolding readPattern readIn s
-  reads-numbered =
-      let value = valueOf d (settingOf d number) in
-      rw (lt-ltb number (countOf d) below, there, mapped-cond value (known d) _ _, mapped-cond value (eqb (length bytes) (bytesOf d form)) _ _, mapped-cond value (ltb (strayIn d form bytes (settingOf d number)) (bytesOf d form)) _ _)
-
-  pub sets-numbered : (pattern : ℕ) → pattern < 2 ^ bitsOf (settingOf d number)
-      → (setPattern d form bytes number pattern ≡ setIn d form bytes (settingOf d number) (valueOf d (settingOf d number) pattern))
-      × (withNumbered d form bytes number pattern ≡ withValue d form bytes (settingOf d number) (valueOf d (settingOf d number) pattern))
-  unfolding setPattern setIn withNumbered withValue s
-  sets-numbered pattern fits =
-      let value : patternIn (kindOf d (settingOf d number)) (valueOf d (settingOf d number) pattern) ≡ some pattern =
-          values.pattern-iff (kindOf d (settingOf d number)) _ pattern .1 (rw (kind-bits d (settingOf d number) there) fits, refl) in
-      (rw (lt-ltb number (countOf d) below, there, lt-ltb pattern (2 ^ bitsOf (settingOf d number)) fits, value), rw value)

@@ -156,7 +156,7 @@ module _ (d : Device) (k : known d ≡ true) (image : List ℕ) (e : length imag
       let f = fuseOf d s w in
       let before = withBits d inImage image s pattern w in
       let there : f / 8 < length before =
-          rw (bits-length d k image e s h pattern w (omega arith)) (inside d inImage f k (fuse-below d k s h w l)) in
+      rw (bits-length d k image e s h pattern w (omega arith)) (inside d inImage f k (fuse-below d k s h w l)) in
       here (ℕ-discrete i (f / 8)) there (bits-small w (omega arith) i) (bits-small w (omega arith) (f / 8))
     where
       here : Dec (i ≡ fuseOf d s w / 8) → fuseOf d s w / 8 < length (withBits d inImage image s pattern w)

@@ -4,3 +4,5 @@ pub mod Spots
 pub mod Edits
 pub mod Steps
 pub mod Demand
+pub mod Numbered
+pub mod Laws

@@ -66,7 +66,7 @@ module _ (d : Device) (k : known d ≡ true) (s : Setting) (h : hasSetting d s �
 abbrev pub bitsRead : Device → Bool → List ℕ → Setting → ℕ → ℕ
 bitsRead d form bytes s w = gathered (λ b. stateOf d form bytes (fuseOf d s b)) w
 
-state-small : (d : Device) (form : Bool) (bytes : List ℕ) (f : ℕ) → stateOf d form bytes f < 2
+pub state-small : (d : Device) (form : Bool) (bytes : List ℕ) (f : ℕ) → stateOf d form bytes f < 2
 unfolding bitAt
 state-small d form bytes f = omega arith
 

@@ -192,7 +192,7 @@ pub fn set(d: Device, readout: bool, bytes: &mut [u8], s: Setting, v: Value) -> 
     }
 }
 
-// The pattern of a setting, by its number. Refused: 1, 2, 4, 6.
+// The pattern of a setting, by its number: through the setting and its value. Refused: 1, 2, 4, 6.
 pub fn read_numbered(d: Device, readout: bool, bytes: &[u8], number: SettingNumber) -> NumberAnswer
     ensures { λ r. ⌜ numberOutcome r ≡ readPattern d readout (now (bytes .entry)) (number .0) ⌝ }
 {
@@ -206,15 +206,21 @@ pub fn read_numbered(d: Device, readout: bool, bytes: &[u8], number: SettingNumb
         return NumberAnswer::Refused(Refusal::NoSuchSetting);
     }
     let s = settings::internal::setting_of(d, number);
-    let stray = stray_in(d, readout, bytes, s);
-    if stray < bytes.len() {
-        let index = stray as u32;
-        return NumberAnswer::Refused(Refusal::StrayBit(index));
+    let answer = read(d, readout, bytes, s);
+    match answer {
+        ValueAnswer::Value(v) => {
+            let kind = setting_values::internal::kind_of(d, s);
+            let found = values::internal::pattern_in(kind, v);
+            match found {
+                Found::Pattern(pattern) => NumberAnswer::Number(pattern),
+                Found::NoSuchValue => NumberAnswer::Refused(Refusal::NoSuchValue),
+            }
+        }
+        ValueAnswer::Refused(r) => NumberAnswer::Refused(r),
     }
-    NumberAnswer::Number(pattern_at(d, readout, bytes, s))
 }
 
-// A setting set to a pattern, by its number. Refused: 1, 2, 4, 5, 6.
+// A setting set to a pattern, by its number: through the setting and the value. Refused: 1, 2, 4, 5, 6.
 pub fn set_numbered(
     d: Device,
     readout: bool,
@@ -238,11 +244,6 @@ pub fn set_numbered(
     if !values::internal::fits(kind, pattern) {
         return DoneAnswer::Refused(Refusal::NoSuchValue);
     }
-    let stray = stray_in(d, readout, bytes, s);
-    if stray < bytes.len() {
-        let index = stray as u32;
-        return DoneAnswer::Refused(Refusal::StrayBit(index));
-    }
-    put_pattern(d, readout, bytes, s, pattern);
-    DoneAnswer::Done
+    let v = values::internal::value_in(kind, pattern);
+    set(d, readout, bytes, s, v)
 }

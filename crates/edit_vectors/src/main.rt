@@ -39,8 +39,10 @@ fn first_asked(count: u32) -> u32 {
 }
 
 fn next_asked(count: u32, k: u32, setting: u32) -> u32 {
-    if (k < 400) & (0 < setting) {
-        return setting - 1;
+    if k < 400 {
+        if 0 < setting {
+            return setting - 1;
+        }
     }
     (setting % 1048576 + 61) % (count % 1048576 + 8)
 }
@@ -67,14 +69,7 @@ fn reads(in_readout: bool, blocks: u32, class: u32, bytes: &[u8], count: u32) ->
 }
 
 // One after the other on the same bytes.
-fn sets(
-    in_readout: bool,
-    blocks: u32,
-    class: u32,
-    bytes: &mut [u8],
-    count: u32,
-    turn: u32,
-) -> u64 {
+fn sets(in_readout: bool, blocks: u32, class: u32, bytes: &mut [u8], count: u32, turn: u32) -> u64 {
     let mut digest: u64 = 0;
     let mut setting = first_asked(count);
     let mut k: u32 = 0;
@@ -94,10 +89,7 @@ fn edits(in_readout: bool, blocks: u32, class: u32, bytes: &mut [u8], turn: u32)
         b" read",
         reads(in_readout, blocks, class, &bytes[..], count),
     );
-    vectors::put(
-        b" set",
-        sets(in_readout, blocks, class, bytes, count, turn),
-    );
+    vectors::put(b" set", sets(in_readout, blocks, class, bytes, count, turn));
     vectors::put(
         b" then",
         reads(in_readout, blocks, class, &bytes[..], count),
@@ -221,7 +213,8 @@ fn put_byte(name: &[u8], bytes: &[u8], i: usize) {
 // Document 01's case: an image of ones, in which two fuses are cleared and one is kept; the same in its readout.
 fn document_case(image: &mut [u8], readout: &mut [u8]) {
     fill_with_ones(image);
-    vectors::put_answer(capi::xc9500_image_to_readout(2, 0, &image[..], readout));
+    let answer = capi::xc9500_image_to_readout(2, 0, &image[..], readout);
+    vectors::put(b"readout of ones", answer);
     vectors::end_line();
     set_to_foe2(b"OE_MUX in the image", false, image);
     put_byte(b"byte of fuse 3138", &image[..], 392);

@@ -51,30 +51,30 @@ ran : (d : Device) (image readout its-readout its-image : List ℕ) (s : Setting
     → Written (toImage d readout2 its-image) o5 (imageOf d readout2) its-image its-image1
     → x ≡ readIn d inImage image2 s → y ≡ readIn d inReadout readout2 s
     → BothWays d image readout its-readout its-image s v
-        (record {
-          set-image = a;
-          set-readout = b;
-          image = image2;
-          readout = readout2;
-          its-readout = its-readout1;
-          its-image = its-image1;
-          read-image = x;
-          read-readout = y;
-        })
+    (record {
+      set-image = a;
+      set-readout = b;
+      image = image2;
+      readout = readout2;
+      its-readout = its-readout1;
+      its-image = its-image1;
+      read-image = x;
+      read-readout = y;
+    })
 ran d image readout its-readout its-image s v o1 a b o4 o5 x y readout1 image2 readout2 its-readout1 its-image1 w1 w2 w3 w4 w5 ex ey pattern t room =
     let k = t .device in
     let whole = holds d image s v pattern t in
     let first : readout1 ≡ readoutOf d image = left w1 (passes d image readout k (t .size) (room .readout-size)) in
     let changed : image2 ≡ withValue d inImage image s v = left w2 (whole .not-refused .0) in
     let set3 : Written (setIn d inReadout (readoutOf d image) s v) b (withValue d inReadout (readoutOf d image) s v) (readoutOf d image) readout2 =
-        subst (λ (r : List ℕ). Written (setIn d inReadout r s v) b (withValue d inReadout r s v) r readout2) first w3 in
+    subst (λ (r : List ℕ). Written (setIn d inReadout r s v) b (withValue d inReadout r s v) r readout2) first w3 in
     let changed3 : readout2 ≡ withValue d inReadout (readoutOf d image) s v = left set3 (whole .not-refused .1) in
     let size2 : length image2 ≡ imageBytes d = ap length changed ∙ image-size d image s v pattern t in
     let its : its-readout1 ≡ readoutOf d image2 = left w4 (passes d image2 its-readout k size2 (room .its-readout-size)) in
     let same : readout2 ≡ readoutOf d image2 = changed3 ∙ whole .same-readout ∙ ap (readoutOf d) (sym changed) in
     let clean : Within d readout2 = subst (Within d) (sym same) (readout-accepted d image2) in
     let taken-in : toImage d readout2 its-image ≡ accepted tt =
-        accepted-iff d readout2 its-image .1 (k, ap length same ∙ readout-size d image2, room .its-image-size, clean) in
+    accepted-iff d readout2 its-image .1 (k, ap length same ∙ readout-size d image2, room .its-image-size, clean) in
     of-calls d image s v pattern t a b image2 readout2 its-readout1 its-image1 x y (w2 .answers) (set3 .answers) changed changed3 its (left w5 taken-in) ex ey
 
 image-to-readout-requires : tie.Need-image-to-readout-requires

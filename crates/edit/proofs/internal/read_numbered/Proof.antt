@@ -1,24 +1,33 @@
--- `read_numbered` meets its contract: the tests are the definition's.
+-- `read_numbered` meets its contract: the tests are the definition's, and the value read stands for the pattern.
 -- Assumes nothing.
 use mathlib.Core.Path.{_≡_, sym, _∙_, ap}
 use mathlib.Core.Bool.{Bool, true, false}
 use mathlib.Core.List.{List}
 use Prim.Native.Nat.{ℕ, _<_, _≤_}
 use native.Mathlib.Omega.{arith}
-use mir.Syntax.{w32}
-use mir.Val.{Fits}
 use lib.ListN.{length}
-use borrow.Author.Tests.{eq-eqb, ne-eqb, lt-ltb, le-ltb}
+use borrow.Author.Tests.{eq-eqb, ne-eqb, le-ltb}
 use Rattle.part.specs.Outcome.Outcome.{accepted, refused}
 use Rattle.part.specs.Device.{known}
 use Rattle.part.specs.declared.Device.{Device}
 use Rattle.part.proofs.Devices.{is-known, is-unknown}
-use Rattle.settings.specs.Settings.{hasSetting}
 use Rattle.settings.specs.Order.{countOf, settingOf}
 use Rattle.settings.specs.declared.Setting.{Setting}
-use Rattle.settings.proofs.Numbers.{number-again}
-use Rattle.edit.specs.Edit.{bytesOf, patternAt, strayIn, readPattern}
-use Rattle.edit.proofs.Steps.{bytes-few}
+use mathlib.Core.Option.{Option}
+use mathlib.Core.Option.Option.{none, some}
+use Rattle.part.specs.Answer.{number, value}
+use Rattle.part.specs.declared.Refusal.{Refusal}
+use Rattle.setting_values.specs.Kinds.{kindOf}
+use Rattle.setting_values.specs.Operations.{valueOutcome}
+use Rattle.setting_values.specs.declared.ValueAnswer.{ValueAnswer}
+use Rattle.setting_values.specs.declared.ValueAnswer.the-variants as read
+use Rattle.values.specs.Patterns.{patternIn, foundPattern}
+use Rattle.values.specs.declared.Value.{Value}
+use Rattle.values.specs.declared.Kind.{Kind}
+use Rattle.values.specs.declared.internal.Found.{Found}
+use Rattle.values.specs.declared.internal.Found.the-variants.{Pattern, NoSuchValue}
+use Rattle.edit.specs.Edit.{bytesOf, readIn, readPattern}
+use Rattle.edit.proofs.Numbered.{read-value, read-refused}
 use borrow.Author.Needs.{needs}
 use Rattle.edit.proofs.internal.read_numbered.Statement.{statement}
 use Rattle.edit.proofs.internal.read_numbered.Tie as tie
@@ -31,36 +40,34 @@ no-device d form bytes x k = rw k
 below : (d : Device) (x count : ℕ) → count ≡ countOf d → x < count → x < countOf d
 below d x count e l = omega arith
 
-there : (d : Device) (x count : ℕ) (s : Setting) → count ≡ countOf d → x < count → s ≡ settingOf d x → hasSetting d s ≡ true
-there d x count s e l f = rw f (number-again d x (below d x count e l) .0)
-
-its-size : (d : Device) (form : Bool) (n size : ℕ) → size ≡ bytesOf d form → n ≡ size → n ≡ bytesOf d form
-its-size d form n size e f = f ∙ e
-
 module _ (d : Device) (form : Bool) (bytes : List ℕ) (x size : ℕ) (k : known d ≡ true) (e : size ≡ bytesOf d form) where
   wrong-length : (length bytes ≡ size → ⊥) → refused 2 0 ≡ readPattern d form bytes x
   unfolding readPattern
   wrong-length ne = rw (k, ne-eqb (length bytes) (bytesOf d form) (λ f. ne (f ∙ sym e)))
 
-  module _ (n : length bytes ≡ size) where
-    small : (stray : ℕ) → stray < length bytes → Fits w32 stray
-    small stray l = record { fits = omega (arith, n, e, bytes-few d form k) }
+  no-number : (count : ℕ) → length bytes ≡ size → count ≡ countOf d → count ≤ x → refused 4 0 ≡ readPattern d form bytes x
+  unfolding readPattern
+  no-number count n f l = rw (k, eq-eqb (length bytes) (bytesOf d form) (n ∙ e), le-ltb x (countOf d) (omega arith))
 
-    module _ (count : ℕ) (f : count ≡ countOf d) where
-      no-number : count ≤ x → refused 4 0 ≡ readPattern d form bytes x
-      unfolding readPattern
-      no-number l = rw (k, eq-eqb (length bytes) (bytesOf d form) (n ∙ e), le-ltb x (countOf d) (omega arith))
+module _ (d : Device) (form : Bool) (bytes : List ℕ) (x count : ℕ) (s : Setting) (a : ValueAnswer) (k : known d ≡ true) (f : count ≡ countOf d) (l : x < count)
+    (g : s ≡ settingOf d x) (h : valueOutcome a ≡ readIn d form bytes s) where
+  its : valueOutcome a ≡ readIn d form bytes (settingOf d x)
+  its = h ∙ ap (readIn d form bytes) g
 
-      module _ (l : x < count) (s : Setting) (g : s ≡ settingOf d x) (stray : ℕ) (q : stray ≡ strayIn d form bytes s) where
-        a-stray : stray < length bytes → refused 6 stray ≡ readPattern d form bytes x
-        unfolding readPattern
-        a-stray m =
-            rw (k, eq-eqb (length bytes) (bytesOf d form) (n ∙ e), lt-ltb x (countOf d) (omega arith), ← g, ← q, lt-ltb stray (bytesOf d form) (omega arith))
+  the-refusal : (r : Refusal) → a ≡ read.Refused r → refused (number r) (value r) ≡ readPattern d form bytes x
+  the-refusal r w = read-refused d k form bytes x (below d x count f l) (number r) (value r) (sym (ap valueOutcome w) ∙ its)
 
-        the-pattern : (pattern : ℕ) → length bytes ≤ stray → pattern ≡ patternAt d form bytes s → accepted pattern ≡ readPattern d form bytes x
-        unfolding readPattern
-        the-pattern pattern m p =
-            rw (k, eq-eqb (length bytes) (bytesOf d form) (n ∙ e), lt-ltb x (countOf d) (omega arith), ← g, ← q, le-ltb stray (bytesOf d form) (omega arith), p)
+  module _ (v : Value) (kd : Kind) (o : Found) (w : a ≡ read.Value v) (u : kd ≡ kindOf d s) (z : foundPattern o ≡ patternIn kd v) where
+    found : (p : ℕ) × (readPattern d form bytes x ≡ accepted p) × (foundPattern o ≡ some p)
+    found =
+        let read = read-value d k form bytes x (below d x count f l) v (sym (ap valueOutcome w) ∙ its) in
+        (read .0, read .1, z ∙ ap (λ (y : Kind). patternIn y v) (u ∙ ap (kindOf d) g) ∙ read .2)
+
+    the-pattern : (p : ℕ) → o ≡ Pattern p → accepted p ≡ readPattern d form bytes x
+    the-pattern p y = let same : p ≡ found .0 = cc (found .2) in ap accepted same ∙ sym (found .1)
+
+    never : o ≡ NoSuchValue → refused 5 0 ≡ readPattern d form bytes x
+    never y = let clash : _≡_ {A = ℕ} 0 1 = cc (found .2) in absurd (omega arith)
 
 is-known-requires : tie.Need-is-known-requires
 is-known-requires c κs = search needs
@@ -83,20 +90,35 @@ returns-3 c = search (needs, is-known, no-number)
 setting-of-requires : tie.Need-setting-of-requires
 setting-of-requires c κs = (search (needs, is-known), search (needs, below))
 
-stray-in-requires : tie.Need-stray-in-requires
-stray-in-requires c κs = (search (needs, is-known), search (needs, there), search (needs, its-size))
+read-requires : tie.Need-read-requires
+read-requires c κs = search needs
 
-cast-index : tie.Need-cast-index
-cast-index c = search (needs, is-known, small)
+enum-known-answer : tie.Need-enum-known-answer
+enum-known-answer c = search needs
+
+kind-of-requires : tie.Need-kind-of-requires
+kind-of-requires c κs = search needs
+
+pattern-in-requires : tie.Need-pattern-in-requires
+pattern-in-requires c κs = search needs
+
+enum-known-found : tie.Need-enum-known-found
+enum-known-found c = search needs
+
+enum-told : tie.Need-enum-told
+enum-told c = search needs
+
+enum-known-answer-2 : tie.Need-enum-known-answer-2
+enum-known-answer-2 c = search needs
 
 returns-4 : tie.Need-returns-4
-returns-4 c = search (needs, is-known, a-stray)
-
-pattern-at-requires : tie.Need-pattern-at-requires
-pattern-at-requires c κs = (search (needs, is-known), search (needs, there), search (needs, its-size))
+returns-4 c = search (needs, is-known, the-pattern)
 
 returns-5 : tie.Need-returns-5
-returns-5 c = search (needs, is-known, the-pattern)
+returns-5 c = search (needs, is-known, never)
+
+returns-6 : tie.Need-returns-6
+returns-6 c = search (needs, is-known, the-refusal)
 
 pub read-numbered-spec : {M : Type 1} → statement M
 read-numbered-spec =
@@ -109,8 +131,13 @@ read-numbered-spec =
     count-of-requires
     returns-3
     setting-of-requires
-    stray-in-requires
-    cast-index
+    read-requires
+    enum-known-answer
+    kind-of-requires
+    pattern-in-requires
+    enum-known-found
+    enum-told
+    enum-known-answer-2
     returns-4
-    pattern-at-requires
-    returns-5)
+    returns-5
+    returns-6)

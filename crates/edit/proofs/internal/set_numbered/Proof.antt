@@ -1,15 +1,13 @@
--- `set_numbered` meets its contract: the tests are the definition's, and nothing is written before the last of them.
+-- `set_numbered` meets its contract: the tests are the definition's, and the value set stands for the pattern.
 -- Assumes nothing.
 use mathlib.Core.Path.{_≡_, sym, _∙_, ap}
 use mathlib.Core.Bool.{Bool, true, false, not}
 use mathlib.Core.List.{List}
 use Prim.Native.Nat.{ℕ, _^_, _<_, _≤_}
 use native.Mathlib.Omega.{arith}
-use mir.Syntax.{w32}
-use mir.Val.{Fits}
 use lib.Dec.{ltb}
 use lib.ListN.{length}
-use borrow.Author.Tests.{eq-eqb, ne-eqb, lt-ltb, le-ltb, not-true, not-false}
+use borrow.Author.Tests.{eq-eqb, ne-eqb, lt-ltb, le-ltb, not-true, not-false, ltb-true}
 use Rattle.part.specs.Outcome.{Outcome}
 use Rattle.part.specs.Outcome.Outcome.{accepted, refused}
 use Rattle.part.specs.Device.{known}
@@ -19,14 +17,16 @@ use Rattle.settings.specs.Settings.{hasSetting, bitsOf}
 use Rattle.settings.specs.Order.{countOf, settingOf}
 use Rattle.settings.specs.declared.Setting.{Setting}
 use Rattle.settings.proofs.Numbers.{number-again}
-use Rattle.readout.specs.Readout.{Written, written}
+use Rattle.readout.specs.Readout.{Written, written, doneOutcome}
+use Rattle.readout.specs.declared.DoneAnswer.{DoneAnswer}
 use Rattle.readout.proofs.Targets.{says}
-use Rattle.values.specs.Values.{bitsIn}
+use Rattle.values.specs.Values.{bitsIn, valueIn}
+use Rattle.values.specs.declared.Value.{Value}
 use Rattle.values.specs.declared.Kind.{Kind}
-use Rattle.setting_values.specs.Kinds.{kindOf}
+use Rattle.setting_values.specs.Kinds.{kindOf, valueOf}
 use Rattle.setting_values.proofs.Widths.{kind-bits}
-use Rattle.edit.specs.Edit.{bytesOf, strayIn, setPattern, withPattern, withNumbered}
-use Rattle.edit.proofs.Steps.{bytes-few}
+use Rattle.edit.specs.Edit.{bytesOf, setIn, withValue, setPattern, withNumbered}
+use Rattle.edit.proofs.Numbered.{sets-numbered}
 use borrow.Author.Needs.{needs}
 use Rattle.edit.proofs.internal.set_numbered.Statement.{statement}
 use Rattle.edit.proofs.internal.set_numbered.Tie as tie
@@ -50,18 +50,12 @@ below d x count e l = omega arith
 there : (d : Device) (x count : ℕ) (s : Setting) → count ≡ countOf d → x < count → s ≡ settingOf d x → hasSetting d s ≡ true
 there d x count s e l f = rw f (number-again d x (below d x count e l) .0)
 
-its-size : (d : Device) (form : Bool) (n size : ℕ) → size ≡ bytesOf d form → n ≡ size → n ≡ bytesOf d form
-its-size d form n size e f = f ∙ e
-
 module _ (d : Device) (form : Bool) (bytes : List ℕ) (x pattern size : ℕ) (k : known d ≡ true) (e : size ≡ bytesOf d form) where
   wrong-length : (length bytes ≡ size → ⊥) → Given d form bytes x pattern (refused 2 0) bytes
   unfolding setPattern
   wrong-length ne = refusal d form bytes x pattern 2 0 (rw (k, ne-eqb (length bytes) (bytesOf d form) (λ f. ne (f ∙ sym e))))
 
   module _ (n : length bytes ≡ size) where
-    small : (stray : ℕ) → stray < length bytes → Fits w32 stray
-    small stray l = record { fits = omega (arith, n, e, bytes-few d form k) }
-
     module _ (count : ℕ) (f : count ≡ countOf d) where
       no-number : count ≤ x → Given d form bytes x pattern (refused 4 0) bytes
       unfolding setPattern
@@ -77,21 +71,13 @@ module _ (d : Device) (form : Bool) (bytes : List ℕ) (x pattern size : ℕ) (k
             refusal d form bytes x pattern 5 0
             (rw (k, eq-eqb (length bytes) (bytesOf d form) (n ∙ e), lt-ltb x (countOf d) (omega arith), ← g, sym same-test ∙ not-true t y))
 
-        module _ (y : not t ≡ false) (stray : ℕ) (q : stray ≡ strayIn d form bytes s) where
-          a-stray : stray < length bytes → Given d form bytes x pattern (refused 6 stray) bytes
-          unfolding setPattern
-          a-stray m =
-              refusal d form bytes x pattern 6 stray
-              (rw (k, eq-eqb (length bytes) (bytesOf d form) (n ∙ e), lt-ltb x (countOf d) (omega arith), ← g, sym same-test ∙ not-false t y, ← q, lt-ltb stray (bytesOf d form) (omega arith)))
-
-          done : length bytes ≤ stray → accepted tt ≡ setPattern d form bytes x pattern
-          unfolding setPattern
-          done m =
-              rw (k, eq-eqb (length bytes) (bytesOf d form) (n ∙ e), lt-ltb x (countOf d) (omega arith), ← g, sym same-test ∙ not-false t y, ← q, le-ltb stray (bytesOf d form) (omega arith))
-
-          the-set : (after : List ℕ) → length bytes ≤ stray → after ≡ withPattern d form bytes s pattern → Given d form bytes x pattern (accepted tt) after
-          unfolding withNumbered
-          the-set after m z = let same = done m in record { answers = same; holds = rw (← same, ← g) z }
+        the-set : (v : Value) (answer : Outcome (Unit {0})) (after : List ℕ) → not t ≡ false → v ≡ valueIn kd pattern
+            → Written (setIn d form bytes s v) answer (withValue d form bytes s v) bytes after → Given d form bytes x pattern answer after
+        the-set v answer after y z m =
+            let fits : pattern < 2 ^ bitsOf (settingOf d x) = ltb-true _ _ (ap (λ (q : Setting). ltb pattern (2 ^ bitsOf q)) (sym g) ∙ sym same-test ∙ not-false t y) in
+            let law = sets-numbered d k form bytes x (below d x count f l) pattern fits in
+            let named : v ≡ valueOf d (settingOf d x) pattern = z ∙ ap (λ (q : Kind). valueIn q pattern) (w ∙ ap (kindOf d) g) in
+            rw (law .0, law .1, ← named, ← g) m
 
 is-known-requires : tie.Need-is-known-requires
 is-known-requires c κs = search needs
@@ -123,26 +109,17 @@ fits-requires c κs = search needs
 returns-4 : tie.Need-returns-4
 returns-4 c = search (needs, is-known, not-fitting)
 
-stray-in-requires : tie.Need-stray-in-requires
-stray-in-requires c κs = (search (needs, is-known), search (needs, there), search (needs, its-size))
+value-in-requires : tie.Need-value-in-requires
+value-in-requires c κs = search needs
 
-cast-index : tie.Need-cast-index
-cast-index c = search (needs, is-known, small)
+set-requires : tie.Need-set-requires
+set-requires c κs = search needs
 
 same-length : tie.Need-same-length
 same-length c = search needs
 
 returns-5 : tie.Need-returns-5
-returns-5 c = search (needs, is-known, a-stray)
-
-put-pattern-requires : tie.Need-put-pattern-requires
-put-pattern-requires c κs = (search (needs, is-known), search (needs, there), search (needs, its-size))
-
-same-length-2 : tie.Need-same-length-2
-same-length-2 c = search needs
-
-returns-6 : tie.Need-returns-6
-returns-6 c = search (needs, is-known, the-set)
+returns-5 c = search (needs, is-known, the-set)
 
 pub set-numbered-spec : {M : Type 1} → statement M
 set-numbered-spec =
@@ -158,10 +135,7 @@ set-numbered-spec =
     kind-of-requires
     fits-requires
     returns-4
-    stray-in-requires
-    cast-index
+    value-in-requires
+    set-requires
     same-length
-    returns-5
-    put-pattern-requires
-    same-length-2
-    returns-6)
+    returns-5)

@@ -1,0 +1,59 @@
+-- What holds of reading and setting, each law once, for every device, setting and value:
+--   holds            demand 3, whole (specs/Demand.antt), of the definitions of setting, reading and the passages
+--   of-calls         the same of any calls that gave what their definitions say; `both_ways` is such a run
+--   read-after-set   in any image or readout, whatever its other bytes hold: a setting that was set reads as set
+--   other-bits       .. and every bit of every byte that is none of the setting's stands as before
+--   reads-numbered, sets-numbered   the edit by number and pattern is the edit by the setting and the value that they stand for
+use mathlib.Core.Path.{_≡_, _∙_, ap}
+use mathlib.Core.Bool.{Bool, true, false}
+use mathlib.Core.List.{List}
+use mathlib.Core.Option.Option.{some}
+use Prim.Native.Nat.{ℕ, _^_, _<_}
+use lib.ListN.{length, getD}
+use Rattle.part.specs.Outcome.Outcome.{accepted}
+use Rattle.part.specs.Device.{known, imageBytes, readoutBytes}
+use Rattle.part.specs.declared.Device.{Device}
+use Rattle.image.specs.Bits.{bitAt}
+use Rattle.readout.specs.Readout.{widthAt}
+use Rattle.settings.specs.Settings.{hasSetting, bitsOf, fuseOf}
+use Rattle.settings.specs.declared.Setting.{Setting}
+use Rattle.values.specs.Patterns.{patternIn}
+use Rattle.values.specs.declared.Value.{Value}
+use Rattle.values.proofs.Laws as values
+use Rattle.setting_values.specs.Kinds.{kindOf, valueOf}
+use Rattle.setting_values.proofs.Widths.{kind-bits}
+use Rattle.edit.specs.Edit.{inImage, inReadout, bytesOf, byteOf, bitIn, patternAt, withPattern, withValue, strayAmong, readIn}
+use Rattle.edit.proofs.Edits.{set-length, set-others, set-reads, set-clean, clean-through}
+use Rattle.edit.proofs.Demand.{Clean, image-clean, readout-clean, reads}
+pub use Rattle.edit.proofs.Demand.{holds, of-calls}
+pub use Rattle.edit.proofs.Numbered.{reads-numbered, sets-numbered}
+
+module _ (d : Device) (k : known d ≡ true) (s : Setting) (h : hasSetting d s ≡ true) (v : Value) (pattern : ℕ) (p : patternIn (kindOf d s) v ≡ some pattern) where
+  fits : pattern < 2 ^ bitsOf s
+  fits = rw (← kind-bits d s h) (values.pattern-iff (kindOf d s) v pattern .0 p .0)
+
+  reads-set : (form : Bool) (bytes : List ℕ) → length bytes ≡ bytesOf d form → Clean d form (withPattern d form bytes s pattern) s
+      → readIn d form (withValue d form bytes s v) s ≡ accepted v
+  unfolding withValue
+  reads-set form bytes e clean =
+      rw p
+      (reads d form (withPattern d form bytes s pattern) s k (set-length d k form bytes e s h pattern ∙ e) h clean
+      ∙ ap (λ (x : ℕ). accepted (valueOf d s x)) (set-reads d k form bytes e s h pattern fits)
+      ∙ ap accepted (values.pattern-iff (kindOf d s) v pattern .0 p .1))
+
+  pub read-after-set-image : (image : List ℕ) → length image ≡ imageBytes d → readIn d inImage (withValue d inImage image s v) s ≡ accepted v
+  read-after-set-image image e = reads-set inImage image e (image-clean d _ _)
+
+  -- in a readout whose bytes that hold the setting have no bit above their width; its other bytes may hold anything
+  pub read-after-set : (readout : List ℕ) → length readout ≡ readoutBytes d
+      → ((b : ℕ) → b < bitsOf s → getD readout (byteOf d inReadout (fuseOf d s b)) 0 < 2 ^ widthAt d (byteOf d inReadout (fuseOf d s b)))
+      → readIn d inReadout (withValue d inReadout readout s v) s ≡ accepted v
+  read-after-set readout e clean =
+      reads-set inReadout readout e
+      (readout-clean d _ _ (clean-through d (withPattern d inReadout readout s pattern) s (bitsOf s) (λ b l. set-clean d k readout e s h pattern (byteOf d inReadout (fuseOf d s b)) (clean b l))))
+
+  pub other-bits : (form : Bool) (bytes : List ℕ) → length bytes ≡ bytesOf d form → (i j : ℕ)
+      → ((b : ℕ) → b < bitsOf s → (i ≡ byteOf d form (fuseOf d s b)) × (j ≡ bitIn d form (fuseOf d s b)) → ⊥)
+      → bitAt (withValue d form bytes s v) i j ≡ bitAt bytes i j
+  unfolding withValue
+  other-bits form bytes e i j apart = rw p (set-others d k form bytes e s h pattern i j apart)
