@@ -70,9 +70,9 @@ pub fn put_pattern(d: Device, readout: bool, bytes: &mut [u8], s: Setting, patte
     requires { ⌜ (known d ≡ true) × (hasSetting d s ≡ true) × (length (now bytes) ≡ bytesOf d readout) ⌝ }
     ensures { λ _. ⌜ now (bytes .exit) ≡ withPattern d readout (now (bytes .entry)) s pattern ⌝ }
 {
-    let width = settings::internal::bits_of(d, s);
+    let last = settings::internal::bits_of(d, s);
     let mut bit: u32 = 0;
-    while bit < width {
+    while bit < last {
         let spot = spot_of(d, readout, s, bit);
         let state = (pattern >> bit) % 2;
         image::internal::set_bit(bytes, spot.index, spot.bit, state);
@@ -180,9 +180,9 @@ pub fn set(d: Device, readout: bool, bytes: &mut [u8], s: Setting, v: Value) -> 
     let found = values::internal::pattern_in(kind, v);
     match found {
         Found::Pattern(pattern) => {
-            let stray = stray_in(d, readout, bytes, s);
-            if stray < bytes.len() {
-                let index = stray as u32;
+            let first_stray = stray_in(d, readout, bytes, s);
+            if first_stray < bytes.len() {
+                let index = first_stray as u32;
                 return DoneAnswer::Refused(Refusal::StrayBit(index));
             }
             put_pattern(d, readout, bytes, s, pattern);

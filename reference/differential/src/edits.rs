@@ -309,42 +309,40 @@ impl EditComparison {
             let can_have_stray = |edited: &Edited| widths[edited.bytes[0]] != 0xFF;
             let mut settings = settings_to_edit(device, random);
             settings.retain(can_have_stray);
-            for faults in 0..32 {
+            for mixture in 0..32 {
+                let numbers = [1, 2, 4, 5, 6];
+                let mixed = |i: &usize| mixture >> i & 1 == 1;
+                let faults: Vec<u32> = (0..5).filter(mixed).map(|i| numbers[i]).collect();
+                let has = |number: u32| faults.contains(&number);
+
                 let edited = &settings[random.below(settings.len() as u64) as usize];
-                let fault = |number: u32| faults >> number & 1 == 1;
-                let asked = if fault(0) {
-                    Device {
-                        blocks: device.blocks,
-                        class: 2 + random_number(random) % 1000,
-                    }
-                } else {
-                    device
-                };
-                let shorter = usize::from(fault(1));
-                let setting = if fault(2) { count } else { edited.setting };
-                let pattern = if fault(3) {
+                let index = edited.bytes[0];
+                let mut asked = device;
+                if has(1) {
+                    asked.class = 2 + random_number(random) % 1000;
+                }
+                let shorter = usize::from(has(2));
+                let setting = if has(4) { count } else { edited.setting };
+                let pattern = if has(5) {
                     random.pick(&too_wide(edited.width))
                 } else {
                     random.pick(&edited.patterns)
                 };
-                let index = edited.bytes[0];
-                let stray = if fault(4) { !widths[index] } else { 0 };
-
                 let image = vec![0x5A; image_bytes(device).unwrap() - shorter];
                 let mut image = Lent::new("faults", &image);
                 let mut readout = widths.clone();
-                readout[index] |= stray;
+                if has(6) {
+                    readout[index] = 0xFF;
+                }
                 readout.truncate(widths.len() - shorter);
                 let mut readout = Lent::new("faults", &readout);
 
-                // The image has no stray bits, and what only reads is given no pattern.
-                let lowest = |numbers: &[u32]| {
-                    let kinds = [1, 2, 4, 5, 6];
-                    let first = (0..5).find(|i| fault(*i) && numbers.contains(&kinds[*i as usize]));
-                    first.map(|i| Refusal {
-                        number: kinds[i as usize],
-                        value: if i == 4 { index as u64 } else { 0 },
-                    })
+                // An image has no stray bits, and what only reads is given no pattern.
+                let lowest = |possible: &[u32]| {
+                    let mut faults = faults.iter().copied();
+                    let number = faults.find(|number| possible.contains(number))?;
+                    let value = if number == 6 { index as u64 } else { 0 };
+                    Some(Refusal { number, value })
                 };
                 let read = self.image.read(asked, &image, setting);
                 assert_eq!(read.err(), lowest(&[1, 2, 4]));
