@@ -24,7 +24,7 @@ uint64_t xc9500_fuse_of_address(uint32_t blocks, uint32_t class_, uint32_t addre
 
 /* Image: one bit a fuse; fuse f is bit f mod 8 (bit 0 lowest) of byte f div 8.
    Readout: one byte for each valid address in ascending order, value in the low bits.
-   Refused by the functions below: 1 unknown device; 2 an image or a readout that has not the exact length. */
+   Refused by the four functions below: 1 unknown device; 2 an image or a readout that has not the exact length. */
 
 /* The sum of the image's bytes, of which the low 16 bits are kept. */
 uint64_t xc9500_fuse_sum(uint32_t blocks, uint32_t class_, const uint8_t *image, size_t image_len);
@@ -41,7 +41,10 @@ uint64_t xc9500_image_to_readout(uint32_t blocks, uint32_t class_, const uint8_t
 uint64_t xc9500_readout_to_image(uint32_t blocks, uint32_t class_, const uint8_t *readout, size_t readout_len,
                                  uint8_t *image, size_t image_len);
 
-/* Settings are numbered from 0 in the listing order: term literals, wire-AND, macrocell fields, block fields, global fields.
+/* Settings are numbered from 0 in the listing order: term literals by block, macrocell, term, input, P before N; wire-AND by block, input,
+   source block, macrocell; macrocell fields by block, macrocell, field; block fields by block, field; global fields; the last index
+   fastest, fields in the order of the papers (ALLOC[0] to [4], INV, .., IOB_SLEW, HP[0] to [4]; ENABLE, EXPORT_ENABLE, PULLUP_DISABLE,
+   READ_PROT_A, READ_PROT_B, WRITE_PROT; FSR_INV, FCLK INV, FOE INV, FCLK MUX, FOE MUX, USERCODE).
    Where a result may be missing it is XC9500_NONE. */
 #define XC9500_NONE (((uint64_t)1 << 56) - 1)
 
@@ -56,7 +59,8 @@ uint64_t xc9500_setting_fuse(uint32_t blocks, uint32_t class_, uint32_t setting,
    such fuse. */
 uint64_t xc9500_setting_at_fuse(uint32_t blocks, uint32_t class_, uint32_t fuse);
 
-/* A pattern is the states of a setting's fuses, its bit 0 the state of the fuse of bit 0. Refused by the functions below: 1; 2 an image or
+/* A pattern is the states of a setting's fuses, its bit 0 the state of the fuse of bit 0; that of USERCODE is the complement of its
+   number. Refused by the functions below: 1; 2 an image or
    a readout that has not the exact length; 4 no such setting; 5 a pattern that does not fit (set only); and in a readout 6, a byte
    that holds the setting has a bit above its width, with the lowest index of such a byte. A refusal changes no byte. */
 

@@ -116,6 +116,9 @@ module _ (d : Device) (image : List â„•) (s : Setting) (v : Value) (pattern : â„
       })
   unfolding withValue before after-image after-readout
   holds = rw (taken .value) (record {
+    answers = (refl, refl);
+    passages = (refl, refl);
+    readings = (refl, refl);
     not-refused = (
       sets d inImage image s v pattern k (taken .size) (taken .setting) (taken .value) (image-clean d _ _),
       sets d inReadout before s v pattern k before-length (taken .setting) (taken .value) (readout-clean d _ _ (clean-before s (taken .setting))),

@@ -1,7 +1,8 @@
 -- What holds of reading and setting, each law once, for every device, setting and value:
 --   holds            demand 3, whole (specs/Demand.antt), of the definitions of setting, reading and the passages
 --   of-calls         the same of any calls that gave what their definitions say; `both_ways` is such a run
---   read-after-set   in any image or readout, whatever its other bytes hold: a setting that was set reads as set
+--   read-after-set, read-after-set-image   in any readout, whatever its other bytes hold, and in any image: a setting that was set reads
+--                    as set
 --   other-bits       .. and every bit of every byte that is none of the setting's stands as before
 --   reads-numbered, sets-numbered   the edit by number and pattern is the edit by the setting and the value that they stand for
 use mathlib.Core.Path.{_≡_, _∙_, ap}

@@ -1,4 +1,4 @@
--- The edit by number and pattern is the edit by the setting and the value that they stand for, refusals included.
+-- The edit by number and pattern is the edit by the setting and the value that they stand for, refusals 2 and 6 included.
 -- Assumes nothing.
 use mathlib.Core.Path.{_≡_, refl, sym, _∙_, ap}
 use mathlib.Core.Logic.{_≢_}

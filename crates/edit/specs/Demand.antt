@@ -1,4 +1,4 @@
--- Demand 3, whole: a field for each of its sentences, in their order, over document 01's places and values, the conversions and the
+-- Demand 3, whole, in the customer's words: a field for each of its sentences, in their order, over document 01's places and values, the conversions and the
 -- passages; it speaks of the definitions that the contracts of the operations cite.
 use mathlib.Core.Path.{_≡_}
 use mathlib.Core.Logic.{_≢_}
@@ -12,18 +12,18 @@ use Rattle.part.specs.Outcome.Outcome.{accepted}
 use Rattle.part.specs.Device.{known, fuseCount, imageBytes, readoutBytes}
 use Rattle.part.specs.declared.Device.{Device}
 use Rattle.image.specs.Bits.{bitOf}
-use Rattle.readout.specs.Readout.{readoutOf, doneOutcome}
+use Rattle.readout.specs.Readout.{readoutOf, imageOf, doneOutcome}
 use Rattle.settings.specs.Settings.{hasSetting, bitsOf, fuseOf}
 use Rattle.settings.specs.declared.Setting.{Setting}
 use Rattle.values.specs.Patterns.{patternIn}
 use Rattle.values.specs.declared.Value.{Value}
 use Rattle.setting_values.specs.Kinds.{kindOf}
 use Rattle.setting_values.specs.Operations.{valueOutcome}
-use Rattle.edit.specs.declared.BothAnswer.{BothAnswer}
-use Rattle.edit.specs.Edit.{inImage, inReadout, stateOf, readIn}
+use Rattle.edit.specs.declared.internal.BothAnswer.{BothAnswer}
+use Rattle.edit.specs.Edit.{inImage, inReadout, stateOf, readIn, setIn}
 
 -- "take any known device, any image of it, the readout of that image, any setting of that device and any value of that setting"; the
--- value stands for a pattern of states
+-- value stands for a pattern of states: by `pattern-iff` (values/proofs/Laws.antt) the only one that has this value
 pub record Taken (d : Device) (image : List ℕ) (s : Setting) (v : Value) (pattern : ℕ) : Type 0 where
   pub device : known d ≡ true
   pub size : length image ≡ imageBytes d
@@ -44,6 +44,10 @@ pub record Calls : Type 0 where
   pub read-readout : Outcome Value
 
 pub record Demand3 (d : Device) (image : List ℕ) (s : Setting) (v : Value) (pattern : ℕ) (c : Calls) : Type 0 where
+  -- the calls are those that their names say: each answer, and the bytes of each passage, are the definition's
+  pub answers : (c .set-image ≡ setIn d inImage image s v) × (c .set-readout ≡ setIn d inReadout (readoutOf d image) s v)
+  pub passages : (c .its-readout ≡ readoutOf d (c .image)) × (c .its-image ≡ imageOf d (c .readout))
+  pub readings : (c .read-image ≡ readIn d inImage (c .image) s) × (c .read-readout ≡ readIn d inReadout (c .readout) s)
   -- "Set it in the image, or set it straight in the readout's few bytes. Neither is refused."
   pub not-refused : (c .set-image ≡ accepted tt) × (c .set-readout ≡ accepted tt)
   -- "Then the changed readout equals, byte for byte, the readout of the changed image, .."

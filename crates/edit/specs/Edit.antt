@@ -1,5 +1,5 @@
--- Reading and setting a setting, in an image and in a readout: "setting puts those states there and changes no other bit of the image
--- or readout; reading answers the value whose states stand there". Document 01, "What the statements must settle" and the refusals.
+-- Reading and setting a setting, in an image and in a readout: unless refused, setting puts a value's states there and changes no other
+-- bit; reading answers the value whose states stand there. Document 01, "What the statements must settle" and the refusals.
 use Prim.Native.Nat.{ℕ, zero, suc, _/_, _%_, _^_}
 use mathlib.Core.Bool.{Bool, true, false, cond, _&&_}
 use mathlib.Core.List.{List}

@@ -5,7 +5,6 @@ ghost use Rattle.part.specs.Answer.{numberOutcome};
 ghost use Rattle.readout.specs.Readout.{doneOutcome, Written};
 ghost use Rattle.setting_values.specs.Operations.{valueOutcome};
 ghost use Rattle.edit.specs.Edit.{inImage, inReadout, readIn, setIn, withValue, readPattern, setPattern, withNumbered};
-ghost use Rattle.edit.specs.Demand.{BothWays, callsOf};
 use part::Device;
 use part::NumberAnswer;
 use readout::DoneAnswer;
@@ -80,40 +79,4 @@ pub fn set_pattern_in_readout(
     ensures { λ r. ⌜ Written (setPattern d inReadout (now (readout .entry)) (number .0) pattern) (doneOutcome r) (withNumbered d inReadout (now (readout .entry)) (number .0) pattern) (now (readout .entry)) (now (readout .exit)) ⌝ }
 {
     internal::set_numbered(d, true, readout, number, pattern)
-}
-
-// What the calls of `both_ways` answered.
-pub struct BothAnswer {
-    pub set_image: DoneAnswer,
-    pub set_readout: DoneAnswer,
-    pub read_image: ValueAnswer,
-    pub read_readout: ValueAnswer,
-}
-
-// Demand 3, run: a setting set in an image and straight in its readout, the readout of the changed image, the image of the changed
-// readout, and the setting read in both.
-pub fn both_ways(
-    d: Device,
-    image: &mut [u8],
-    readout: &mut [u8],
-    its_readout: &mut [u8],
-    its_image: &mut [u8],
-    s: Setting,
-    v: Value,
-) -> BothAnswer
-    ensures { λ r. ⌜ BothWays d (now (image .entry)) (now (readout .entry)) (now («its_readout» .entry)) (now («its_image» .entry)) s v (callsOf r (now (image .exit)) (now (readout .exit)) (now («its_readout» .exit)) (now («its_image» .exit))) ⌝ }
-{
-    readout::image_to_readout(d, image, readout);
-    let set_image = set_in_image(d, image, s, v);
-    let set_readout = set_in_readout(d, readout, s, v);
-    readout::image_to_readout(d, image, its_readout);
-    readout::readout_to_image(d, readout, its_image);
-    let read_image = read_in_image(d, image, s);
-    let read_readout = read_in_readout(d, readout, s);
-    BothAnswer {
-        set_image,
-        set_readout,
-        read_image,
-        read_readout,
-    }
 }

@@ -1,7 +1,6 @@
 -- What holds of values and patterns of the settings of a device, each law once, for every device and setting:
---   values-inverse    a value has this pattern exactly if this pattern has that value, refusals included
+--   values-inverse    a value has this pattern exactly if this pattern has that value
 --   each-pattern      every pattern below 2^width has a value, and no other pattern has one
---   pattern-below     a pattern that stands for a value is below 2^width
 --   flag-true         a flag is true at fuse state 0
 --   usercode-inverted USERCODE's number is the complement of its pattern
 --   foe-1-mux         FOE[1].MUX 10 is GOE[0] in the small class and GOE[2] in the large

@@ -86,8 +86,8 @@ blockPlace block ReadProtB = main block 68 3 6
 blockPlace block WriteProt = main block 68 0 6
 
 -- Block 0: (0,1,6) FSR_INV; (0,2+c,6) FCLK[c].INV; (0,5+e,6) FOE[e].INV; rows 3 and 4, bit 6 of those same columns: FCLK[c].MUX and
--- FOE[e].MUX, bits 0 and 1. USERCODE: bits 16 to 31 in row 6, bits 0 to 15 in row 7 (`usercode-rows` in specs/Cases.antt has document
--- 01's own words, from place to bit)
+-- FOE[e].MUX, bits 0 and 1. USERCODE: bits 16 to 31 in row 6, bits 0 to 15 in row 7 (`UsercodeRows` in specs/Cases.antt has document
+-- 01's own words, from place to bit; law `usercode-rows`)
 abbrev pub globalPlace : GlobalField → ℕ → Place
 globalPlace FsrInv bit = main 0 0 1 6
 globalPlace (FclkInv c) bit = main 0 0 (2 + c) 6

@@ -19,9 +19,9 @@ use Rattle.edit.specs.Demand.{Taken, Room, Calls, BothWays}
 use Rattle.edit.proofs.Edits.{set-length}
 use Rattle.edit.proofs.Demand.{holds, of-calls}
 use borrow.Author.Needs.{needs}
-use Rattle.edit.proofs.both_ways.Statement.{statement}
-use Rattle.edit.proofs.both_ways.Tie as tie
-use Rattle.edit.proofs.both_ways.Reads as reads
+use Rattle.edit.proofs.internal.both_ways.Statement.{statement}
+use Rattle.edit.proofs.internal.both_ways.Tie as tie
+use Rattle.edit.proofs.internal.both_ways.Reads as reads
 
 -- what an accepted call left in its target
 left : {A : Type 0} {o answer : Outcome A} {x : A} {result before after : List ℕ} → Written o answer result before after → o ≡ accepted x → after ≡ result
