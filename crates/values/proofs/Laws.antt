@@ -6,6 +6,7 @@
 --   unassigned-iff        which patterns have no name; such a pattern is the value Unassigned that carries it, and no other
 --   flag-true             a flag is true at 0 and false at 1
 --   usercode-inverted     USERCODE's pattern is the complement of its number
+--   usercode-bits         .. each bit stored inverted
 --   fclk-rule, foe-rule   10 is GCLK[c + 1] or GOE[e + 1], where the first follows the last, and 01 is GCLK[c] or GOE[e]
 --   bits-small            no kind has more than 32 bits
 -- The lists are read by one test of every pattern of a kind, which antt computes.
@@ -15,8 +16,11 @@ use mathlib.Core.Bool.{Bool, true, false, cond, not, _&&_, true≢false}
 use mathlib.Core.Option.{Option}
 use mathlib.Core.Option.Option.{none, some}
 use mathlib.Core.List.{List}
-use Prim.Native.Nat.{ℕ, _+_, _-_, _%_, _^_, _≤_, _<_}
+use Prim.Native.Nat.{ℕ, _+_, _*_, _-_, _/_, _%_, _^_, _≤_, _<_}
+use native.Mathlib.Nat.{div-add-mod', mod-lt, add-mul, lt-of-mul-lt-mul-right}
 use native.Mathlib.Omega.{arith}
+use lib.Arith.{digits-div}
+use lib.Pow.{pow-pos, pow-add}
 use lib.Dec.{eqb, ltb}
 use borrow.Author.Tests.{eqb-true, eq-eqb, ltb-true, lt-ltb}
 use Rattle.part.proofs.Facts.{and-iff}
@@ -221,6 +225,24 @@ flag-true = (refl, refl)
 
 pub usercode-inverted : (p : ℕ) → valueIn kind.Usercode p ≡ value.Usercode (2 ^ 32 - 1 - p)
 usercode-inverted p = refl
+
+-- the complement of q * c + r, where 2^32 is 2 * k * c: its high part is that of q
+complement : (p q r c k : ℕ) → q * c + r ≡ p → r < c → (2 * k) * c ≡ 2 ^ 32 → p < 2 ^ 32 → (2 ^ 32 - 1 - p) / c % 2 ≡ 1 - q % 2
+complement p q r c k e l w h =
+    let few : q < 2 * k = lt-of-mul-lt-mul-right c (omega arith) in
+    let m = 2 * k - 1 - q in
+    let whole : m + q + 1 ≡ 2 * k = omega arith in
+    let split : m * c + q * c + c ≡ 2 ^ 32 = sym (rw (add-mul (m + q) 1 c, add-mul m q c) (omega arith)) ∙ ap (λ (x : ℕ). x * c) whole ∙ w in
+    let parts : 2 ^ 32 - 1 - p ≡ m * c + (c - 1 - r) = omega arith in
+    rw (parts, digits-div m (rest c r l)) (omega arith)
+  where
+    rest : (c r : ℕ) → r < c → c - 1 - r < c
+    rest c r l = omega arith
+
+pub usercode-bits : (p b : ℕ) → p < 2 ^ 32 → b < 32 → (2 ^ 32 - 1 - p) / 2 ^ b % 2 ≡ 1 - p / 2 ^ b % 2
+usercode-bits p b h l =
+    let sum : 1 + (31 - b) + b ≡ 32 = omega arith in
+    complement p (p / 2 ^ b) (p % 2 ^ b) (2 ^ b) (2 ^ (31 - b)) (div-add-mod' p (2 ^ b)) (mod-lt p (pow-pos b)) (sym (rw (pow-add 2 (1 + (31 - b)) b, pow-add 2 1 (31 - b)) refl) ∙ ap (λ (k : ℕ). 2 ^ k) sum) h
 
 -- The rule of n lists, of which 10 names the next index and 01 the list's own: by one test of all the lists.
 abbrev pub Rule : (stands : ℕ → ℕ → Value) (name : ℕ → Value) (n : ℕ) → Type 0
