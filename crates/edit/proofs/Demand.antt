@@ -1,34 +1,28 @@
 -- Demand 3 holds: of the definitions of setting, reading and the two passages, for every known device, image, setting and value.
 -- Assumes nothing.
 use mathlib.Core.Path.{_≡_, refl, sym, _∙_, ap}
-use mathlib.Core.Logic.{_≢_}
-use mathlib.Core.Bool.{Bool, true, false, cond}
+use mathlib.Core.Bool.{Bool, true}
 use mathlib.Core.List.{List}
 use mathlib.Core.Option.Option.{some}
 use Prim.Native.Nat.{ℕ, _^_, _<_}
 use native.Mathlib.Omega.{arith}
-use lib.Dec.{eqb, ltb}
-use lib.ListN.{length, getD}
-use borrow.Author.Tests.{eq-eqb, le-ltb, lt-ltb}
+use lib.ListN.{length}
+use borrow.Author.Tests.{eq-eqb, le-ltb}
 use Rattle.part.specs.Outcome.{Outcome}
-use Rattle.part.specs.Outcome.Outcome.{accepted, refused}
-use Rattle.part.specs.Device.{known, fuseCount, imageBytes, readoutBytes}
+use Rattle.part.specs.Outcome.Outcome.{accepted}
+use Rattle.part.specs.Device.{known, imageBytes, readoutBytes}
 use Rattle.part.specs.declared.Device.{Device}
-use Rattle.image.specs.Bits.{bitOf}
-use Rattle.readout.specs.Readout.{readoutOf, imageOf, widthAt}
-use Rattle.readout.proofs.Laws.{from-length, readout-accepted, image-again, Within}
+use Rattle.readout.specs.Readout.{readoutOf, imageOf}
+use Rattle.readout.proofs.Laws.{from-length, readout-accepted, image-again}
 use Rattle.settings.specs.Settings.{hasSetting, bitsOf, fuseOf}
-use Rattle.settings.specs.Order.{countOf, settingOf}
 use Rattle.settings.specs.declared.Setting.{Setting}
-use Rattle.settings.proofs.Numbers.{number-again}
-use Rattle.values.specs.Values.{bitsIn, valueIn}
 use Rattle.values.specs.Patterns.{patternIn}
 use Rattle.values.specs.declared.Value.{Value}
 use Rattle.values.proofs.Laws as values
 use Rattle.setting_values.specs.Kinds.{kindOf, valueOf}
 use Rattle.setting_values.proofs.Widths.{kind-bits}
-use Rattle.edit.specs.Edit.{inImage, inReadout, bytesOf, byteOf, patternAt, withPattern, withValue, strayAmong, strayIn, readIn, setIn, readPattern, setPattern, withNumbered}
-use Rattle.edit.specs.Demand.{Taken, Calls, Demand3}
+use Rattle.edit.specs.Edit.{inImage, inReadout, bytesOf, byteOf, patternAt, withPattern, withValue, strayAmong, strayIn, readIn, setIn}
+use Rattle.edit.specs.Demand.{Taken, Demand3}
 use Rattle.edit.proofs.Edits.{inside, fuse-below, set-length, set-fuses, set-other-fuses, set-reads, set-others-read, agrees, set-small, set-clean, clean-through}
 
 -- reading and setting are not refused where the device, the length and the setting are right and no byte of the setting has a bit above

@@ -1,28 +1,28 @@
 -- Setting a pattern in an image or a readout: it reads back, every other fuse and bit stands, and the two ways agree.
 -- Stated once for images and readouts where both have it.
-use mathlib.Core.Path.{_≡_, refl, sym, _∙_, ap, ap₂, subst}
+use mathlib.Core.Path.{_≡_, refl, sym, _∙_, ap, ap₂}
 use mathlib.Core.Logic.{_≢_}
-use mathlib.Core.Bool.{Bool, true, false, cond, _&&_}
+use mathlib.Core.Bool.{Bool, true, false}
 use mathlib.Core.List.{List}
-use Prim.Native.Nat.{ℕ, zero, suc, _+_, _*_, _/_, _%_, _^_, _<_, _≤_}
+use Prim.Native.Nat.{ℕ, zero, suc, _/_, _%_, _^_, _<_, _≤_}
 use native.Mathlib.Omega.{arith}
 use native.Mathlib.Decide.{ℕ-discrete}
 use lib.Dec.{ltb}
-use lib.ListN.{length, getD, set}
+use lib.ListN.{length, getD}
 use lib.Seq.{getD-set-same, getD-set-other}
-use borrow.Author.Tests.{lt-ltb, le-ltb, lt-leb, leb-false}
+use borrow.Author.Tests.{lt-ltb, lt-leb}
 use Rattle.part.specs.Device.{known, fuseCount, imageBytes, readoutBytes}
 use Rattle.part.specs.declared.Device.{Device}
-use Rattle.part.proofs.Facts.{and-iff, compared}
+use Rattle.part.proofs.Facts.{and-iff}
 use Rattle.part.proofs.Devices.{image-whole}
-use Rattle.image.specs.Bits.{bitOf, bitAt, putBit, withBit, gathered}
+use Rattle.image.specs.Bits.{bitOf, bitAt, putBit, withBit}
 use Rattle.image.proofs.Bits.{put-small, with-length, gathered-same}
 use Rattle.readout.specs.Readout.{widthAt, fuseAt, readoutOf, strayAt}
-use Rattle.readout.proofs.Laws.{lying, change-agrees, Within}
+use Rattle.readout.proofs.Laws.{lying, change-agrees}
 use Rattle.settings.specs.Settings.{hasSetting, bitsOf, fuseOf, lists}
 use Rattle.settings.specs.declared.Setting.{Setting}
 use Rattle.settings.proofs.Laws as settings
-use Rattle.edit.specs.Edit.{inImage, inReadout, bytesOf, byteOf, bitIn, stateOf, withState, patternAt, withBits, withPattern, strayAmong, strayOf}
+use Rattle.edit.specs.Edit.{inImage, inReadout, bytesOf, byteOf, bitIn, stateOf, withState, patternAt, withBits, withPattern, strayAmong}
 use Rattle.edit.proofs.Spots.{a-bit, put, put-length, put-other, put-same, put-read}
 
 -- where a fuse stands: inside the bytes, and no other fuse stands there

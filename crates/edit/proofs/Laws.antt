@@ -6,7 +6,7 @@
 --   other-bits       .. and every bit of every byte that is none of the setting's stands as before
 --   reads-numbered, sets-numbered   the edit by number and pattern is the edit by the setting and the value that they stand for
 use mathlib.Core.Path.{_≡_, _∙_, ap}
-use mathlib.Core.Bool.{Bool, true, false}
+use mathlib.Core.Bool.{Bool, true}
 use mathlib.Core.List.{List}
 use mathlib.Core.Option.Option.{some}
 use Prim.Native.Nat.{ℕ, _^_, _<_}
@@ -23,7 +23,7 @@ use Rattle.values.specs.declared.Value.{Value}
 use Rattle.values.proofs.Laws as values
 use Rattle.setting_values.specs.Kinds.{kindOf, valueOf}
 use Rattle.setting_values.proofs.Widths.{kind-bits}
-use Rattle.edit.specs.Edit.{inImage, inReadout, bytesOf, byteOf, bitIn, patternAt, withPattern, withValue, strayAmong, readIn}
+use Rattle.edit.specs.Edit.{inImage, inReadout, bytesOf, byteOf, bitIn, withPattern, withValue, readIn}
 use Rattle.edit.proofs.Edits.{set-length, set-others, set-reads, set-clean, clean-through}
 use Rattle.edit.proofs.Demand.{Clean, image-clean, readout-clean, reads}
 pub use Rattle.edit.proofs.Demand.{holds, of-calls}

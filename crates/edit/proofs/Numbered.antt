@@ -1,27 +1,22 @@
 -- The edit by number and pattern is the edit by the setting and the value that they stand for, refusals 2 and 6 included.
 -- Assumes nothing.
-use mathlib.Core.Path.{_≡_, refl, sym, _∙_, ap}
-use mathlib.Core.Logic.{_≢_}
+use mathlib.Core.Path.{_≡_, refl, sym, _∙_}
 use mathlib.Core.Bool.{Bool, true, false, cond}
 use mathlib.Core.List.{List}
 use mathlib.Core.Option.Option.{some}
 use Prim.Native.Nat.{ℕ, _^_, _<_}
 use native.Mathlib.Omega.{arith}
 use lib.Dec.{eqb, ltb}
-use lib.ListN.{length, getD}
-use borrow.Author.Tests.{eq-eqb, le-ltb, lt-ltb}
+use lib.ListN.{length}
+use borrow.Author.Tests.{lt-ltb}
 use Rattle.part.specs.Outcome.{Outcome}
 use Rattle.part.specs.Outcome.Outcome.{accepted, refused}
-use Rattle.part.specs.Device.{known, fuseCount, imageBytes, readoutBytes}
+use Rattle.part.specs.Device.{known}
 use Rattle.part.specs.declared.Device.{Device}
-use Rattle.image.specs.Bits.{bitOf}
-use Rattle.readout.specs.Readout.{readoutOf, imageOf, widthAt}
-use Rattle.readout.proofs.Laws.{from-length, readout-accepted, image-again, Within}
 use Rattle.settings.specs.Settings.{hasSetting, bitsOf, fuseOf}
 use Rattle.settings.specs.Order.{countOf, settingOf}
 use Rattle.settings.specs.declared.Setting.{Setting}
 use Rattle.settings.proofs.Numbers.{number-again}
-use Rattle.values.specs.Values.{bitsIn, valueIn}
 use Rattle.values.specs.Patterns.{patternIn}
 use Rattle.values.specs.declared.Value.{Value}
 use Rattle.values.proofs.Laws as values
@@ -30,7 +25,7 @@ use Rattle.setting_values.proofs.Widths.{kind-bits}
 use Rattle.part.proofs.Conversions.{passed}
 use Rattle.image.proofs.Bits.{gathered-small}
 use Rattle.edit.proofs.Steps.{state-small}
-use Rattle.edit.specs.Edit.{inImage, inReadout, bytesOf, byteOf, stateOf, patternAt, withPattern, withValue, strayAmong, strayIn, readIn, setIn, readPattern, setPattern, withNumbered}
+use Rattle.edit.specs.Edit.{bytesOf, stateOf, patternAt, withValue, strayIn, readIn, setIn, readPattern, setPattern, withNumbered}
 
 -- an outcome with its result turned into another
 abbrev pub mapped : {A B : Type 0} → (A → B) → Outcome A → Outcome B

@@ -1,30 +1,25 @@
 -- What the code of reading and setting needs at each step: where a bit of a setting stands, and one more bit read or looked at.
 -- Assumes nothing.
-use mathlib.Core.Path.{_≡_, refl, sym, _∙_, ap, ap₂}
+use mathlib.Core.Path.{_≡_, sym, _∙_, ap, ap₂}
 use mathlib.Core.Bool.{Bool, true, false, not, _&&_}
 use mathlib.Core.List.{List}
-use Prim.Native.Nat.{ℕ, zero, suc, _+_, _*_, _/_, _%_, _^_, _<_, _≤_}
+use Prim.Native.Nat.{ℕ, suc, _+_, _*_, _/_, _%_, _^_, _<_, _≤_}
 use native.Mathlib.Omega.{arith}
-use native.Mathlib.Nat.{add-comm, div-eq-of-lt, div-lt-iff-lt-mul, le-of-lt}
-use native.Mathlib.Numerals.{one-add}
-use mir.Syntax.{w32}
-use mir.Val.{Fits}
+use native.Mathlib.Nat.{div-eq-of-lt, div-lt-iff-lt-mul}
 use lib.Dec.{ltb, leb, eqb}
-use lib.ListN.{length, getD}
-use lib.Pow.{pow-pos, pow-mono, pow-add, shl-exact}
-use lib.Arith.{digits-lt}
-use borrow.Author.Tests.{lt-leb, le-leb, eq-eqb, ne-eqb}
-use Rattle.part.specs.Device.{known, fuseCount, readoutBytes}
-use Rattle.part.specs.Place.{hasByte, hasPlace, widthOf, firstFuse, placeOfFuse, fuseOfPlace, indexOfByte, byteOfIndex}
+use lib.ListN.{getD}
+use lib.Pow.{pow-pos, pow-mono, shl-exact}
+use borrow.Author.Tests.{lt-leb, le-leb, ne-eqb}
+use Rattle.part.specs.Device.{known, readoutBytes}
+use Rattle.part.specs.Place.{hasByte, hasPlace, widthOf, placeOfFuse, indexOfByte, byteOfIndex}
 use Rattle.part.specs.declared.Device.{Device}
 use Rattle.part.specs.declared.Place.{Place}
-use Rattle.part.specs.declared.BytePlace.{BytePlace}
 use Rattle.part.proofs.Facts.{and-iff, compared}
 use Rattle.part.proofs.Laws.{width-small}
 use Rattle.part.proofs.Devices.{fuses-small, image-whole, in-device-small}
 use Rattle.part.proofs.Fuses.{of-place}
 use Rattle.part.proofs.Readouts.{of-byte}
-use Rattle.image.specs.Bits.{bitOf, bitAt, gathered}
+use Rattle.image.specs.Bits.{bitAt, gathered}
 use Rattle.image.proofs.Bits.{gathered-small}
 use Rattle.readout.specs.Readout.{widthAt, strayAt}
 use Rattle.readout.proofs.Laws.{lying}
@@ -35,7 +30,7 @@ use Rattle.setting_values.specs.Kinds.{kindOf}
 use Rattle.setting_values.proofs.Widths.{kind-bits}
 use Rattle.values.proofs.Laws as values
 use Rattle.edit.specs.Edit.{bytesOf, byteOf, bitIn, stateOf, strayAmong}
-use Rattle.edit.proofs.Edits.{inside, fuse-below}
+use Rattle.edit.proofs.Edits.{fuse-below}
 
 -- no image and no readout has more bytes than those of the largest device
 pub bytes-few : (d : Device) (form : Bool) → known d ≡ true → bytesOf d form ≤ 40320

@@ -4,7 +4,7 @@
 --   flag-true         a flag is true at fuse state 0
 --   usercode-inverted USERCODE's number is the complement of its pattern
 --   foe-1-mux         FOE[1].MUX 10 is GOE[0] in the small class and GOE[2] in the large
-use mathlib.Core.Path.{_≡_, refl, sym, _∙_, ap}
+use mathlib.Core.Path.{_≡_, refl}
 use mathlib.Core.Logic.{_↔_}
 use mathlib.Core.Bool.{Bool, true, false, cond}
 use mathlib.Core.Option.{Option}
@@ -14,7 +14,7 @@ use native.Mathlib.Omega.{arith}
 use lib.Dec.{ltb}
 use borrow.Author.Tests.{lt-ltb, ltb-true}
 use Rattle.part.specs.Outcome.{Outcome}
-use Rattle.part.specs.Outcome.Outcome.{accepted, refused}
+use Rattle.part.specs.Outcome.Outcome.{accepted}
 use Rattle.part.specs.Device.{known, isLarge}
 use Rattle.part.specs.declared.Device.{Device}
 use Rattle.part.proofs.Conversions.{passed, result}

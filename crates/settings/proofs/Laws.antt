@@ -14,14 +14,14 @@ use mathlib.Core.Logic.{_↔_}
 use mathlib.Core.Bool.{Bool, true, false, cond, _&&_}
 use mathlib.Core.Option.{Option}
 use mathlib.Core.Option.Option.{none, some}
-use Prim.Native.Nat.{ℕ, _+_, _*_, _-_, _<_, _≤_}
+use Prim.Native.Nat.{ℕ, _<_}
 use native.Mathlib.Omega.{arith}
 use lib.Dec.{ltb, eqb}
 use borrow.Author.Tests.{lt-ltb, ltb-true, eqb-true, eq-eqb}
 use Rattle.part.specs.Outcome.{Outcome}
-use Rattle.part.specs.Outcome.Outcome.{accepted, refused}
+use Rattle.part.specs.Outcome.Outcome.{accepted}
 use Rattle.part.specs.Device.{known, fuseCount}
-use Rattle.part.specs.Place.{placeOfFuse, byteOfAddress, hasPlace}
+use Rattle.part.specs.Place.{placeOfFuse}
 use Rattle.part.specs.declared.Device.{Device}
 use Rattle.part.proofs.Facts.{and-iff}
 use Rattle.part.proofs.Fuses.{of-place}

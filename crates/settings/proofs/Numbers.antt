@@ -3,18 +3,18 @@
 use mathlib.Core.Path.{_≡_, refl, sym, _∙_, ap, subst}
 use mathlib.Core.Logic.{_↔_}
 use mathlib.Core.Bool.{Bool, true, false, cond, true≢false}
-use mathlib.Core.List.{List, [], _∷_}
+use mathlib.Core.List.{List}
 use Prim.Native.Nat.{ℕ, _+_, _*_, _-_, _/_, _<_, _≤_}
 use native.Mathlib.Omega.{arith}
 use lib.Dec.{ltb, eqb}
 use borrow.Author.Tests.{lt-ltb, le-ltb, eqb-true, eq-eqb, ne-eqb, ltb-true}
 use Rattle.part.specs.Device.{known, blocksOf, isLarge}
 use Rattle.part.specs.declared.Device.{Device}
-use Rattle.part.proofs.Facts.{and-iff, by-cases, compared, tests}
+use Rattle.part.proofs.Facts.{compared, tests}
 use Rattle.part.proofs.Devices.{by-count, known-count}
 use Rattle.settings.specs.Fields.{foes, listed, polarityIndex, macrocellFields, macrocellIndex, blockFields, blockIndex, globalFields, globalIndex}
 use Rattle.settings.specs.Settings.{hasSetting}
-use Rattle.settings.specs.Order.{Group, rank, group, indices, bounds, product, position, at, size, start, countOf, numberOf, polarityAt, macrocellFieldAt, blockFieldAt, globalFieldAt, fromIndices, inGroup, settingOf, earlier, before}
+use Rattle.settings.specs.Order.{Group, rank, group, indices, bounds, position, at, size, start, countOf, numberOf, polarityAt, macrocellFieldAt, blockFieldAt, globalFieldAt, fromIndices, inGroup, settingOf, earlier, before}
 use Rattle.settings.specs.Order.Group.{literals, wireAnds, macrocellSettings, blockSettings, globals}
 use Rattle.settings.specs.declared.Polarity.{Polarity}
 use Rattle.settings.specs.declared.Polarity.the-variants.{P, N}

@@ -1,21 +1,21 @@
 -- The places of the settings: each is a place that the device has, and the candidate at it is the setting and the bit.
 -- Stated once for every device.
-use mathlib.Core.Path.{_≡_, refl, sym, _∙_, ap, ap₂, subst}
-use mathlib.Core.Bool.{Bool, true, false, not, _&&_, _||_}
+use mathlib.Core.Path.{_≡_, refl, sym, _∙_, ap, subst}
+use mathlib.Core.Bool.{Bool, true, not, _&&_, _||_}
 use Prim.Native.Nat.{ℕ, _+_, _*_, _-_, _/_, _%_, _<_, _≤_}
 use native.Mathlib.Omega.{arith}
 use lib.Dec.{ltb, eqb}
-use borrow.Author.Tests.{lt-ltb, le-ltb, eqb-true, eq-eqb, ne-eqb, ltb-true}
-use Rattle.part.specs.Device.{known, blocksOf, mainWidth, wireAndWidth}
+use borrow.Author.Tests.{lt-ltb, le-ltb, eqb-true, ltb-true}
+use Rattle.part.specs.Device.{known, blocksOf}
 use Rattle.part.specs.Place.{hasPlace}
 use Rattle.part.specs.declared.Device.{Device}
 use Rattle.part.specs.declared.Place.{Place}
-use Rattle.part.proofs.Facts.{and-iff, by-cases, compared, either, tests}
+use Rattle.part.proofs.Facts.{and-iff, by-cases, tests}
 use Rattle.part.proofs.Devices.{by-count, known-count}
 use Rattle.settings.specs.Fields.{foes, macrocellFields, macrocellIndex, globalFields, globalIndex}
-use Rattle.settings.specs.Settings.{main, wireAnd, literalRow, firstRow, rows, blockPlace, globalPlace, globalBits, placeOf, bitsOf, hasSetting, lists}
+use Rattle.settings.specs.Settings.{main, wireAnd, literalRow, firstRow, rows, blockPlace, globalPlace, globalBits, placeOf, bitsOf, hasSetting}
 use Rattle.settings.specs.Order.{macrocellFieldAt}
-use Rattle.settings.specs.Back.{polarityOfRow, lastUpTo, fieldIndexAtRow, fieldAtRow, globalFieldNear, globalBitNear, candidateInMain, candidateAt}
+use Rattle.settings.specs.Back.{polarityOfRow, lastUpTo, fieldIndexAtRow, fieldAtRow, globalBitNear, candidateInMain, candidateAt}
 use Rattle.settings.specs.declared.Polarity.{Polarity}
 use Rattle.settings.specs.declared.Polarity.the-variants.{P, N}
 use Rattle.settings.specs.declared.MacrocellField.{MacrocellField}

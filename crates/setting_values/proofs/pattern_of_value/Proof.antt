@@ -20,7 +20,6 @@ use Rattle.setting_values.specs.Operations.{patternOfValue}
 use borrow.Author.Needs.{needs}
 use Rattle.setting_values.proofs.pattern_of_value.Statement.{statement}
 use Rattle.setting_values.proofs.pattern_of_value.Tie as tie
-use Rattle.setting_values.proofs.pattern_of_value.Reads as reads
 
 no-device : (d : Device) (s : Setting) (v : Value) → known d ≡ false → refused 1 0 ≡ patternOfValue d s v
 unfolding patternOfValue

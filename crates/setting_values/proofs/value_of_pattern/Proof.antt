@@ -21,7 +21,6 @@ use Rattle.setting_values.proofs.Widths.{kind-bits}
 use borrow.Author.Needs.{needs}
 use Rattle.setting_values.proofs.value_of_pattern.Statement.{statement}
 use Rattle.setting_values.proofs.value_of_pattern.Tie as tie
-use Rattle.setting_values.proofs.value_of_pattern.Reads as reads
 
 no-device : (d : Device) (s : Setting) (p : ℕ) → known d ≡ false → refused 1 0 ≡ valueOfPattern d s p
 unfolding valueOfPattern

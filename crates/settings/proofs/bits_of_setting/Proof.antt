@@ -14,7 +14,6 @@ use Rattle.settings.proofs.Asked.{has, has-not}
 use borrow.Author.Needs.{needs}
 use Rattle.settings.proofs.bits_of_setting.Statement.{statement}
 use Rattle.settings.proofs.bits_of_setting.Tie as tie
-use Rattle.settings.proofs.bits_of_setting.Reads as reads
 
 no-device : (d : Device) (s : Setting) → known d ≡ false → refused 1 0 ≡ bitsOfSetting d s
 unfolding bitsOfSetting

@@ -17,7 +17,6 @@ use Rattle.settings.proofs.Asked.{has, has-not}
 use borrow.Author.Needs.{needs}
 use Rattle.settings.proofs.fuse_of_bit.Statement.{statement}
 use Rattle.settings.proofs.fuse_of_bit.Tie as tie
-use Rattle.settings.proofs.fuse_of_bit.Reads as reads
 
 no-device : (d : Device) (s : Setting) (bit : ℕ) → known d ≡ false → refused 1 0 ≡ fuseOfBit d s bit
 unfolding fuseOfBit

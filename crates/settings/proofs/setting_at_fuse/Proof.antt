@@ -22,7 +22,6 @@ use Rattle.settings.proofs.Asked.{has, has-not}
 use borrow.Author.Needs.{needs}
 use Rattle.settings.proofs.setting_at_fuse.Statement.{statement}
 use Rattle.settings.proofs.setting_at_fuse.Tie as tie
-use Rattle.settings.proofs.setting_at_fuse.Reads as reads
 
 no-device : (d : Device) (f : ℕ) → known d ≡ false → refused 1 0 ≡ settingAtFuse d f
 unfolding settingAtFuse

@@ -12,7 +12,6 @@ use Rattle.settings.specs.Operations.{countOfSettings}
 use borrow.Author.Needs.{needs}
 use Rattle.settings.proofs.setting_count.Statement.{statement}
 use Rattle.settings.proofs.setting_count.Tie as tie
-use Rattle.settings.proofs.setting_count.Reads as reads
 
 no-device : (d : Device) → known d ≡ false → refused 1 0 ≡ countOfSettings d
 unfolding countOfSettings

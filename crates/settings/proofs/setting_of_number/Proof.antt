@@ -15,7 +15,6 @@ use Rattle.settings.specs.declared.Setting.{Setting}
 use borrow.Author.Needs.{needs}
 use Rattle.settings.proofs.setting_of_number.Statement.{statement}
 use Rattle.settings.proofs.setting_of_number.Tie as tie
-use Rattle.settings.proofs.setting_of_number.Reads as reads
 
 no-device : (d : Device) (x : ℕ) → known d ≡ false → refused 1 0 ≡ settingOfNumber d x
 unfolding settingOfNumber

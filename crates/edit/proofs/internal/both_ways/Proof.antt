@@ -1,6 +1,6 @@
 -- `both_ways` meets its contract: each call gave what its definition says, and demand 3 holds of the definitions.
 -- Assumes nothing.
-use mathlib.Core.Path.{_≡_, refl, sym, _∙_, ap, subst}
+use mathlib.Core.Path.{_≡_, sym, _∙_, ap, subst}
 use mathlib.Core.Bool.{true}
 use mathlib.Core.List.{List}
 use Prim.Native.Nat.{ℕ}
@@ -14,14 +14,13 @@ use Rattle.readout.specs.Readout.{Written, written, toReadout, readoutOf, toIma
 use Rattle.readout.proofs.Laws.{from-length, readout-accepted, accepted-iff, Within}
 use Rattle.settings.specs.declared.Setting.{Setting}
 use Rattle.values.specs.declared.Value.{Value}
-use Rattle.edit.specs.Edit.{inImage, inReadout, withValue, withPattern, readIn, setIn}
-use Rattle.edit.specs.Demand.{Taken, Room, Calls, BothWays}
+use Rattle.edit.specs.Edit.{inImage, inReadout, withValue, readIn, setIn}
+use Rattle.edit.specs.Demand.{Taken, BothWays}
 use Rattle.edit.proofs.Edits.{set-length}
 use Rattle.edit.proofs.Demand.{holds, of-calls}
 use borrow.Author.Needs.{needs}
 use Rattle.edit.proofs.internal.both_ways.Statement.{statement}
 use Rattle.edit.proofs.internal.both_ways.Tie as tie
-use Rattle.edit.proofs.internal.both_ways.Reads as reads
 
 -- what an accepted call left in its target
 left : {A : Type 0} {o answer : Outcome A} {x : A} {result before after : List ℕ} → Written o answer result before after → o ≡ accepted x → after ≡ result

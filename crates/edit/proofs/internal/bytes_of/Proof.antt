@@ -3,7 +3,6 @@
 use borrow.Author.Needs.{needs}
 use Rattle.edit.proofs.internal.bytes_of.Statement.{statement}
 use Rattle.edit.proofs.internal.bytes_of.Tie as tie
-use Rattle.edit.proofs.internal.bytes_of.Reads as reads
 
 readout-bytes-requires : tie.Need-readout-bytes-requires
 readout-bytes-requires c κs = search needs

@@ -1,12 +1,12 @@
 -- `pattern_at` meets its contract: a bit more of the pattern at each turn.
 -- Assumes nothing.
 use mathlib.Core.Path.{_≡_, refl, _∙_, ap, ap₂}
-use mathlib.Core.Bool.{Bool, true, false}
+use mathlib.Core.Bool.{Bool, true}
 use Prim.Native.Nat.{ℕ, _+_, _*_, _-_, _%_, _^_, _<_, _≤_}
 use native.Mathlib.Omega.{arith}
-use Rattle.part.specs.Device.{known, fuseCount}
+use Rattle.part.specs.Device.{known}
 use Rattle.part.specs.declared.Device.{Device}
-use Rattle.settings.specs.Settings.{placeOf, hasSetting, bitsOf, fuseOf}
+use Rattle.settings.specs.Settings.{hasSetting, bitsOf, fuseOf}
 use Rattle.settings.specs.declared.Setting.{Setting}
 use mathlib.Core.List.{List}
 use mir.Syntax.{w32}
@@ -19,7 +19,6 @@ use Rattle.edit.proofs.Steps.{bits-few, bit-small, bitsRead, read-more}
 use borrow.Author.Needs.{needs}
 use Rattle.edit.proofs.internal.pattern_at.Statement.{statement}
 use Rattle.edit.proofs.internal.pattern_at.Tie as tie
-use Rattle.edit.proofs.internal.pattern_at.Reads as reads
 
 -- what has been read so far
 record Read (d : Device) (form : Bool) (bytes : List ℕ) (s : Setting) (width pattern bit : ℕ) : Type 0 where

@@ -8,17 +8,16 @@ use native.Mathlib.Omega.{arith}
 use lib.ListN.{length}
 use Rattle.part.specs.Device.{known}
 use Rattle.part.specs.declared.Device.{Device}
-use Rattle.image.specs.Bits.{bitOf, withBit}
+use Rattle.image.specs.Bits.{withBit}
 use Rattle.image.proofs.Bits.{with-length}
 use Rattle.settings.specs.Settings.{hasSetting, bitsOf, fuseOf}
 use Rattle.settings.specs.declared.Setting.{Setting}
-use Rattle.edit.specs.Edit.{bytesOf, byteOf, bitIn, withState, withBits, withPattern}
+use Rattle.edit.specs.Edit.{bytesOf, byteOf, bitIn, withBits, withPattern}
 use Rattle.edit.proofs.Edits.{inside, fuse-below}
 use Rattle.edit.proofs.Steps.{bits-few, bit-small}
 use borrow.Author.Needs.{needs}
 use Rattle.edit.proofs.internal.put_pattern.Statement.{statement}
 use Rattle.edit.proofs.internal.put_pattern.Tie as tie
-use Rattle.edit.proofs.internal.put_pattern.Reads as reads
 
 -- the bits put in place so far
 record Put (d : Device) (form : Bool) (before : List ℕ) (s : Setting) (pattern width : ℕ) (bytes : List ℕ) (bit : ℕ) : Type 0 where

@@ -1,6 +1,6 @@
 -- `read` meets its contract: the tests are the definition's.
 -- Assumes nothing.
-use mathlib.Core.Path.{_≡_, sym, _∙_, ap}
+use mathlib.Core.Path.{_≡_, sym, _∙_}
 use mathlib.Core.Bool.{Bool, true, false}
 use mathlib.Core.List.{List}
 use Prim.Native.Nat.{ℕ, _<_, _≤_}
@@ -25,7 +25,6 @@ use Rattle.edit.proofs.Steps.{bytes-few}
 use borrow.Author.Needs.{needs}
 use Rattle.edit.proofs.internal.read.Statement.{statement}
 use Rattle.edit.proofs.internal.read.Tie as tie
-use Rattle.edit.proofs.internal.read.Reads as reads
 
 no-device : (d : Device) (form : Bool) (bytes : List ℕ) (s : Setting) → known d ≡ false → refused 1 0 ≡ readIn d form bytes s
 unfolding readIn

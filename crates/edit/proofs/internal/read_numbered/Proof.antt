@@ -14,7 +14,7 @@ use Rattle.part.proofs.Devices.{is-known, is-unknown}
 use Rattle.settings.specs.Order.{countOf, settingOf}
 use Rattle.settings.specs.declared.Setting.{Setting}
 use mathlib.Core.Option.{Option}
-use mathlib.Core.Option.Option.{none, some}
+use mathlib.Core.Option.Option.{some}
 use Rattle.part.specs.Answer.{number, value}
 use Rattle.part.specs.declared.Refusal.{Refusal}
 use Rattle.setting_values.specs.Kinds.{kindOf}
@@ -31,7 +31,6 @@ use Rattle.edit.proofs.Numbered.{read-value, read-refused}
 use borrow.Author.Needs.{needs}
 use Rattle.edit.proofs.internal.read_numbered.Statement.{statement}
 use Rattle.edit.proofs.internal.read_numbered.Tie as tie
-use Rattle.edit.proofs.internal.read_numbered.Reads as reads
 
 no-device : (d : Device) (form : Bool) (bytes : List ℕ) (x : ℕ) → known d ≡ false → refused 1 0 ≡ readPattern d form bytes x
 unfolding readPattern

@@ -4,7 +4,6 @@ use mathlib.Core.Path.{_≡_, sym, _∙_, ap}
 use mathlib.Core.Bool.{Bool, true, false}
 use mathlib.Core.List.{List}
 use mathlib.Core.Option.{Option}
-use mathlib.Core.Option.Option.{none, some}
 use Prim.Native.Nat.{ℕ, _<_, _≤_}
 use native.Mathlib.Omega.{arith}
 use mir.Syntax.{w32}
@@ -16,7 +15,7 @@ use Rattle.part.specs.Outcome.Outcome.{accepted, refused}
 use Rattle.part.specs.Device.{known}
 use Rattle.part.specs.declared.Device.{Device}
 use Rattle.part.proofs.Devices.{is-known, is-unknown}
-use Rattle.readout.specs.Readout.{Written, written}
+use Rattle.readout.specs.Readout.{Written}
 use Rattle.readout.proofs.Targets.{says}
 use Rattle.settings.specs.Settings.{hasSetting}
 use Rattle.settings.specs.declared.Setting.{Setting}
@@ -32,7 +31,6 @@ use Rattle.edit.proofs.Steps.{bytes-few}
 use borrow.Author.Needs.{needs}
 use Rattle.edit.proofs.internal.set.Statement.{statement}
 use Rattle.edit.proofs.internal.set.Tie as tie
-use Rattle.edit.proofs.internal.set.Reads as reads
 
 -- what the call must give: the outcome's answer, and the bytes that go with it
 abbrev Given : Device → Bool → List ℕ → Setting → Value → Outcome (Unit {0}) → List ℕ → Type 0

@@ -9,7 +9,7 @@ use lib.Dec.{ltb}
 use lib.ListN.{length}
 use borrow.Author.Tests.{eq-eqb, ne-eqb, lt-ltb, le-ltb, not-true, not-false, ltb-true}
 use Rattle.part.specs.Outcome.{Outcome}
-use Rattle.part.specs.Outcome.Outcome.{accepted, refused}
+use Rattle.part.specs.Outcome.Outcome.{refused}
 use Rattle.part.specs.Device.{known}
 use Rattle.part.specs.declared.Device.{Device}
 use Rattle.part.proofs.Devices.{is-known, is-unknown}
@@ -17,8 +17,7 @@ use Rattle.settings.specs.Settings.{hasSetting, bitsOf}
 use Rattle.settings.specs.Order.{countOf, settingOf}
 use Rattle.settings.specs.declared.Setting.{Setting}
 use Rattle.settings.proofs.Numbers.{number-again}
-use Rattle.readout.specs.Readout.{Written, written, doneOutcome}
-use Rattle.readout.specs.declared.DoneAnswer.{DoneAnswer}
+use Rattle.readout.specs.Readout.{Written}
 use Rattle.readout.proofs.Targets.{says}
 use Rattle.values.specs.Values.{bitsIn, valueIn}
 use Rattle.values.specs.declared.Value.{Value}
@@ -30,7 +29,6 @@ use Rattle.edit.proofs.Numbered.{sets-numbered}
 use borrow.Author.Needs.{needs}
 use Rattle.edit.proofs.internal.set_numbered.Statement.{statement}
 use Rattle.edit.proofs.internal.set_numbered.Tie as tie
-use Rattle.edit.proofs.internal.set_numbered.Reads as reads
 
 -- what the call must give: the outcome's answer, and the bytes that go with it
 abbrev Given : Device → Bool → List ℕ → (x pattern : ℕ) → Outcome (Unit {0}) → List ℕ → Type 0

@@ -5,7 +5,7 @@ use mathlib.Core.Bool.{Bool, true, false}
 use mathlib.Core.List.{[]}
 use Prim.Native.Nat.{ℕ, _+_, _/_, _%_, _<_, _≤_}
 use native.Mathlib.Omega.{arith}
-use Rattle.part.specs.Device.{known, fuseCount}
+use Rattle.part.specs.Device.{known}
 use Rattle.part.specs.declared.Device.{Device}
 use Rattle.settings.specs.Settings.{placeOf, hasSetting, bitsOf, fuseOf}
 use Rattle.settings.specs.declared.Setting.{Setting}
@@ -18,7 +18,6 @@ use Rattle.edit.proofs.Steps.{place-again, its-byte, its-index}
 use borrow.Author.Needs.{needs}
 use Rattle.edit.proofs.internal.spot_of.Statement.{statement}
 use Rattle.edit.proofs.internal.spot_of.Tie as tie
-use Rattle.edit.proofs.internal.spot_of.Reads as reads
 
 module _ (d : Device) (s : Setting) (b : ℕ) (k : known d ≡ true) (h : hasSetting d s ≡ true) (l : b < bitsOf s) (p : Place) (e : p ≡ placeOf s b) where
   has-byte : hasByte d (p .byte) ≡ true

@@ -1,6 +1,6 @@
 -- `stray_in` meets its contract: by what the bytes are.
 -- Assumes nothing.
-use mathlib.Core.Path.{_≡_, _∙_}
+use mathlib.Core.Path.{_≡_}
 use mathlib.Core.Bool.{Bool, true, false}
 use mathlib.Core.List.{List}
 use Prim.Native.Nat.{ℕ}
@@ -12,7 +12,6 @@ use Rattle.edit.specs.Edit.{bytesOf, strayOf, strayIn}
 use borrow.Author.Needs.{needs}
 use Rattle.edit.proofs.internal.stray_in.Statement.{statement}
 use Rattle.edit.proofs.internal.stray_in.Tie as tie
-use Rattle.edit.proofs.internal.stray_in.Reads as reads
 
 module _ (d : Device) (form : Bool) (bytes : List ℕ) (s : Setting) (r : ℕ) where
   its-size : form ≡ true → length bytes ≡ bytesOf d form → length bytes ≡ readoutBytes d

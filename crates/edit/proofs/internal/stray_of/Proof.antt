@@ -1,7 +1,7 @@
 -- `stray_of` meets its contract: one more byte looked at at each turn.
 -- Assumes nothing.
-use mathlib.Core.Path.{_≡_, refl, sym, _∙_, ap}
-use mathlib.Core.Bool.{Bool, true, false, cond, not, _&&_}
+use mathlib.Core.Path.{_≡_, _∙_, ap}
+use mathlib.Core.Bool.{true, cond, not, _&&_}
 use mathlib.Core.List.{List}
 use Prim.Native.Nat.{ℕ, suc, _+_, _-_, _/_, _^_, _<_, _≤_}
 use native.Mathlib.Omega.{arith}
@@ -21,7 +21,6 @@ use Rattle.edit.proofs.Steps.{its-byte, its-index, its-test}
 use borrow.Author.Needs.{needs}
 use Rattle.edit.proofs.internal.stray_of.Statement.{statement}
 use Rattle.edit.proofs.internal.stray_of.Tie as tie
-use Rattle.edit.proofs.internal.stray_of.Reads as reads
 
 -- the lowest index so far
 record Looked (d : Device) (readout : List ℕ) (s : Setting) (width lowest bit : ℕ) : Type 0 where

@@ -3,7 +3,6 @@
 use borrow.Author.Needs.{needs}
 use Rattle.setting_values.proofs.internal.global_kind.Statement.{statement}
 use Rattle.setting_values.proofs.internal.global_kind.Tie as tie
-use Rattle.setting_values.proofs.internal.global_kind.Reads as reads
 
 is-large-requires : tie.Need-is-large-requires
 is-large-requires c κs = search needs

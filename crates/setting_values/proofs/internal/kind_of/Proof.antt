@@ -4,7 +4,6 @@ use Rattle.setting_values.specs.Kinds.{kindOf}
 use borrow.Author.Needs.{needs}
 use Rattle.setting_values.proofs.internal.kind_of.Statement.{statement}
 use Rattle.setting_values.proofs.internal.kind_of.Tie as tie
-use Rattle.setting_values.proofs.internal.kind_of.Reads as reads
 
 enum-told : tie.Need-enum-told
 enum-told c = search needs

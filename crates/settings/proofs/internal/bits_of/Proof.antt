@@ -15,7 +15,6 @@ use Rattle.settings.proofs.Numbers.{has-macrocell, macrocell-at}
 use borrow.Author.Needs.{needs}
 use Rattle.settings.proofs.internal.bits_of.Statement.{statement}
 use Rattle.settings.proofs.internal.bits_of.Tie as tie
-use Rattle.settings.proofs.internal.bits_of.Reads as reads
 
 module _ (d : Device) (s : Setting) (block m : ℕ) (f : MacrocellField) (i : ℕ)
     (h : hasSetting d s ≡ true) (e : s ≡ Macrocell block m f) (q : i ≡ macrocellIndex f) where

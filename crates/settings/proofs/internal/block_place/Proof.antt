@@ -6,7 +6,7 @@ use Prim.Native.Nat.{ℕ, _<_}
 use native.Mathlib.Omega.{arith}
 use lib.ListN.{getD}
 use Rattle.part.specs.declared.Place.{Place}
-use Rattle.settings.specs.Fields.{blockFields, blockIndex}
+use Rattle.settings.specs.Fields.{blockIndex}
 use Rattle.settings.specs.Settings.{main, blockPlace}
 use Rattle.settings.specs.declared.BlockField.{BlockField}
 use Rattle.settings.specs.declared.BlockField.the-variants.{Enable, ExportEnable, PullupDisable, ReadProtA, ReadProtB, WriteProt}
@@ -14,7 +14,6 @@ use Rattle.settings.proofs.Numbers.{block-at}
 use borrow.Author.Needs.{needs}
 use Rattle.settings.proofs.internal.block_place.Statement.{statement}
 use Rattle.settings.proofs.internal.block_place.Tie as tie
-use Rattle.settings.proofs.internal.block_place.Reads as reads
 
 rows : List ℕ
 rows = 67 ∷ 67 ∷ 68 ∷ 11 ∷ 68 ∷ 68 ∷ []

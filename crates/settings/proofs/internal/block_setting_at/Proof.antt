@@ -4,7 +4,6 @@ use Rattle.settings.proofs.Numbers.{whole}
 use borrow.Author.Needs.{needs}
 use Rattle.settings.proofs.internal.block_setting_at.Statement.{statement}
 use Rattle.settings.proofs.internal.block_setting_at.Tie as tie
-use Rattle.settings.proofs.internal.block_setting_at.Reads as reads
 
 block-field-at-requires : tie.Need-block-field-at-requires
 block-field-at-requires c κs = search needs

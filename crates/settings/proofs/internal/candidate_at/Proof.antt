@@ -16,7 +16,6 @@ use Rattle.settings.specs.Back.{candidateAt}
 use borrow.Author.Needs.{needs}
 use Rattle.settings.proofs.internal.candidate_at.Statement.{statement}
 use Rattle.settings.proofs.internal.candidate_at.Tie as tie
-use Rattle.settings.proofs.internal.candidate_at.Reads as reads
 
 in-main : (d : Device) (p : Place) (block row column : ℕ) → hasPlace d p ≡ true → p .byte ≡ Main block row column
     → (p .bit < 8) × (column < 15)

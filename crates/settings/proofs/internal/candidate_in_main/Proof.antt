@@ -1,6 +1,6 @@
 -- `candidate_in_main` meets its contract: each branch rewrites with the tests that led there.
 -- Assumes nothing.
-use mathlib.Core.Path.{_≡_, _∙_, ap}
+use mathlib.Core.Path.{_≡_, ap}
 use Prim.Native.Nat.{ℕ, _+_, _<_, _≤_}
 use native.Mathlib.Omega.{arith}
 use borrow.Author.Tests.{lt-ltb, le-ltb}
@@ -11,7 +11,6 @@ use Rattle.settings.proofs.Places.{at-row, rows-some}
 use borrow.Author.Needs.{needs}
 use Rattle.settings.proofs.internal.candidate_in_main.Statement.{statement}
 use Rattle.settings.proofs.internal.candidate_in_main.Tie as tie
-use Rattle.settings.proofs.internal.candidate_in_main.Reads as reads
 
 module _ (row i : ℕ) (e : i ≡ fieldIndexAtRow row) where
   starts : 12 ≤ row → row < 55 → (i < 27) × (0 < rows (macrocellFieldAt i))

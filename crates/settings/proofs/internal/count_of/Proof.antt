@@ -7,7 +7,6 @@ use Rattle.settings.proofs.Numbers.{ends, count-small}
 use borrow.Author.Needs.{needs}
 use Rattle.settings.proofs.internal.count_of.Statement.{statement}
 use Rattle.settings.proofs.internal.count_of.Tie as tie
-use Rattle.settings.proofs.internal.count_of.Reads as reads
 
 start-of-globals-requires : tie.Need-start-of-globals-requires
 start-of-globals-requires c κs = search needs

@@ -9,7 +9,6 @@ use Rattle.settings.specs.Fields.{foes}
 use borrow.Author.Needs.{needs}
 use Rattle.settings.proofs.internal.foe_count.Statement.{statement}
 use Rattle.settings.proofs.internal.foe_count.Tie as tie
-use Rattle.settings.proofs.internal.foe_count.Reads as reads
 
 large : (d : Device) (t : Bool) → t ≡ isLarge d → t ≡ true → _≡_ {A = ℕ} 4 (foes d)
 large d t e h = rw (sym e ∙ h)

@@ -4,7 +4,7 @@ use mathlib.Core.Path.{_≡_}
 use mathlib.Core.Bool.{true}
 use Prim.Native.Nat.{ℕ, _+_, _<_}
 use native.Mathlib.Omega.{arith}
-use Rattle.part.specs.Device.{known, fuseCount}
+use Rattle.part.specs.Device.{known}
 use Rattle.part.specs.Place.{hasPlace, hasByte, firstFuse}
 use Rattle.part.specs.declared.Device.{Device}
 use Rattle.part.specs.declared.Place.{Place}
@@ -17,7 +17,6 @@ use Rattle.settings.proofs.Places.{has-place}
 use borrow.Author.Needs.{needs}
 use Rattle.settings.proofs.internal.fuse_of.Statement.{statement}
 use Rattle.settings.proofs.internal.fuse_of.Tie as tie
-use Rattle.settings.proofs.internal.fuse_of.Reads as reads
 
 module _ (d : Device) (s : Setting) (bit : ℕ) (k : known d ≡ true) (h : hasSetting d s ≡ true) (hb : bit < bitsOf s)
     (p : Place) (e : p ≡ placeOf s bit) where

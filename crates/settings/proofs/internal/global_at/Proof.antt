@@ -4,7 +4,6 @@ use Rattle.settings.proofs.Numbers.{whole}
 use borrow.Author.Needs.{needs}
 use Rattle.settings.proofs.internal.global_at.Statement.{statement}
 use Rattle.settings.proofs.internal.global_at.Tie as tie
-use Rattle.settings.proofs.internal.global_at.Reads as reads
 
 global-field-at-requires : tie.Need-global-field-at-requires
 global-field-at-requires c κs = search needs

@@ -6,7 +6,6 @@ use Rattle.settings.proofs.Numbers.{few}
 use borrow.Author.Needs.{needs}
 use Rattle.settings.proofs.internal.global_field_at.Statement.{statement}
 use Rattle.settings.proofs.internal.global_field_at.Tie as tie
-use Rattle.settings.proofs.internal.global_field_at.Reads as reads
 
 foe-count-requires : tie.Need-foe-count-requires
 foe-count-requires c κs = search needs

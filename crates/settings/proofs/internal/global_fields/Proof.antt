@@ -5,7 +5,6 @@ use Rattle.settings.proofs.Numbers.{few}
 use borrow.Author.Needs.{needs}
 use Rattle.settings.proofs.internal.global_fields.Statement.{statement}
 use Rattle.settings.proofs.internal.global_fields.Tie as tie
-use Rattle.settings.proofs.internal.global_fields.Reads as reads
 
 foe-count-requires : tie.Need-foe-count-requires
 foe-count-requires c κs = search needs

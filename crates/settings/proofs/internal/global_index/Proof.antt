@@ -11,7 +11,6 @@ use Rattle.settings.proofs.Numbers.{few}
 use borrow.Author.Needs.{needs}
 use Rattle.settings.proofs.internal.global_index.Statement.{statement}
 use Rattle.settings.proofs.internal.global_index.Tie as tie
-use Rattle.settings.proofs.internal.global_index.Reads as reads
 
 -- what the code has at each return: the field, what `listed_at` gave, and the two counts
 module _ (d : Device) (f : GlobalField) (x r count past : ℕ) (q : count ≡ foes d) (p : past ≡ globalFields (foes d)) where

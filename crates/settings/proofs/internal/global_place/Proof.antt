@@ -12,7 +12,6 @@ use Rattle.settings.proofs.Numbers.{few, numbered}
 use borrow.Author.Needs.{needs}
 use Rattle.settings.proofs.internal.global_place.Statement.{statement}
 use Rattle.settings.proofs.internal.global_place.Tie as tie
-use Rattle.settings.proofs.internal.global_place.Reads as reads
 
 -- the numbers that the fields carry are small, so that no sum wraps
 module _ (d : Device) (f : GlobalField) (x bit : ℕ) (h : globalIndex (foes d) f < globalFields (foes d)) (hb : bit < globalBits f) where

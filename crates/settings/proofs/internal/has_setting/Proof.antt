@@ -4,7 +4,6 @@ use Rattle.settings.specs.Settings.{hasSetting}
 use borrow.Author.Needs.{needs}
 use Rattle.settings.proofs.internal.has_setting.Statement.{statement}
 use Rattle.settings.proofs.internal.has_setting.Tie as tie
-use Rattle.settings.proofs.internal.has_setting.Reads as reads
 
 blocks-of-requires : tie.Need-blocks-of-requires
 blocks-of-requires c κs = search needs

@@ -4,7 +4,6 @@ use Rattle.settings.proofs.Numbers.{whole}
 use borrow.Author.Needs.{needs}
 use Rattle.settings.proofs.internal.literal_at.Statement.{statement}
 use Rattle.settings.proofs.internal.literal_at.Tie as tie
-use Rattle.settings.proofs.internal.literal_at.Reads as reads
 
 polarity-at-requires : tie.Need-polarity-at-requires
 polarity-at-requires c κs = search needs

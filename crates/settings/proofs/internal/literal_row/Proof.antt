@@ -9,7 +9,6 @@ use Rattle.settings.specs.declared.Polarity.the-variants.{P, N}
 use borrow.Author.Needs.{needs}
 use Rattle.settings.proofs.internal.literal_row.Statement.{statement}
 use Rattle.settings.proofs.internal.literal_row.Tie as tie
-use Rattle.settings.proofs.internal.literal_row.Reads as reads
 
 at-most : (p : Polarity) → literalRow 0 p ≤ 1
 at-most P = omega arith

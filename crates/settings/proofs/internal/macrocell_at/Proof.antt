@@ -4,7 +4,6 @@ use Rattle.settings.proofs.Numbers.{whole}
 use borrow.Author.Needs.{needs}
 use Rattle.settings.proofs.internal.macrocell_at.Statement.{statement}
 use Rattle.settings.proofs.internal.macrocell_at.Tie as tie
-use Rattle.settings.proofs.internal.macrocell_at.Reads as reads
 
 mul-in-block : tie.Need-mul-in-block
 mul-in-block c = search needs

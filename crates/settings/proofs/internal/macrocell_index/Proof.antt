@@ -3,7 +3,6 @@
 use borrow.Author.Needs.{needs}
 use Rattle.settings.proofs.internal.macrocell_index.Statement.{statement}
 use Rattle.settings.proofs.internal.macrocell_index.Tie as tie
-use Rattle.settings.proofs.internal.macrocell_index.Reads as reads
 
 enum-known-field : tie.Need-enum-known-field
 enum-known-field c = search needs

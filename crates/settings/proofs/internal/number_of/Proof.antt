@@ -6,7 +6,6 @@ use Rattle.settings.proofs.Numbers.{literal-number, wire-and-number, ma
 use borrow.Author.Needs.{needs}
 use Rattle.settings.proofs.internal.number_of.Statement.{statement}
 use Rattle.settings.proofs.internal.number_of.Tie as tie
-use Rattle.settings.proofs.internal.number_of.Reads as reads
 
 enum-known-s : tie.Need-enum-known-s
 enum-known-s c = search needs

@@ -1,6 +1,6 @@
 -- `place_of` meets its contract: each arm is the line of the definition for its group.
 -- Assumes nothing.
-use mathlib.Core.Path.{_≡_, refl, sym, _∙_, ap}
+use mathlib.Core.Path.{_≡_, _∙_, ap}
 use mathlib.Core.Bool.{true}
 use Prim.Native.Nat.{ℕ, _+_, _*_, _/_, _%_, _<_}
 use native.Mathlib.Omega.{arith}
@@ -17,7 +17,6 @@ use Rattle.settings.proofs.Numbers.{has-literal, has-macrocell, has-glo
 use borrow.Author.Needs.{needs}
 use Rattle.settings.proofs.internal.place_of.Statement.{statement}
 use Rattle.settings.proofs.internal.place_of.Tie as tie
-use Rattle.settings.proofs.internal.place_of.Reads as reads
 
 at-literal : (block j k l : ℕ) (p : Polarity) (row bit : ℕ) (r : Place) → row ≡ literalRow l p
     → r ≡ main block row (k + 5 * (j % 3)) (j / 3) → r ≡ placeOf (Literal block j k l p) bit

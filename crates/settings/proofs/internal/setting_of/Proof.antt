@@ -11,7 +11,6 @@ use Rattle.settings.proofs.Numbers.{in-its-group}
 use borrow.Author.Needs.{needs}
 use Rattle.settings.proofs.internal.setting_of.Statement.{statement}
 use Rattle.settings.proofs.internal.setting_of.Tie as tie
-use Rattle.settings.proofs.internal.setting_of.Reads as reads
 
 among : (d : Device) (g : Group) (x a : ℕ) (r : Setting) → a ≡ start d g → a ≤ x → x < start d g + size d g → r ≡ inGroup d g (x - a)
     → r ≡ settingOf d x

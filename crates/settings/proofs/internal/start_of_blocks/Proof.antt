@@ -6,7 +6,6 @@ use Rattle.settings.proofs.Numbers.{ends, count-small}
 use borrow.Author.Needs.{needs}
 use Rattle.settings.proofs.internal.start_of_blocks.Statement.{statement}
 use Rattle.settings.proofs.internal.start_of_blocks.Tie as tie
-use Rattle.settings.proofs.internal.start_of_blocks.Reads as reads
 
 start-of-macrocells-requires : tie.Need-start-of-macrocells-requires
 start-of-macrocells-requires c κs = search needs

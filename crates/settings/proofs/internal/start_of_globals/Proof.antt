@@ -6,7 +6,6 @@ use Rattle.settings.proofs.Numbers.{ends, count-small}
 use borrow.Author.Needs.{needs}
 use Rattle.settings.proofs.internal.start_of_globals.Statement.{statement}
 use Rattle.settings.proofs.internal.start_of_globals.Tie as tie
-use Rattle.settings.proofs.internal.start_of_globals.Reads as reads
 
 start-of-blocks-requires : tie.Need-start-of-blocks-requires
 start-of-blocks-requires c κs = search needs

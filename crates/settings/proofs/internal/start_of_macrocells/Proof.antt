@@ -6,7 +6,6 @@ use Rattle.settings.proofs.Numbers.{ends, count-small}
 use borrow.Author.Needs.{needs}
 use Rattle.settings.proofs.internal.start_of_macrocells.Statement.{statement}
 use Rattle.settings.proofs.internal.start_of_macrocells.Tie as tie
-use Rattle.settings.proofs.internal.start_of_macrocells.Reads as reads
 
 blocks-of-requires : tie.Need-blocks-of-requires
 blocks-of-requires c κs = search needs

@@ -7,7 +7,6 @@ use Rattle.settings.proofs.Places.{block-0}
 use borrow.Author.Needs.{needs}
 use Rattle.settings.proofs.internal.wire_and_at.Statement.{statement}
 use Rattle.settings.proofs.internal.wire_and_at.Tie as tie
-use Rattle.settings.proofs.internal.wire_and_at.Reads as reads
 
 blocks-of-requires : tie.Need-blocks-of-requires
 blocks-of-requires c κs = search needs
