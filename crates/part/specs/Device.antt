@@ -1,5 +1,5 @@
 -- Which devices there are, and how many fuses and bytes each has: document 01, "Covered by the first build" and
--- "Three pictures of one part". The crates above speak of `known`, the fuse count and the lengths, never of the fields.
+-- "Three pictures of one part". Public contracts above speak of `known`, the fuse count and the lengths, never of the fields.
 use Prim.Native.Nat.{ℕ, _+_, _*_, _-_, _/_}
 use mathlib.Core.Bool.{Bool, cond, _&&_, _||_}
 use lib.Dec.{eqb, ltb}
