@@ -1,0 +1,3 @@
+-- The laws about texts.
+-- Assumes nothing.
+pub mod Examples

@@ -1,0 +1,9 @@
+-- What a JEDEC text means and what the writer writes, for any fuse count and any line pattern: document 01, "Reading and writing the text".
+-- Characters and numbers; cutting, judging and rules, each by itself; the whole text; the writer's text.
+pub mod Characters
+pub mod Cut
+pub mod Judge
+pub mod Rules
+pub mod Meaning
+pub mod Written
+pub mod Cases
