@@ -1,3 +1,10 @@
--- The laws about texts.
+-- Laws lists what holds of texts; the other modules prove it.
 -- Assumes nothing.
-pub mod Examples
+pub mod Cases
+pub mod Numbers
+pub mod Conditions
+pub mod Cutting
+pub mod Forms
+pub mod Judging
+pub mod ReadBack
+pub mod Laws

@@ -6,4 +6,5 @@ pub mod Judge
 pub mod Rules
 pub mod Meaning
 pub mod Written
+pub mod Form
 pub mod Cases

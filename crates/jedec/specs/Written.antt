@@ -1,6 +1,6 @@
 -- What the writer writes for an image of so many fuses, by a line pattern: for each L line the widths of its columns.
 -- "STX, `*`, LF; `QF`, the count, `*`, LF; `F0*`, LF; the L lines; `C`, four upper-case digits, `*`, LF; ETX and four upper-case digits"
-use Prim.Native.Nat.{ℕ, zero, suc, _+_}
+use Prim.Native.Nat.{ℕ, zero, suc, _+_, _<_}
 use mathlib.Core.List.{List, [], _∷_, _++_}
 use Rattle.cells.specs.Cells.{total}
 use Rattle.image.specs.Image.{state, sum16}
@@ -27,6 +27,15 @@ lineText image fuse widths = letterL ∷ sevenDigits fuse ++ columnsText image f
 unfoldable pub linesText : (image : List ℕ) → (fuse : ℕ) → (pattern : List (List ℕ)) → List ℕ
 linesText image fuse [] = []
 linesText image fuse (widths ∷ pattern) = lineText image fuse widths ++ linesText image (fuse + total widths) pattern
+
+-- the fuses that a pattern has lines for, and that no line is empty
+unfoldable pub patternFuses : (pattern : List (List ℕ)) → ℕ
+patternFuses [] = 0
+patternFuses (widths ∷ pattern) = total widths + patternFuses pattern
+
+abbrev pub NoneEmpty : (pattern : List (List ℕ)) → Type 0
+NoneEmpty [] = Unit {0}
+NoneEmpty (widths ∷ pattern) = (0 < total widths) × NoneEmpty pattern
 
 -- from STX to ETX
 abbrev pub headText : (fuses : ℕ) → List ℕ

@@ -1,0 +1,131 @@
+-- A text put together from its parts is cut into these parts: `assembled` in specs/Form.antt.
+-- Assumes nothing.
+use mathlib.Core.Path.{_≡_, refl, sym, _∙_, ap}
+use mathlib.Core.Bool.{Bool, true, false, cond, not, _&&_, true≢false}
+use mathlib.Core.List.{List, [], _∷_, _++_, append-assoc}
+use mathlib.Core.Option.Option.{some}
+use Prim.Native.Nat.{ℕ, suc, _+_}
+use native.Mathlib.Omega.{arith}
+use lib.Dec.{eqb}
+use lib.ListN.{length, drop, length-append}
+use lib.Seq.{drop-append-seam}
+use borrow.Author.Tests.{not-true, ne-eqb}
+use Rattle.part.proofs.Facts.{and-iff}
+use Rattle.jedec.specs.Characters.{etx, star, isBlank}
+use Rattle.jedec.specs.Cut.{Pieces, onFirst, pieces, blanksBefore, Cut, startsWith, withField, fieldsFrom}
+use Rattle.jedec.specs.Form.{all, notStar, Part, starts, RightPart, RightParts, partsText, next, fieldsOf, endOf}
+
+-- bytes without a `*` stay together
+piece-byte : (b : ℕ) → notStar b ≡ true → (bytes : List ℕ) → pieces (b ∷ bytes) ≡ onFirst b (pieces bytes .ended) (pieces bytes .rest)
+unfolding pieces
+piece-byte b h bytes = rw (not-true (eqb b star) h)
+
+pub no-star-pieces : (bytes : List ℕ) → all notStar bytes ≡ true → pieces bytes ≡ record { ended = []; rest = bytes }
+unfolding all pieces
+no-star-pieces [] h = refl
+no-star-pieces (b ∷ bytes) h =
+    let both = and-iff (notStar b) (all notStar bytes) .0 h in
+    piece-byte b (both .0) bytes ∙ rw (no-star-pieces bytes (both .1))
+
+-- .. up to the next `*`
+pub star-pieces : (bytes rest : List ℕ) → all notStar bytes ≡ true
+    → pieces (bytes ++ star ∷ rest) ≡ record { ended = bytes ∷ pieces rest .ended; rest = pieces rest .rest }
+unfolding all pieces
+star-pieces [] rest h = refl
+star-pieces (b ∷ bytes) rest h =
+    let both = and-iff (notStar b) (all notStar bytes) .0 h in
+    piece-byte b (both .0) (bytes ++ star ∷ rest) ∙ rw (star-pieces bytes rest (both .1))
+
+-- blanks before a field
+pub blanks-before : (blanks bytes : List ℕ) → all isBlank blanks ≡ true → blanksBefore bytes ≡ 0 → blanksBefore (blanks ++ bytes) ≡ length blanks
+unfolding all blanksBefore
+blanks-before [] bytes h none = none
+blanks-before (b ∷ blanks) bytes h none =
+    let both = and-iff (isBlank b) (all isBlank blanks) .0 h in
+    rw (both .0) (ap suc (blanks-before blanks bytes (both .1) none))
+
+-- a field starts with no blank and no ETX
+record Starting (bytes : List ℕ) : Type 0 where
+  no-blank : blanksBefore bytes ≡ 0
+  no-etx : startsWith etx bytes ≡ false
+
+starting : (bytes : List ℕ) → starts bytes ≡ true → Starting bytes
+unfolding blanksBefore
+starting [] h = record { no-blank = refl; no-etx = refl }
+starting (b ∷ bytes) h =
+    let both = and-iff (not (isBlank b)) (not (eqb b etx)) .0 h in
+    record { no-blank = rw (not-true (isBlank b) (both .0)); no-etx = not-true (eqb b etx) (both .1) }
+
+-- bytes that all pass a test, one after the other
+pub all-append : (test : ℕ → Bool) (xs ys : List ℕ) → all test xs ≡ true → all test ys ≡ true → all test (xs ++ ys) ≡ true
+unfolding all
+all-append test [] ys h k = k
+all-append test (b ∷ xs) ys h k =
+    let both = and-iff (test b) (all test xs) .0 h in
+    and-iff (test b) (all test (xs ++ ys)) .1 (both .0, all-append test xs ys (both .1) k)
+
+-- no blank is a `*`
+pub blank-no-star : (bytes : List ℕ) → all isBlank bytes ≡ true → all notStar bytes ≡ true
+unfolding all
+blank-no-star [] h = refl
+blank-no-star (b ∷ bytes) h =
+    let both = and-iff (isBlank b) (all isBlank bytes) .0 h in
+    and-iff (notStar b) (all notStar bytes) .1 (one b (both .0), blank-no-star bytes (both .1))
+  where
+    one : (b : ℕ) → isBlank b ≡ true → notStar b ≡ true
+    one b h = rw (ne-eqb b star (λ e. true≢false (sym (rw e at h))))
+
+-- one field, and the rest of the pieces
+one-field : (at : ℕ) (p : Part) → RightPart p → (ended : List (List ℕ)) (rest : List ℕ)
+    → fieldsFrom at ((p .blanks ++ p .bytes) ∷ ended) rest
+    ≡ record {
+      fields = record { start = at + length (p .blanks); bytes = p .bytes } ∷ fieldsFrom (next at p) ended rest .fields;
+      end = fieldsFrom (next at p) ended rest .end;
+    }
+unfolding fieldsFrom
+one-field at p right ended rest =
+    let s = starting (p .bytes) (right .begins) in
+    rw (blanks-before (p .blanks) (p .bytes) (right .blank) (s .no-blank), drop-append-seam (p .blanks) (p .bytes), s .no-etx)
+
+-- the parts before blanks and ETX
+module _ (gap tail : List ℕ) (blank : all isBlank gap ≡ true) (no-star : all notStar tail ≡ true) where
+  last : List ℕ
+  last = gap ++ etx ∷ tail
+
+  last-pieces : pieces last ≡ record { ended = []; rest = last }
+  unfolding last all
+  last-pieces = no-star-pieces (gap ++ etx ∷ tail) (all-append notStar gap (etx ∷ tail) (blank-no-star gap blank) no-star)
+
+  last-cut : (at : ℕ) → fieldsFrom at [] last ≡ record { fields = []; end = some (at + length gap) }
+  unfolding last fieldsFrom blanksBefore
+  last-cut at = rw (blanks-before gap (etx ∷ tail) blank refl, drop-append-seam gap (etx ∷ tail))
+
+  cutFrom : ℕ → List ℕ → Cut
+  cutFrom at text = fieldsFrom at (pieces text .ended) (pieces text .rest)
+
+  parts-last : (at : ℕ) (parts : List Part) → RightParts parts
+      → cutFrom at (partsText parts ++ last) ≡ record { fields = fieldsOf at parts; end = some (endOf at parts + length gap) }
+  unfolding partsText fieldsOf endOf cutFrom
+  parts-last at [] right = rw last-pieces (last-cut at)
+  parts-last at (p ∷ parts) right =
+      let piece = p .blanks ++ p .bytes in
+      let regrouped : partsText (p ∷ parts) ++ last ≡ piece ++ (star ∷ (partsText parts ++ last)) = append-assoc piece (star ∷ partsText parts) last in
+      let no-star-in : all notStar piece ≡ true =
+      all-append notStar (p .blanks) (p .bytes) (blank-no-star (p .blanks) (right .0 .blank)) (right .0 .no-star) in
+      rw (regrouped, star-pieces piece (partsText parts ++ last) no-star-in)
+      (one-field at p (right .0) (pieces (partsText parts ++ last) .ended) (pieces (partsText parts ++ last) .rest)
+      ∙ rw (parts-last (next at p) parts (right .1)))
+
+  pub parts-cut : (at : ℕ) (parts : List Part) → RightParts parts
+      → fieldsFrom at (pieces (partsText parts ++ (gap ++ etx ∷ tail)) .ended) (pieces (partsText parts ++ (gap ++ etx ∷ tail)) .rest)
+      ≡ record { fields = fieldsOf at parts; end = some (endOf at parts + length gap) }
+  unfolding last cutFrom
+  parts-cut at parts right = parts-last at parts right
+
+-- where the parts end
+pub end-of : (at : ℕ) (parts : List Part) → endOf at parts ≡ at + length (partsText parts)
+unfolding endOf partsText
+end-of at [] = omega arith
+end-of at (p ∷ parts) =
+    end-of (next at p) parts
+    ∙ omega (arith, length-append (p .blanks ++ p .bytes) (star ∷ partsText parts))

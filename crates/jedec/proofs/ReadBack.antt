@@ -1,0 +1,294 @@
+-- What is written is read back: the writer's text of any image is accepted and gives that image, for any fuse count and line pattern.
+-- Assumes nothing.
+use mathlib.Core.Path.{_≡_, refl, sym, _∙_, ap}
+use mathlib.Core.Logic.{inr}
+use mathlib.Core.Bool.{Bool, true, false, cond, _&&_, _||_}
+use mathlib.Core.List.{List, [], _∷_, _++_, append-assoc, append-nil}
+use mathlib.Core.Option.{Option}
+use mathlib.Core.Option.Option.{none, some}
+use Prim.Native.Nat.{ℕ, zero, suc, _+_, _*_, _-_, _/_, _%_, _^_, _<_, _≤_}
+use native.Mathlib.Omega.{arith}
+use native.Mathlib.Nat.{mod-lt, mod-eq-of-lt}
+use lib.Dec.{eqb, leb, ltb}
+use lib.ListN.{length, take, getD, length-append}
+use lib.Seq.{append-snoc, take-at, ext-getD}
+use borrow.Author.Tests.{lt-ltb, le-ltb, le-leb, lt-leb, eq-eqb}
+use Rattle.part.specs.Outcome.Outcome.{accepted}
+use Rattle.part.proofs.Facts.{compared}
+use Rattle.cells.specs.Cells.{total}
+use Rattle.image.specs.Bits.{bitOf, bitAt, gathered, tabulate}
+use Rattle.image.specs.Image.{state, sum16}
+use Rattle.image.proofs.Bits.{gathered-same, gathered-own, tabulate-length, tabulate-at}
+use Rattle.jedec.specs.Characters.{stx, etx, lf, star, letterC, letterF, letterQ, isBlank, decimalDigit, countDigits, fourHex}
+use Rattle.jedec.specs.Cut.{Field, holdsMark}
+use Rattle.jedec.specs.Judge.{Judged, judge}
+use Rattle.jedec.specs.Judge.Judged.{count, start, sum}
+use Rattle.jedec.specs.Rules.{At, Listed, Known, nothing, inOrder, after, Fields, allFields, endOf, misplaced, stateGiven, within, imageWith}
+use Rattle.jedec.specs.Rules.Fields.{known}
+use Rattle.jedec.specs.Meaning.{longest, meaning}
+use Rattle.jedec.specs.Written.{lineEnd, linesText, patternFuses, NoneEmpty, footText, upToEtx, textWith}
+use Rattle.jedec.specs.Form as form
+use Rattle.jedec.specs.Form.{all, notStar, Part, RightPart, RightParts, partsText, next, fieldsOf, headOf, assembled, RightForm, firstAt, etxAt, Concluded, Image}
+use Rattle.jedec.proofs.Numbers.{sum-back}
+use Rattle.jedec.proofs.Forms.{head-length, assembled-accepted}
+use Rattle.jedec.proofs.Judging.{plain, plain-no-star, decimal-digits-plain, hex-digits-plain, statesOf, count-judged, start-judged, sum-judged, lineBytes, line-plain, line-judged}
+
+-- the parts of the writer's text: each field stands after the LF of the line before
+part : List ℕ → Part
+part bytes = record { blanks = lf ∷ []; bytes = bytes }
+
+lineParts : (image : List ℕ) → (fuse : ℕ) → (pattern : List (List ℕ)) → List Part
+lineParts image fuse [] = []
+lineParts image fuse (widths ∷ pattern) = part (lineBytes image fuse widths) ∷ lineParts image (fuse + total widths) pattern
+
+writtenParts : (fuses : ℕ) → (pattern : List (List ℕ)) → (image : List ℕ) → List Part
+writtenParts fuses pattern image =
+    part (letterQ ∷ letterF ∷ countDigits fuses)
+    ∷ part (letterF ∷ decimalDigit 0 ∷ [])
+    ∷ (lineParts image 0 pattern ++ (part (letterC ∷ fourHex (sum16 image)) ∷ []))
+
+-- the text is put together from them
+parts-append : (ps qs : List Part) → partsText (ps ++ qs) ≡ partsText ps ++ partsText qs
+unfolding partsText
+parts-append [] qs = refl
+parts-append (p ∷ ps) qs = rw (parts-append ps qs) (sym (append-assoc (p .blanks ++ p .bytes) (star ∷ partsText ps) (partsText qs)))
+
+lines-shifted : (image : List ℕ) (fuse : ℕ) (pattern : List (List ℕ)) (rest : List ℕ)
+    → lf ∷ (linesText image fuse pattern ++ rest) ≡ partsText (lineParts image fuse pattern) ++ (lf ∷ rest)
+unfolding linesText partsText lineParts part
+lines-shifted image fuse [] rest = refl
+lines-shifted image fuse (widths ∷ pattern) rest =
+    let line = lineBytes image fuse widths in
+    let others = linesText image (fuse + total widths) pattern in
+    let parts = partsText (lineParts image (fuse + total widths) pattern) in
+    let regrouped : lf ∷ (((line ++ (star ∷ lf ∷ [])) ++ others) ++ rest) ≡ (lf ∷ line) ++ (star ∷ (lf ∷ (others ++ rest))) = simp append-assoc in
+    regrouped
+    ∙ rw (lines-shifted image (fuse + total widths) pattern rest) (sym (append-assoc (lf ∷ line) (star ∷ parts) (lf ∷ rest)))
+
+-- over any lists: the digits of the count, the lines as text and as parts, the digits of the sum
+text-shifted : (d l c p : List ℕ) → lf ∷ (l ++ (letterC ∷ c ++ lineEnd ++ etx ∷ [])) ≡ p ++ (lf ∷ (letterC ∷ c ++ lineEnd ++ etx ∷ []))
+    → (stx ∷ lineEnd ++ letterQ ∷ letterF ∷ d ++ lineEnd ++ letterF ∷ decimalDigit 0 ∷ lineEnd) ++ l ++ (letterC ∷ c ++ lineEnd ++ etx ∷ [])
+    ≡ (stx ∷ [])
+    ++ (star ∷ (((lf ∷ []) ++ (letterQ ∷ letterF ∷ d) ++ star ∷ ((lf ∷ []) ++ (letterF ∷ decimalDigit 0 ∷ []) ++ star ∷ (p ++ ((lf ∷ []) ++ (letterC ∷ c) ++ star ∷ [])))) ++ (lf ∷ [])))
+    ++ (etx ∷ [])
+text-shifted d l c p e =
+    let begin : List ℕ → List ℕ = λ z. stx ∷ star ∷ lf ∷ letterQ ∷ letterF ∷ z in
+    let around : List ℕ → List ℕ = λ z. begin (d ++ (star ∷ lf ∷ letterF ∷ decimalDigit 0 ∷ star ∷ z)) in
+    let foot = letterC ∷ c ++ lineEnd ++ etx ∷ [] in
+    let fields = star ∷ lf ∷ letterF ∷ decimalDigit 0 ∷ star ∷ (p ++ (lf ∷ letterC ∷ (c ++ (star ∷ [])))) in
+    ap begin
+    (append-assoc (d ++ lineEnd ++ (letterF ∷ decimalDigit 0 ∷ lineEnd)) l foot
+    ∙ append-assoc (d ++ lineEnd) (letterF ∷ decimalDigit 0 ∷ lineEnd) (l ++ foot)
+    ∙ append-assoc d lineEnd (letterF ∷ decimalDigit 0 ∷ lineEnd ++ (l ++ foot)))
+    ∙ ap around e
+    ∙ ap (λ (z : List ℕ). around (p ++ (lf ∷ letterC ∷ z))) (append-assoc c lineEnd (etx ∷ []))
+    ∙ sym
+    (ap begin (append-assoc (d ++ fields) (lf ∷ []) (etx ∷ []) ∙ append-assoc d fields (lf ∷ etx ∷ []))
+    ∙ ap around (append-assoc p (lf ∷ letterC ∷ (c ++ (star ∷ []))) (lf ∷ etx ∷ []))
+    ∙ ap (λ (z : List ℕ). around (p ++ (lf ∷ letterC ∷ z))) (append-assoc c (star ∷ []) (lf ∷ etx ∷ [])))
+
+upto-assembled : (fuses : ℕ) (pattern : List (List ℕ)) (image : List ℕ)
+    → upToEtx fuses pattern image ≡ headOf [] (writtenParts fuses pattern image) (lf ∷ [])
+unfolding upToEtx writtenParts partsText part
+upto-assembled fuses pattern image =
+    rw (parts-append (lineParts image 0 pattern) (part (letterC ∷ fourHex (sum16 image)) ∷ []))
+    (text-shifted (countDigits fuses) (linesText image 0 pattern) (fourHex (sum16 image)) (partsText (lineParts image 0 pattern))
+    (lines-shifted image 0 pattern (footText (sum16 image))))
+
+-- each part is right
+part-right : (b : ℕ) (bytes : List ℕ) → all plain (b ∷ bytes) ≡ true → form.starts (b ∷ bytes) ≡ true → RightPart (part (b ∷ bytes))
+unfolding part all
+part-right b bytes h s = record { blank = refl; no-star = plain-no-star (b ∷ bytes) h; begins = s }
+
+lines-right : (image : List ℕ) (fuse : ℕ) (pattern : List (List ℕ)) (more : List Part) → RightParts more → RightParts (lineParts image fuse pattern ++ more)
+unfolding lineParts
+lines-right image fuse [] more right = right
+lines-right image fuse (widths ∷ pattern) more right =
+    (part-right _ _ (line-plain image fuse widths) refl, lines-right image (fuse + total widths) pattern more right)
+
+parts-right : (fuses : ℕ) (pattern : List (List ℕ)) (image : List ℕ) → RightParts (writtenParts fuses pattern image)
+unfolding writtenParts all
+parts-right fuses pattern image =
+    (part-right _ _ (decimal-digits-plain _ fuses) refl, (part-right _ _ refl refl, lines-right image 0 pattern _ (part-right _ _ (hex-digits-plain 4 (sum16 image)) refl, tt)))
+
+-- the fields are read one after the other
+read-one : (k : Known) (at : ℕ) (bytes : List ℕ) (fields : List Field) (j : Judged) → judge bytes ≡ j → inOrder k j ≡ true
+    → allFields k (record { start = at; bytes = bytes } ∷ fields) ≡ allFields (after k at j) fields
+unfolding allFields
+read-one k at bytes fields j e h = rw (e, h)
+
+listsOf : (at : ℕ) → (image : List ℕ) → (fuse : ℕ) → (pattern : List (List ℕ)) → List Listed
+listsOf at image fuse [] = []
+listsOf at image fuse (widths ∷ pattern) =
+    record { at = at + 1; first = fuse; states = statesOf image fuse (total widths) }
+    ∷ listsOf (next at (part (lineBytes image fuse widths))) image (fuse + total widths) pattern
+
+-- what is known after the count, the start state and some lines
+knownWith : At → List Listed → Known
+knownWith q lists = record { count = some q; start = some 0; lists = lists; sum = none }
+
+read-line : (q : At) (image : List ℕ) (at fuse : ℕ) (widths : List ℕ) (lists : List Listed) (fields : List Field) → 0 < total widths → fuse < 10 ^ 7
+    → allFields (knownWith q lists) (record { start = at + 1; bytes = lineBytes image fuse widths } ∷ fields)
+    ≡ allFields (knownWith q (lists ++ (record { at = at + 1; first = fuse; states = statesOf image fuse (total widths) } ∷ []))) fields
+unfolding knownWith
+read-line q image at fuse widths lists fields positive h =
+    read-one (knownWith q lists) (at + 1) (lineBytes image fuse widths) fields _ (line-judged image fuse widths h positive) refl
+
+lines-read : (q : At) (image : List ℕ) (at fuse : ℕ) (pattern : List (List ℕ)) (lists : List Listed) (more : List Part)
+    → NoneEmpty pattern → fuse + patternFuses pattern < 10 ^ 7
+    → allFields (knownWith q lists) (fieldsOf at (lineParts image fuse pattern ++ more))
+    ≡ allFields (knownWith q (lists ++ listsOf at image fuse pattern)) (fieldsOf (form.endOf at (lineParts image fuse pattern)) more)
+unfolding fieldsOf lineParts listsOf patternFuses form.endOf part
+lines-read q image at fuse [] lists more positive h = rw (append-nil lists)
+lines-read q image at fuse (widths ∷ pattern) lists more positive h =
+    let p = part (lineBytes image fuse widths) in
+    let l : Listed = record { at = at + 1; first = fuse; states = statesOf image fuse (total widths) } in
+    read-line q image at fuse widths lists _ (positive .0) (omega arith)
+    ∙ lines-read q image (next at p) (fuse + total widths) pattern (lists ++ (l ∷ [])) more (positive .1) (omega arith)
+    ∙ ap (λ (ls : List Listed). allFields (knownWith q ls) (fieldsOf (form.endOf (next at p) (lineParts image (fuse + total widths) pattern)) more))
+    (append-snoc lists l (listsOf (next at p) image (fuse + total widths) pattern))
+
+states-length : (image : List ℕ) (fuse width : ℕ) → length (statesOf image fuse width) ≡ width
+unfolding statesOf
+states-length image fuse zero = refl
+states-length image fuse (suc width) = ap suc (states-length image (fuse + 1) width)
+
+states-at : (image : List ℕ) (fuse width i : ℕ) → i < width → getD (statesOf image fuse width) i 0 ≡ state image (fuse + i)
+unfolding statesOf
+states-at image fuse zero i h = absurd (omega arith)
+states-at image fuse (suc width) zero h = ap (state image) (omega arith)
+states-at image fuse (suc width) (suc i) h = states-at image (fuse + 1) width i (omega arith) ∙ ap (state image) (omega arith)
+
+-- no line is out of place, and the lines give every fuse its state
+lines-in-place : (fuses end at : ℕ) (image : List ℕ) (fuse : ℕ) (pattern : List (List ℕ)) → end ≤ fuse → fuse + patternFuses pattern ≤ fuses
+    → misplaced fuses end (listsOf at image fuse pattern) ≡ none
+unfolding misplaced listsOf patternFuses
+lines-in-place fuses end at image fuse [] before fits = refl
+lines-in-place fuses end at image fuse (widths ∷ pattern) before fits =
+    let long = states-length image fuse (total widths) in
+    rw (le-ltb fuse end before, long, le-ltb fuses (fuse + total widths) (omega arith))
+    (lines-in-place fuses (fuse + total widths) _ image (fuse + total widths) pattern (omega arith) (omega arith))
+
+lines-give : (at : ℕ) (image : List ℕ) (fuse : ℕ) (pattern : List (List ℕ)) (g : ℕ) → fuse ≤ g → g < fuse + patternFuses pattern
+    → stateGiven 0 (listsOf at image fuse pattern) g ≡ state image g
+unfolding stateGiven listsOf patternFuses
+lines-give at image fuse [] g low high = absurd (omega arith)
+lines-give at image fuse (widths ∷ pattern) g low high =
+    compared g (fuse + total widths)
+    (λ inside.
+    let own : fuse + (g - fuse) ≡ g = omega arith in
+    let offset : g - fuse < total widths = omega arith in
+    rw (le-leb fuse g low, states-length image fuse (total widths), lt-ltb g (fuse + total widths) inside, states-at image fuse (total widths) (g - fuse) offset, own))
+    (λ past.
+    rw (le-leb fuse g low, states-length image fuse (total widths), le-ltb g (fuse + total widths) past)
+    (lines-give _ image (fuse + total widths) pattern g past (omega arith)))
+
+-- an image is what its states give
+byte-state : (image : List ℕ) (i b : ℕ) → b < 8 → state image (i * 8 + b) ≡ bitOf (getD image i 0) b
+unfolding state bitAt
+byte-state image i b l = let q : (i * 8 + b) / 8 ≡ i = omega arith in let r : (i * 8 + b) % 8 ≡ b = omega arith in rw (q, r)
+
+image-given : (fuses : ℕ) (image : List ℕ) → Image fuses image → (states : ℕ → ℕ) → ((fuse : ℕ) → fuse < fuses → states fuse ≡ state image fuse)
+    → imageWith fuses states ≡ image
+unfolding imageWith
+image-given fuses image its states same =
+    ext-getD 0 (tabulate ((fuses + 7) / 8) _) image (tabulate-length ((fuses + 7) / 8) _ ∙ sym (its .size))
+    (λ i h.
+    tabulate-at ((fuses + 7) / 8) _ i (rw (tabulate-length ((fuses + 7) / 8) _) at h)
+    ∙ gathered-same _ (bitOf (getD image i 0)) 8 (λ b l. at-bit i b l)
+    ∙ gathered-own (getD image i 0) 8
+    ∙ mod-eq-of-lt (its .bytes i))
+  where
+    at-bit : (i b : ℕ) → b < 8 → within fuses states (i * 8 + b) ≡ bitOf (getD image i 0) b
+    at-bit i b l =
+        compared (i * 8 + b) fuses
+        (λ less. rw (lt-ltb (i * 8 + b) fuses less) (same (i * 8 + b) less ∙ byte-state image i b l))
+        (λ more. rw (le-ltb (i * 8 + b) fuses more) (sym (its .no-more (i * 8 + b) more) ∙ byte-state image i b l))
+
+-- the whole
+module _ (fuses : ℕ) (pattern : List (List ℕ)) (image : List ℕ) (few : fuses < 10 ^ 7) (its : Image fuses image)
+    (every-fuse : patternFuses pattern ≡ fuses) (none-empty : NoneEmpty pattern) where
+  parts : List Part
+  parts = writtenParts fuses pattern image
+
+  its-sum : ℕ
+  its-sum = sum16 (upToEtx fuses pattern image)
+
+  right-form : RightForm [] parts (lf ∷ []) (fourHex its-sum) [] its-sum
+  unfolding parts all holdsMark its-sum sum16
+  right-form =
+      record {
+        design-no-star = refl;
+        design-no-mark = refl;
+        right-parts = parts-right fuses pattern image;
+        blank-gap = refl;
+        hex-digits = sum-back its-sum (mod-lt _ (omega arith));
+        blank-end = refl;
+      }
+
+  assembled-text : textWith fuses pattern image ≡ assembled [] parts (lf ∷ []) (fourHex its-sum) []
+  unfolding textWith parts its-sum
+  assembled-text =
+      ap (λ (h : List ℕ). h ++ fourHex its-sum) (upto-assembled fuses pattern image)
+      ∙ ap (λ (d : List ℕ). headOf [] parts (lf ∷ []) ++ d) (sym (append-nil (fourHex its-sum)))
+
+  -- what its fields give
+  count-part : Part
+  count-part = part (letterQ ∷ letterF ∷ countDigits fuses)
+
+  start-part : Part
+  start-part = part (letterF ∷ decimalDigit 0 ∷ [])
+
+  lines-at : ℕ
+  lines-at = next (next 2 count-part) start-part
+
+  q : At
+  q = record { at = 3; value = fuses }
+
+  lists : List Listed
+  lists = listsOf lines-at image 0 pattern
+
+  gives : Known
+  gives =
+      record {
+        count = some q;
+        start = some 0;
+        lists = lists;
+        sum = some (record { at = form.endOf lines-at (lineParts image 0 pattern) + 1; value = sum16 image });
+      }
+
+  fields-read : allFields nothing (fieldsOf (firstAt []) parts) ≡ known gives
+  unfolding parts writtenParts fieldsOf part allFields knownWith gives lists q lines-at count-part start-part sum16
+  fields-read =
+      let sum-part = part (letterC ∷ fourHex (sum16 image)) in
+      let others = lineParts image 0 pattern ++ (sum-part ∷ []) in
+      let counted : Known = record { count = some q; start = none; lists = []; sum = none } in
+      read-one nothing 3 (letterQ ∷ letterF ∷ countDigits fuses) (fieldsOf (next 2 count-part) (start-part ∷ others)) (count fuses) (count-judged fuses few) refl
+      ∙ read-one counted (next 2 count-part + 1) (letterF ∷ decimalDigit 0 ∷ []) (fieldsOf lines-at others) (start 0) start-judged refl
+      ∙ lines-read q image lines-at 0 pattern [] (sum-part ∷ []) none-empty (omega (arith, every-fuse))
+      ∙ read-one (knownWith q lists) (form.endOf lines-at (lineParts image 0 pattern) + 1) (letterC ∷ fourHex (sum16 image)) [] (sum (sum16 image)) (sum-judged (sum16 image) (mod-lt _ (omega arith))) refl
+
+  concluded : Concluded fuses (assembled [] parts (lf ∷ []) (fourHex its-sum) []) image (etxAt [] parts (lf ∷ [])) its-sum gives
+  unfolding gives q lists its-sum parts
+  concluded =
+      record {
+        count-field = q;
+        has-count = refl;
+        right-count = refl;
+        in-place = lines-in-place fuses 0 lines-at image 0 pattern (omega arith) (omega (arith, every-fuse));
+        its-image =
+            sym
+            (image-given fuses image its (stateGiven 0 lists)
+            (λ f l. lines-give lines-at image 0 pattern f (omega arith) (omega (arith, every-fuse))));
+        right-sum = λ c e. let same : record { at = form.endOf lines-at (lineParts image 0 pattern) + 1; value = sum16 image } ≡ c = cc in ap (λ (x : At). x .value) (sym same);
+        right-transmission =
+            inr
+            (ap sum16
+            (upto-assembled fuses pattern image
+            ∙ sym (take-at (headOf [] parts (lf ∷ [])) (fourHex its-sum ++ []) (etxAt [] parts (lf ∷ []) + 1) (head-length [] parts (lf ∷ []) (fourHex its-sum) [] its-sum right-form))));
+      }
+
+  pub read-back : length (textWith fuses pattern image) ≤ longest → meaning fuses (textWith fuses pattern image) ≡ accepted image
+  read-back short =
+      rw assembled-text
+      (assembled-accepted [] parts (lf ∷ []) (fourHex its-sum) [] its-sum right-form fuses image gives (rw assembled-text at short) fields-read concluded)

@@ -1,0 +1,117 @@
+-- A text of document 01's form, put together from its parts, and what it is for a text to be accepted: what the laws speak of.
+-- The laws are `accepted-iff`, `assembled-accepted` and `read-back` in proofs/Laws.antt.
+use Prim.Native.Nat.{ℕ, _+_, _/_, _^_, _<_, _≤_}
+use mathlib.Core.Path.{_≡_}
+use mathlib.Core.Logic.{_⊎_}
+use mathlib.Core.Bool.{Bool, true, false, not, _&&_}
+use mathlib.Core.List.{List, [], _∷_, _++_}
+use mathlib.Core.Option.Option.{none, some}
+use lib.Dec.{eqb}
+use lib.ListN.{length, take, drop, getD}
+use Rattle.image.specs.Image.{state, sum16}
+use Rattle.jedec.specs.Characters.{stx, etx, star, isBlank, sumIn}
+use Rattle.jedec.specs.Cut.{pieces, Field, Cut, startsWith, fieldsFrom, holdsMark, tailFrom}
+use Rattle.jedec.specs.Cut.Tail.{given}
+use Rattle.jedec.specs.Rules.{At, Known, nothing, allFields, misplaced, finished}
+use Rattle.jedec.specs.Rules.Fields.{known}
+use Rattle.jedec.specs.Meaning.{longest}
+
+-- every byte passes a test
+unfoldable pub all : (ℕ → Bool) → List ℕ → Bool
+all test [] = true
+all test (b ∷ bytes) = test b && all test bytes
+
+abbrev pub notStar : ℕ → Bool
+notStar b = not (eqb b star)
+
+-- blanks, and a field after them
+pub record Part : Type 0 where
+  pub blanks : List ℕ
+  pub bytes : List ℕ
+
+-- a field starts with neither a blank nor ETX
+abbrev pub starts : List ℕ → Bool
+starts [] = true
+starts (b ∷ bytes) = not (isBlank b) && not (eqb b etx)
+
+pub record RightPart (p : Part) : Type 0 where
+  pub blank : all isBlank (p .blanks) ≡ true
+  pub no-star : all notStar (p .bytes) ≡ true
+  pub begins : starts (p .bytes) ≡ true
+
+abbrev pub RightParts : List Part → Type 0
+RightParts [] = Unit {0}
+RightParts (p ∷ parts) = RightPart p × RightParts parts
+
+-- the parts one after the other, each up to its `*`; their fields with their offsets; the offset after the last
+unfoldable pub partsText : List Part → List ℕ
+partsText [] = []
+partsText (p ∷ parts) = p .blanks ++ p .bytes ++ star ∷ partsText parts
+
+abbrev pub next : ℕ → Part → ℕ
+next at p = at + length (p .blanks ++ p .bytes) + 1
+
+unfoldable pub fieldsOf : ℕ → List Part → List Field
+fieldsOf at [] = []
+fieldsOf at (p ∷ parts) = record { start = at + length (p .blanks); bytes = p .bytes } ∷ fieldsOf (next at p) parts
+
+unfoldable pub endOf : ℕ → List Part → ℕ
+endOf at [] = at
+endOf at (p ∷ parts) = endOf (next at p) parts
+
+-- from STX to ETX: STX, design text, `*`, fields, blanks, ETX; then four hex digits and blanks
+abbrev pub headOf : (design : List ℕ) → List Part → (gap : List ℕ) → List ℕ
+headOf design parts gap = (stx ∷ design) ++ (star ∷ (partsText parts ++ gap)) ++ (etx ∷ [])
+
+abbrev pub assembled : (design : List ℕ) → List Part → (gap digits blanks : List ℕ) → List ℕ
+assembled design parts gap digits blanks = headOf design parts gap ++ (digits ++ blanks)
+
+-- what each of these may hold
+pub record RightForm (design : List ℕ) (parts : List Part) (gap digits blanks : List ℕ) (sum : ℕ) : Type 0 where
+  pub design-no-star : all notStar design ≡ true
+  pub design-no-mark : holdsMark design ≡ false
+  pub right-parts : RightParts parts
+  pub blank-gap : all isBlank gap ≡ true
+  pub hex-digits : sumIn digits ≡ some sum
+  pub blank-end : all isBlank blanks ≡ true
+
+-- where its fields start, and where its ETX stands
+abbrev pub firstAt : (design : List ℕ) → ℕ
+firstAt design = length (stx ∷ design) + 1
+
+abbrev pub etxAt : (design : List ℕ) → List Part → (gap : List ℕ) → ℕ
+etxAt design parts gap = endOf (firstAt design) parts + length gap
+
+-- what the end of a text of good form needs: QF gives the count, no L is out of place, C gives the fuse sum of the image, and the transmission
+-- sum is 0000 or the sum of the bytes from STX to ETX
+pub record Concluded (fuses : ℕ) (text image : List ℕ) (end sum : ℕ) (k : Known) : Type 0 where
+  pub count-field : At
+  pub has-count : k .count ≡ some count-field
+  pub right-count : count-field .value ≡ fuses
+  pub in-place : misplaced fuses 0 (k .lists) ≡ none
+  pub its-image : image ≡ finished fuses k
+  pub right-sum : (c : At) → k .sum ≡ some c → c .value ≡ sum16 image
+  pub right-transmission : (sum ≡ 0) ⊎ (sum ≡ sum16 (take (end + 1) text))
+
+-- a text that is accepted, and its image: it is not too long; STX, a design text without STX and ETX, good fields in order, ETX, four hex
+-- digits and blanks
+pub record Accepted (fuses : ℕ) (text image : List ℕ) : Type 0 where
+  pub not-long : length text ≤ longest
+  pub begins : startsWith stx text ≡ true
+  pub design : List ℕ
+  pub ended : List (List ℕ)
+  pub its-pieces : pieces text .ended ≡ design ∷ ended
+  pub good-design : holdsMark (drop 1 design) ≡ false
+  pub gives : Known
+  pub good-fields : allFields nothing (fieldsFrom (length design + 1) ended (pieces text .rest) .fields) ≡ known gives
+  pub end : ℕ
+  pub has-end : fieldsFrom (length design + 1) ended (pieces text .rest) .end ≡ some end
+  pub sum : ℕ
+  pub good-tail : tailFrom (end + 1) 4 0 (drop (end + 1) text) ≡ given sum
+  pub concluded : Concluded fuses text image end sum gives
+
+-- an image of so many fuses: its bytes, and nothing past the last fuse
+pub record Image (fuses : ℕ) (image : List ℕ) : Type 0 where
+  pub size : length image ≡ (fuses + 7) / 8
+  pub bytes : (i : ℕ) → getD image i 0 < 2 ^ 8
+  pub no-more : (fuse : ℕ) → fuses ≤ fuse → state image fuse ≡ 0
