@@ -1,5 +1,5 @@
 -- Texts and what they mean for the part of 18144 fuses: document 01's bench section, and the points that its words leave room for.
--- Each is what the independent program answers too.
+-- The independent program is held to the same texts (reference/tests/stated_texts.rs).
 use mathlib.Core.Path.{_≡_}
 use mathlib.Core.List.{List, [], _∷_, _++_}
 use Prim.Native.Nat.{ℕ}
