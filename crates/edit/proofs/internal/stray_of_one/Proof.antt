@@ -1,0 +1,78 @@
+-- `stray_of_one` meets its contract: the byte of the one bit is looked at.
+-- Assumes nothing.
+use mathlib.Core.Path.{_≡_}
+use mathlib.Core.Bool.{true, cond, not, _&&_}
+use mathlib.Core.List.{List}
+use Prim.Native.Nat.{ℕ, _/_, _^_, _<_}
+use native.Mathlib.Omega.{arith}
+use lib.Dec.{eqb, ltb}
+use lib.ListN.{length, getD}
+use Rattle.part.specs.Device.{known, readoutBytes}
+use Rattle.part.specs.Place.{hasByte, widthOf, indexOfByte}
+use Rattle.part.specs.declared.Device.{Device}
+use Rattle.part.specs.declared.Place.{Place}
+use Rattle.part.proofs.Laws.{width-small}
+use Rattle.settings.specs.Settings.{placeOf, hasSetting, bitsOf, fuseOf}
+use Rattle.settings.specs.declared.Setting.{Setting}
+use Rattle.edit.specs.Edit.{inReadout, strayAmong, strayOf}
+use Rattle.edit.proofs.Edits.{inside, fuse-below}
+use Rattle.edit.proofs.Steps.{its-byte, its-index, its-test}
+use borrow.Author.Needs.{needs}
+use Rattle.edit.proofs.internal.stray_of_one.Statement.{statement}
+use Rattle.edit.proofs.internal.stray_of_one.Tie as tie
+
+module _ (d : Device) (readout : List ℕ) (s : Setting) (k : known d ≡ true) (h : hasSetting d s ≡ true) (one : bitsOf s ≡ 1)
+    (p : Place) (e : p ≡ placeOf s 0) where
+  there : 0 < bitsOf s
+  there = omega arith
+
+  byte-there : hasByte d (p .byte) ≡ true
+  byte-there = rw e (its-byte d k s h 0 there)
+
+  index-in : (index : ℕ) → length readout ≡ readoutBytes d → index ≡ indexOfByte d (p .byte) → index < length readout
+  index-in index q g = rw (q, its-index d k readout s h 0 there p e index g) (inside d inReadout (fuseOf d s 0) k (fuse-below d k s h 0 there))
+
+  looked : (index above w r : ℕ) → length readout ≡ readoutBytes d → index ≡ indexOfByte d (p .byte) → w ≡ widthOf (p .byte)
+      → above ≡ getD readout index 0 / 2 ^ w → r ≡ cond (not (eqb above 0) && ltb index (length readout)) index (length readout)
+      → r ≡ strayOf d readout s
+  unfolding strayAmong
+  looked index above w r q g v m f =
+      let at = its-index d k readout s h 0 there p e index g in
+      let test = its-test d k readout s h 0 there p e index g above (length readout) w v m q in
+      rw (one, ← test, ← at, ← q) f
+
+width-in : (p : Place) (w : ℕ) → w ≡ widthOf (p .byte) → w < 32
+width-in p w e = omega (arith, width-small (p .byte))
+
+place-of-requires : tie.Need-place-of-requires
+place-of-requires c κs = search needs
+
+index-of-byte-requires : tie.Need-index-of-byte-requires
+index-of-byte-requires c κs = search (needs, byte-there)
+
+cast-index : tie.Need-cast-index
+cast-index c = search needs
+
+width-of-requires : tie.Need-width-of-requires
+width-of-requires c κs = search needs
+
+above-width-requires : tie.Need-above-width-requires
+above-width-requires c κs = (search (needs, index-in), search (needs, width-in))
+
+lower-requires : tie.Need-lower-requires
+lower-requires c κs = search needs
+
+returns : tie.Need-returns
+returns c = search (needs, looked)
+
+pub stray-of-one-spec : {M : Type 1} → statement M
+stray-of-one-spec =
+    tie.close
+    (tie.spec
+    place-of-requires
+    index-of-byte-requires
+    cast-index
+    width-of-requires
+    above-width-requires
+    lower-requires
+    returns)
