@@ -40,12 +40,10 @@ pub fn set_pair(bytes: &mut [u8], index: usize, bit: u32, states: u32)
     requires { ⌜ (index < length (now bytes)) × (bit < 7) × (states < 4) ⌝ }
     ensures { λ _. ⌜ now (bytes .exit) ≡ withBit (withBit (now (bytes .entry)) index bit (states % 2)) index (bit + 1) (states / 2) ⌝ }
 {
-    let x = bytes[index] as u64;
-    let above = x >> bit;
-    let below = cells::internal::low_bits(x, bit);
-    let changed = above / 4 * 4 + states as u64;
-    let byte = ((changed << bit) + below) as u8;
-    bytes[index] = byte;
+    let x = bytes[index];
+    let old = (x >> bit) % 4;
+    let rest = x - (old << bit);
+    bytes[index] = rest + ((states as u8) << bit);
 }
 
 // The sum of the bytes, of which the low 16 bits are kept.

@@ -1,13 +1,13 @@
--- `set_pair` meets its contract: the bits above, the new states and the bits below, put together again.
+-- `set_pair` meets its contract: the old states of the two bits taken off, and the new ones put on.
 -- Assumes nothing.
 use mathlib.Core.Path.{_≡_, sym, _∙_, ap}
 use mathlib.Core.List.{List}
-use Prim.Native.Nat.{ℕ, _+_, _*_, _/_, _%_, _^_, _<_}
+use Prim.Native.Nat.{ℕ, _+_, _*_, _-_, _/_, _%_, _^_, _<_, _≤_}
 use native.Mathlib.Omega.{arith}
-use native.Mathlib.Nat.{mod-eq-of-lt}
+use native.Mathlib.Nat.{add-mul}
 use lib.ListN.{length, getD, set}
-use lib.Pow.{shr-le}
-use mir.Syntax.{w8, w64}
+use lib.Pow.{shl-exact, split}
+use mir.Syntax.{w8}
 use mir.Val.{Fits}
 use borrow.Author.Needs.{needs}
 use Rattle.image.specs.Bits.{withBit}
@@ -15,62 +15,60 @@ use Rattle.image.proofs.Pairs.{putPair, pair-small, with-pair}
 use Rattle.image.proofs.internal.set_pair.Statement.{statement}
 use Rattle.image.proofs.internal.set_pair.Tie as tie
 
--- what the code puts together is the byte with the bits in place
-module _ (x bit states below : ℕ) (hx : Fits w8 x) (hb : bit < 7) (hs : states < 4) (e : below ≡ x % 2 ^ bit) where
-  together : (x / 2 ^ bit / 4 * 4 + states) * 2 ^ bit % 2 ^ 64 + below ≡ putPair x bit states
-  together =
-      let small = pair-small x bit states hs (hx .fits) hb in
-      let exact : (x / 2 ^ bit / 4 * 4 + states) * 2 ^ bit % 2 ^ 64 ≡ (x / 2 ^ bit / 4 * 4 + states) * 2 ^ bit = mod-eq-of-lt (omega arith) in
-      rw (exact, e)
+module _ (x bit : ℕ) (hb : bit < 7) where
+  -- the number is what stands above the two bits, the two bits, and what stands below them
+  parts : x / 2 ^ bit / 4 * 4 * 2 ^ bit + x / 2 ^ bit % 4 * 2 ^ bit + x % 2 ^ bit ≡ x
+  parts =
+      let whole : x / 2 ^ bit / 4 * 4 + x / 2 ^ bit % 4 ≡ x / 2 ^ bit = omega arith in
+      rw (← add-mul (x / 2 ^ bit / 4 * 4) (x / 2 ^ bit % 4) (2 ^ bit), whole) (split x bit)
 
-  small : (x / 2 ^ bit / 4 * 4 + states) * 2 ^ bit % 2 ^ 64 + below < 2 ^ 8
-  small = rw together (pair-small x bit states hs (hx .fits) hb)
+  exact : (states : ℕ) → states < 4 → states * 2 ^ bit % 2 ^ 8 ≡ states * 2 ^ bit
+  exact states hs = shl-exact 2 bit 8 hs (omega arith)
 
-  fits8 : Fits w8 ((x / 2 ^ bit / 4 * 4 + states) * 2 ^ bit % 2 ^ 64 + below)
-  fits8 = record { fits = small }
+  taken-off : x / 2 ^ bit % 4 * 2 ^ bit % 2 ^ 8 ≤ x
+  taken-off = rw (exact (x / 2 ^ bit % 4) (omega arith)) (omega (arith, parts))
 
-  fits64 : Fits w64 ((x / 2 ^ bit / 4 * 4 + states) * 2 ^ bit % 2 ^ 64 + below)
-  fits64 = omega (arith, small)
+  put-on : (states : ℕ) → states < 4 → x - x / 2 ^ bit % 4 * 2 ^ bit % 2 ^ 8 + states * 2 ^ bit % 2 ^ 8 ≡ putPair x bit states
+  put-on states hs =
+      rw (exact (x / 2 ^ bit % 4) (omega arith), exact states hs, add-mul (x / 2 ^ bit / 4 * 4) states (2 ^ bit)) (omega (arith, parts))
 
-changed : (bytes : List ℕ) (index bit states below : ℕ) → Fits w8 (getD bytes index 0) → index < length bytes → bit < 7 → states < 4
-    → below ≡ getD bytes index 0 % 2 ^ bit
-    → set bytes index ((getD bytes index 0 / 2 ^ bit / 4 * 4 + states) * 2 ^ bit % 2 ^ 64 + below)
+  fits : (states : ℕ) → Fits w8 x → states < 4 → Fits w8 (x - x / 2 ^ bit % 4 * 2 ^ bit % 2 ^ 8 + states * 2 ^ bit % 2 ^ 8)
+  fits states hx hs = record { fits = rw (put-on states hs) (pair-small x bit states hs (hx .fits) hb) }
+
+changed : (bytes : List ℕ) (index bit states : ℕ) → index < length bytes → bit < 7 → states < 4
+    → set bytes index (getD bytes index 0 - getD bytes index 0 / 2 ^ bit % 4 * 2 ^ bit % 2 ^ 8 + states * 2 ^ bit % 2 ^ 8)
     ≡ withBit (withBit bytes index bit (states % 2)) index (bit + 1) (states / 2)
-changed bytes index bit states below hx there hb hs e =
-    ap (set bytes index) (together (getD bytes index 0) bit states below hx hb hs e) ∙ sym (with-pair bytes index bit states there hs)
-
-above : (x bit : ℕ) → Fits w8 x → Fits w64 (x / 2 ^ bit / 4 * 4)
-above x bit hx = omega (arith, shr-le x bit)
-
-above-states : (x bit states : ℕ) → Fits w8 x → states < 4 → Fits w64 (x / 2 ^ bit / 4 * 4 + states)
-above-states x bit states hx hs = omega (arith, shr-le x bit)
+changed bytes index bit states there hb hs = ap (set bytes index) (put-on (getD bytes index 0) bit hb states hs) ∙ sym (with-pair bytes index bit states there hs)
 
 slice-read-x : tie.Need-slice-read-x
 slice-read-x c = search needs
 
-cast-x : tie.Need-cast-x
-cast-x c = omega (arith, c .slice-known2 .given (c .before .before .args .index))
+cast-old : tie.Need-cast-old
+cast-old c = search needs
 
-shr-above : tie.Need-shr-above
-shr-above c = search needs
+shr-old : tie.Need-shr-old
+shr-old c = search needs
 
-low-bits-requires : tie.Need-low-bits-requires
-low-bits-requires c κs = search needs
+cast-rest : tie.Need-cast-rest
+cast-rest c = search needs
 
-mul-changed : tie.Need-mul-changed
-mul-changed c = search (needs, above, c .before .slice-known2 .given)
+shl-rest : tie.Need-shl-rest
+shl-rest c = search needs
 
-add-changed : tie.Need-add-changed
-add-changed c = search (needs, above-states, c .before .slice-known2 .given)
+sub-rest : tie.Need-sub-rest
+sub-rest c = search (needs, taken-off)
 
-shl-byte : tie.Need-shl-byte
-shl-byte c = search needs
+cast-bytes : tie.Need-cast-bytes
+cast-bytes c = search needs
 
-add-byte : tie.Need-add-byte
-add-byte c = search (needs, fits64, c .before .slice-known2 .given)
+cast-bytes-2 : tie.Need-cast-bytes-2
+cast-bytes-2 c = search needs
 
-cast-byte : tie.Need-cast-byte
-cast-byte c = search (needs, fits8, c .before .slice-known2 .given)
+shl-bytes : tie.Need-shl-bytes
+shl-bytes c = search needs
+
+add-bytes : tie.Need-add-bytes
+add-bytes c = search (needs, fits, c .slice-known .given)
 
 slice-write-bytes : tie.Need-slice-write-bytes
 slice-write-bytes c = search needs
@@ -79,21 +77,22 @@ same-length : tie.Need-same-length
 same-length c = search needs
 
 returns : tie.Need-returns
-returns c = search (needs, changed, c .before .slice-known2 .given)
+returns c = search (needs, changed)
 
 pub set-pair-spec : {M : Type 1} → statement M
 set-pair-spec =
     tie.close
     (tie.spec
     slice-read-x
-    cast-x
-    shr-above
-    low-bits-requires
-    mul-changed
-    add-changed
-    shl-byte
-    add-byte
-    cast-byte
+    cast-old
+    shr-old
+    cast-rest
+    shl-rest
+    sub-rest
+    cast-bytes
+    cast-bytes-2
+    shl-bytes
+    add-bytes
     slice-write-bytes
     same-length
     returns)
