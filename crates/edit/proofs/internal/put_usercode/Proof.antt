@@ -1,110 +1,39 @@
--- `put_usercode` meets its contract: a pair more put in place at each turn.
+-- `put_usercode` meets its contract: the pairs of one row, and then those of the other.
 -- Assumes nothing.
-use mathlib.Core.Path.{_≡_, refl, sym, _∙_, ap}
-use mathlib.Core.Bool.{Bool, true}
+use mathlib.Core.Path.{_≡_, refl}
+use mathlib.Core.Bool.{Bool}
 use mathlib.Core.List.{List}
-use Prim.Native.Nat.{ℕ, _+_, _*_, _-_, _/_, _%_, _^_, _<_, _≤_}
-use native.Mathlib.Omega.{arith}
-use lib.ListN.{length}
-use Rattle.part.specs.Device.{known}
+use Prim.Native.Nat.{ℕ, _+_, _*_}
 use Rattle.part.specs.declared.Device.{Device}
-use Rattle.image.specs.Bits.{withBit}
-use Rattle.image.proofs.Bits.{with-length}
-use Rattle.settings.specs.Settings.{hasSetting, bitsOf, fuseOf}
-use Rattle.edit.specs.Edit.{bytesOf, byteOf, bitIn, withBits, withPattern}
-use Rattle.edit.proofs.Usercode.{usercode, spot-in, spot-low, pair-put}
+use Rattle.settings.specs.Settings.{bitsOf}
+use Rattle.edit.specs.Edit.{withBits, withPattern}
+use Rattle.edit.proofs.Usercode.{usercode}
 use borrow.Author.Needs.{needs}
 use Rattle.edit.proofs.internal.put_usercode.Statement.{statement}
 use Rattle.edit.proofs.internal.put_usercode.Tie as tie
 
--- the pairs put in place so far
-record Put (d : Device) (form : Bool) (before : List ℕ) (pattern : ℕ) (bytes : List ℕ) (pair : ℕ) : Type 0 where
-  upto : pair ≤ 16
-  size : length bytes ≡ bytesOf d form
-  so-far : bytes ≡ withBits d form before usercode pattern (2 * pair)
+-- what a row's pairs make of the bytes
+abbrev Row : Device → Bool → ℕ → ℕ → (entry exit : List ℕ) → Type 0
+Row d form pattern first entry exit =
+    (before : List ℕ) → entry ≡ withBits d form before usercode pattern (2 * first) → exit ≡ withBits d form before usercode pattern (2 * (first + 8))
 
-start : (d : Device) (form : Bool) (before : List ℕ) (pattern : ℕ) → length before ≡ bytesOf d form → Put d form before pattern before 0
-unfolding withBits
-start d form before pattern e = record { upto = omega arith; size = e; so-far = refl }
+both-rows : (d : Device) (form : Bool) (pattern : ℕ) (before half after : List ℕ) → Row d form pattern 0 before half → Row d form pattern 8 half after
+    → after ≡ withPattern d form before usercode pattern
+unfolding withPattern withBits bitsOf
+both-rows d form pattern before half after low high = high before (low before refl)
 
-module _ (d : Device) (form : Bool) (before : List ℕ) (pattern : ℕ) (bytes : List ℕ) (pair : ℕ) (r : Put d form before pattern bytes pair) where
-  module _ (k : known d ≡ true) (h : hasSetting d usercode ≡ true) (l : pair < 16) (index bit : ℕ)
-      (x : index ≡ byteOf d form (fuseOf d usercode (2 * pair))) (y : bit ≡ bitIn d form (fuseOf d usercode (2 * pair))) where
-    index-in : index < length bytes
-    index-in = spot-in d k h pair l form index bit x y bytes (r .size)
+put-usercode-row-requires : tie.Need-put-usercode-row-requires
+put-usercode-row-requires c κs = search needs
 
-    bit-in : bit < 7
-    bit-in = spot-low d k h pair l form index bit x y
+put-usercode-row-requires-2 : tie.Need-put-usercode-row-requires-2
+put-usercode-row-requires-2 c κs = search needs
 
-    more : (after : List ℕ)
-        → after ≡ withBit (withBit bytes index bit (pattern / 2 ^ (2 * pair) % 4 % 2)) index (bit + 1) (pattern / 2 ^ (2 * pair) % 4 / 2)
-        → Put d form before pattern after (pair + 1)
-    more after g =
-        let states = pattern / 2 ^ (2 * pair) % 4 in
-        let one = with-length bytes index bit (states % 2) index-in (omega arith) in
-        let two = with-length (withBit bytes index bit (states % 2)) index (bit + 1) (states / 2) (rw one index-in) (omega arith) in
-        record {
-          upto = omega arith;
-          size = rw g (two ∙ one ∙ r .size);
-          so-far = pair-put d k h pair l form index bit x y before bytes after pattern (r .so-far) g;
-        }
+same-length : tie.Need-same-length
+same-length c = search needs
 
-  kept : length before ≡ bytesOf d form → length bytes ≡ length before
-  kept e = r .size ∙ sym e
-
-  end : 16 ≤ pair → bytes ≡ withPattern d form before usercode pattern
-  unfolding withPattern bitsOf
-  end l = let last : 2 * pair ≡ 32 = omega (arith, r .upto) in r .so-far ∙ ap (withBits d form before usercode pattern) last
-
-abbrev Inv-loop : tie.InvT-loop
-Inv-loop d readout bytes₀ pattern pair₀ bytes pair = Put d readout bytes₀ pattern bytes pair
-
-abbrev μ-loop : tie.MeasureT-loop
-μ-loop d readout bytes₀ pattern pair₀ bytes pair = 16 - pair
-
-loop-holds : tie.Need-loop-holds Inv-loop μ-loop
-loop-holds c = search (needs, start)
-
-usercode-spot-requires : tie.Need-usercode-spot-requires Inv-loop μ-loop
-usercode-spot-requires c κs = search needs
-
-mul-states : tie.Need-mul-states Inv-loop μ-loop
-mul-states c = search needs
-
-shr-states : tie.Need-shr-states Inv-loop μ-loop
-shr-states c = search needs
-
-set-pair-requires : tie.Need-set-pair-requires Inv-loop μ-loop
-set-pair-requires c κs = (search (needs, index-in), search (needs, bit-in), search needs)
-
-add-pair : tie.Need-add-pair Inv-loop μ-loop
-add-pair c = search needs
-
-loop-less : tie.Need-loop-less Inv-loop μ-loop
-loop-less c = search needs
-
-loop-again : tie.Need-loop-again Inv-loop μ-loop
-loop-again c = search (needs, more)
-
-same-length : tie.Need-same-length Inv-loop μ-loop
-same-length c = search (needs, kept)
-
-returns : tie.Need-returns Inv-loop μ-loop
-returns c = search (needs, end)
+returns : tie.Need-returns
+returns c = both-rows _ _ _ _ _ _ (c .before .before .before .before .before .before .put-usercode-row .ensures) (c .before .before .put-usercode-row2 .ensures)
 
 pub put-usercode-spec : {M : Type 1} → statement M
 put-usercode-spec =
-    tie.close
-    (tie.spec
-    Inv-loop
-    μ-loop
-    loop-holds
-    usercode-spot-requires
-    mul-states
-    shr-states
-    set-pair-requires
-    add-pair
-    loop-less
-    loop-again
-    same-length
-    returns)
+    tie.close (tie.spec put-usercode-row-requires put-usercode-row-requires-2 same-length returns)
