@@ -24,7 +24,7 @@ use Rattle.settings.specs.declared.Setting.{Setting}
 use Rattle.settings.specs.declared.Setting.the-variants.{Literal, WireAnd, Macrocell, Block, Global}
 use Rattle.settings.proofs.Numbers.{has-macrocell, macrocell-at}
 use Rattle.settings.proofs.Places.{rows-few}
-use Rattle.edit.specs.Edit.{bytesOf, byteOf, bitIn, stateOf, patternAt, withBits, withPattern}
+use Rattle.edit.specs.Edit.{bytesOf, byteOf, bitIn, stateOf, withState, patternAt, withBits, withPattern}
 use Rattle.edit.proofs.Edits.{inside, fuse-below}
 use Rattle.edit.proofs.Steps.{place-again, bitsRead, state-small}
 
@@ -74,6 +74,19 @@ its-fuse d b = rw (lt-ltb (7 - b % 16 / 2) 9 (omega arith)) (omega arith)
 in-usercode : (b : ℕ) → b < 32 → b < bitsOf usercode
 unfolding bitsOf
 in-usercode b l = l
+
+-- the two fuses of a pair with the states that a pattern needs: a pair more in place
+abbrev pub bothStates : Device → Bool → List ℕ → (pattern pair : ℕ) → List ℕ
+bothStates d form bytes pattern pair =
+    withState d form (withState d form bytes (fuseOf d usercode (2 * pair)) (bitOf pattern (2 * pair))) (fuseOf d usercode (2 * pair + 1)) (bitOf pattern (2 * pair + 1))
+
+pub two-put : (d : Device) (form : Bool) (before bytes after : List ℕ) (pattern pair : ℕ) → bytes ≡ withBits d form before usercode pattern (2 * pair)
+    → after ≡ bothStates d form bytes pattern pair → after ≡ withBits d form before usercode pattern (2 * (pair + 1))
+unfolding withBits
+two-put d form before bytes after pattern pair e g =
+    let one : 2 * pair + 1 ≡ suc (2 * pair) = omega arith in
+    let next : 2 * (pair + 1) ≡ suc (suc (2 * pair)) = omega arith in
+    rw (next, ← one, ← e) g
 
 -- two bits more of a number that is gathered
 two-more : (f : ℕ → ℕ) (w : ℕ) → gathered f (suc (suc w)) ≡ gathered f w + (f w + 2 * f (suc w)) * 2 ^ w
@@ -154,14 +167,11 @@ module _ (d : Device) (k : known d ≡ true) (h : hasSetting d usercode ≡ true
           let below : bitsRead d form bytes usercode (suc (suc (2 * pair))) < 2 ^ suc (suc (2 * pair)) = gathered-small state small (suc (suc (2 * pair))) in
           rw (exact, next) (sum, rw sum (omega arith))
 
-      -- a pair more put in place
-      pub pair-put : (before bytes after : List ℕ) (pattern : ℕ) → bytes ≡ withBits d form before usercode pattern (2 * pair)
+      -- a pair put in place
+      pub pair-put : (bytes after : List ℕ) (pattern : ℕ)
           → after ≡ withBit (withBit bytes index bit (pattern / 2 ^ (2 * pair) % 4 % 2)) index (bit + 1) (pattern / 2 ^ (2 * pair) % 4 / 2)
-          → after ≡ withBits d form before usercode pattern (2 * (pair + 1))
-      unfolding withBits
-      pair-put before bytes after pattern e g =
-          let one : 2 * pair + 1 ≡ suc (2 * pair) = omega arith in
-          let next : 2 * (pair + 1) ≡ suc (suc (2 * pair)) = omega arith in
+          → after ≡ bothStates d form bytes pattern pair
+      pair-put bytes after pattern g =
           let lower : pattern / 2 ^ (2 * pair) % 4 % 2 ≡ bitOf pattern (2 * pair) = omega arith in
           let higher : pattern / 2 ^ (2 * pair) % 4 / 2 ≡ bitOf pattern (2 * pair + 1) = rw (next-bit pattern (2 * pair)) (field (pattern / 2 ^ (2 * pair)) 1 1) in
-          rw (next, ← one, upper form .0, upper form .1, ← e, ← x, ← y, ← lower, ← higher) g
+          rw (upper form .0, upper form .1, ← x, ← y, ← lower, ← higher) g

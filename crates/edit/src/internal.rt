@@ -2,18 +2,18 @@
 // A function here may require that the device has the setting and the bytes their length.
 ghost use mathlib.Core.Path.{_≡_};
 ghost use mathlib.Core.Bool.{true, cond, not, _&&_};
-ghost use mathlib.Core.List.{List};
-ghost use Prim.Native.Nat.{ℕ, _+_, _*_, _/_, _^_, _<_, _≤_};
+ghost use Prim.Native.Nat.{_+_, _*_, _/_, _^_, _<_};
 ghost use lib.Dec.{eqb, ltb};
 ghost use lib.ListN.{length, getD};
 ghost use Rattle.part.specs.Device.{known};
+ghost use Rattle.image.specs.Bits.{bitOf};
 ghost use Rattle.settings.specs.Settings.{hasSetting, bitsOf, fuseOf};
 ghost use Rattle.settings.specs.declared.GlobalField.the-variants.{Usercode};
 ghost use Rattle.settings.specs.declared.Setting.the-variants.{Global};
 ghost use Rattle.part.specs.Answer.{numberOutcome};
 ghost use Rattle.readout.specs.Readout.{doneOutcome, Written};
 ghost use Rattle.setting_values.specs.Operations.{valueOutcome};
-ghost use Rattle.edit.specs.Edit.{bytesOf, byteOf, bitIn, patternAt, withBits, withPattern, strayOf, strayIn, readIn, setIn, withValue, readPattern, setPattern, withNumbered};
+ghost use Rattle.edit.specs.Edit.{bytesOf, byteOf, bitIn, withState, patternAt, withPattern, strayOf, strayIn, readIn, setIn, withValue, readPattern, setPattern, withNumbered};
 ghost use Rattle.edit.specs.Demand.{BothWays, callsOf};
 use part::Device;
 use part::NumberAnswer;
@@ -88,28 +88,30 @@ fn usercode_at(d: Device, readout: bool, bytes: &[u8]) -> u32
     pattern
 }
 
-// Eight pairs of them put in place, from one on: with all before it in place, so are these.
-fn put_usercode_row(d: Device, readout: bool, bytes: &mut [u8], pattern: u32, first: u32)
-    requires { ⌜ (known d ≡ true) × (hasSetting d (Global Usercode) ≡ true) × (length (now bytes) ≡ bytesOf d readout) × (first ≤ 8) ⌝ }
-    ensures { λ _. ⌜ ((before : List ℕ) → now (bytes .entry) ≡ withBits d readout before (Global Usercode) pattern (2 * first) → now (bytes .exit) ≡ withBits d readout before (Global Usercode) pattern (2 * (first + 8))) ⌝ }
+// Bits 2k and 2k+1 of USERCODE put in place.
+fn put_usercode_pair(d: Device, readout: bool, bytes: &mut [u8], pattern: u32, pair: u32)
+    requires { ⌜ (known d ≡ true) × (hasSetting d (Global Usercode) ≡ true) × (length (now bytes) ≡ bytesOf d readout) × (pair < 16) ⌝ }
+    ensures { λ _. ⌜ now (bytes .exit) ≡ withState d readout (withState d readout (now (bytes .entry)) (fuseOf d (Global Usercode) (2 * pair)) (bitOf pattern (2 * pair))) (fuseOf d (Global Usercode) (2 * pair + 1)) (bitOf pattern (2 * pair + 1)) ⌝ }
 {
-    let past = first + 8;
-    let mut pair = first;
-    while pair < past {
-        let spot = usercode_spot(d, readout, pair);
-        let states = (pattern >> (2 * pair)) % 4;
-        image::internal::set_pair(bytes, spot.index, spot.bit, states);
-        pair += 1;
-    }
+    let spot = usercode_spot(d, readout, pair);
+    let states = (pattern >> (2 * pair)) % 4;
+    image::internal::set_pair(bytes, spot.index, spot.bit, states);
 }
 
-// The states of USERCODE's fuses put in place: row 7 and row 6, where each turn has its byte and bit as constants.
+// The states of USERCODE's fuses put in place: row 7, then row 6. In a loop of one row, the compiler has each byte and bit as constants.
 fn put_usercode(d: Device, readout: bool, bytes: &mut [u8], pattern: u32)
     requires { ⌜ (known d ≡ true) × (hasSetting d (Global Usercode) ≡ true) × (length (now bytes) ≡ bytesOf d readout) ⌝ }
     ensures { λ _. ⌜ now (bytes .exit) ≡ withPattern d readout (now (bytes .entry)) (Global Usercode) pattern ⌝ }
 {
-    put_usercode_row(d, readout, bytes, pattern, 0);
-    put_usercode_row(d, readout, bytes, pattern, 8);
+    let mut pair: u32 = 0;
+    while pair < 8 {
+        put_usercode_pair(d, readout, bytes, pattern, pair);
+        pair += 1;
+    }
+    while pair < 16 {
+        put_usercode_pair(d, readout, bytes, pattern, pair);
+        pair += 1;
+    }
 }
 
 // The states of a setting's fuses, lowest bit first.
