@@ -52,26 +52,29 @@ global-wide d (FclkMux c) b e = main-wide d 0 (3 + b) (2 + c) 6 e (omega arith)
 global-wide d (FoeMux i) b e = main-wide d 0 (3 + b) (5 + i) 6 e (omega arith)
 global-wide d Usercode b e = main-wide d 0 (7 - b / 16) (7 - b % 16 / 2) (6 + b % 2) e (omega arith)
 
-module _ (d : Device) (k : known d ≡ true) (s : Setting) (h : hasSetting d s ≡ true) (readout : List ℕ) (small : (i : ℕ) → getD readout i 0 < 2 ^ 8)
-    (e : length readout ≡ readoutBytes d) where
-  -- so the length is the answer
-  whole : ((b : ℕ) → b < bitsOf s → widthOf (placeOf s b .byte) ≡ 8) → length readout ≡ strayOf d readout s
-  whole wide =
+abbrev pub Wide : Setting → Type 0
+Wide s = (b : ℕ) → b < bitsOf s → widthOf (placeOf s b .byte) ≡ 8
+
+pub of-macrocell : (s : Setting) (block m : ℕ) (f : MacrocellField) → s ≡ Macrocell block m f → Wide s
+unfolding placeOf
+of-macrocell s block m f q b l = rw (q, lt-ltb (m % 9) 9 (omega arith))
+
+pub of-block : (s : Setting) (block : ℕ) (f : BlockField) → s ≡ Block block f → Wide s
+unfolding placeOf
+of-block s block f q b l = rw q (block-wide block f)
+
+module _ (d : Device) (k : known d ≡ true) (s : Setting) (h : hasSetting d s ≡ true) where
+  pub of-global : (f : GlobalField) → s ≡ Global f → Wide s
+  unfolding placeOf
+  of-global f q b l = rw q (global-wide d f b (rw q at (has-place d s b k h l)))
+
+  -- the scan goes through
+  pub none-stray : (readout : List ℕ) → ((i : ℕ) → getD readout i 0 < 2 ^ 8) → length readout ≡ readoutBytes d → Wide s
+      → length readout ≡ strayOf d readout s
+  none-stray readout small e wide =
       e
       ∙ sym (clean-through d readout s (bitsOf s) (λ b l.
       let index = indexOfByte d (placeOf s b .byte) in
       let eight : widthAt d (byteOf d true (fuseOf d s b)) ≡ 8 =
       ap (widthAt d) (sym (its-index d k readout s h b l (placeOf s b) refl index refl)) ∙ sym (its-width d k readout s h b l (placeOf s b) refl index refl) ∙ wide b l in
       rw eight (small (byteOf d true (fuseOf d s b)))))
-
-  pub of-macrocell : (block m : ℕ) (f : MacrocellField) → s ≡ Macrocell block m f → length readout ≡ strayOf d readout s
-  unfolding placeOf
-  of-macrocell block m f q = whole (λ b l. rw (q, lt-ltb (m % 9) 9 (omega arith)))
-
-  pub of-block : (block : ℕ) (f : BlockField) → s ≡ Block block f → length readout ≡ strayOf d readout s
-  unfolding placeOf
-  of-block block f q = whole (λ b l. rw q (block-wide block f))
-
-  pub of-global : (f : GlobalField) → s ≡ Global f → length readout ≡ strayOf d readout s
-  unfolding placeOf
-  of-global f q = whole (λ b l. rw q (global-wide d f b (rw q at (has-place d s b k h l))))

@@ -1,13 +1,14 @@
 // Bits of a setting in an image or a readout: what the operations need, and no caller.
 // A function here may require that the device has the setting and the bytes their length.
 ghost use mathlib.Core.Path.{_≡_};
-ghost use mathlib.Core.Bool.{true, cond, not, _&&_};
-ghost use Prim.Native.Nat.{_+_, _*_, _/_, _^_, _<_};
+ghost use mathlib.Core.Bool.{true, false, cond, not, _&&_};
+ghost use Prim.Native.Nat.{ℕ, _+_, _*_, _/_, _^_, _<_};
 ghost use lib.Dec.{eqb, ltb};
 ghost use lib.ListN.{length, getD};
 ghost use Rattle.part.specs.Device.{known};
+ghost use Rattle.part.specs.Place.{widthOf};
 ghost use Rattle.image.specs.Bits.{bitOf};
-ghost use Rattle.settings.specs.Settings.{hasSetting, bitsOf, fuseOf};
+ghost use Rattle.settings.specs.Settings.{placeOf, hasSetting, bitsOf, fuseOf};
 ghost use Rattle.settings.specs.declared.GlobalField.the-variants.{Usercode};
 ghost use Rattle.settings.specs.declared.Setting.the-variants.{Global};
 ghost use Rattle.part.specs.Answer.{numberOutcome};
@@ -172,24 +173,10 @@ fn lower(above: u32, index: usize, lowest: usize) -> usize
     lowest
 }
 
-// The lowest index of a readout byte that holds a setting of one bit and has a bit above its width, or the length.
-fn stray_of_one(d: Device, readout: &[u8], s: Setting) -> usize
-    requires { ⌜ (known d ≡ true) × (hasSetting d s ≡ true) × (bitsOf s ≡ 1) × (length (now readout) ≡ bytesOf d true) ⌝ }
-    ensures { λ r. ⌜ r ≡ strayOf d (now (readout .entry)) s ⌝ }
-{
-    let place = settings::internal::place_of(d, s, 0);
-    let byte = place.byte;
-    let index = part::internal::index_of_byte(d, byte) as usize;
-    let width = part::internal::width_of(byte);
-    let above = above_width(readout, index, width);
-    lower(above, index, readout.len())
-}
-
-// The lowest index of a readout byte that holds the setting and has a bit above its width, or the length. Only literals and
-// wire-ANDs, of one bit each, lie in bytes narrower than 8 bits.
-pub fn stray_of(d: Device, readout: &[u8], s: Setting) -> usize
-    requires { ⌜ (known d ≡ true) × (hasSetting d s ≡ true) × (length (now readout) ≡ bytesOf d true) ⌝ }
-    ensures { λ r. ⌜ r ≡ strayOf d (now (readout .entry)) s ⌝ }
+// Whether every byte that holds the setting has 8 bits. Literals and wire-ANDs, of one bit each, lie in narrower ones too.
+fn in_whole_bytes(d: Device, s: Setting) -> bool
+    requires { ⌜ (known d ≡ true) × (hasSetting d s ≡ true) ⌝ }
+    ensures { λ r. ⌜ (r ≡ true → (b : ℕ) → b < bitsOf s → widthOf (placeOf s b .byte) ≡ 8) × (r ≡ false → bitsOf s ≡ 1) ⌝ }
 {
     match s {
         Setting::Literal {
@@ -198,21 +185,37 @@ pub fn stray_of(d: Device, readout: &[u8], s: Setting) -> usize
             term: _,
             input: _,
             polarity: _,
-        } => stray_of_one(d, readout, s),
+        } => false,
         Setting::WireAnd {
             block: _,
             input: _,
             source: _,
             macrocell: _,
-        } => stray_of_one(d, readout, s),
+        } => false,
         Setting::Macrocell {
             block: _,
             macrocell: _,
             field: _,
-        } => readout.len(),
-        Setting::Block { block: _, field: _ } => readout.len(),
-        Setting::Global(_) => readout.len(),
+        } => true,
+        Setting::Block { block: _, field: _ } => true,
+        Setting::Global(_) => true,
     }
+}
+
+// The lowest index of a readout byte that holds the setting and has a bit above its width, or the length.
+pub fn stray_of(d: Device, readout: &[u8], s: Setting) -> usize
+    requires { ⌜ (known d ≡ true) × (hasSetting d s ≡ true) × (length (now readout) ≡ bytesOf d true) ⌝ }
+    ensures { λ r. ⌜ r ≡ strayOf d (now (readout .entry)) s ⌝ }
+{
+    if in_whole_bytes(d, s) {
+        return readout.len();
+    }
+    let place = settings::internal::place_of(d, s, 0);
+    let byte = place.byte;
+    let index = part::internal::index_of_byte(d, byte) as usize;
+    let width = part::internal::width_of(byte);
+    let above = above_width(readout, index, width);
+    lower(above, index, readout.len())
 }
 
 // The same for an image or a readout: an image has no bits above a width.
