@@ -92,7 +92,7 @@ module _ (d : Device) (k : known d ≡ true) (readout : List ℕ) (s : Setting) 
   pub its-index : index ≡ byteOf d true (fuseOf d s b)
   its-index = g ∙ ap (λ (q : Place). indexOfByte d (q .byte)) (e ∙ sym (place-again d k s h b l))
 
-  its-width : widthOf (p .byte) ≡ widthAt d index
+  pub its-width : widthOf (p .byte) ≡ widthAt d index
   its-width =
       let byte : hasByte d (p .byte) ≡ true = rw e (its-byte d k s h b l) in
       ap widthOf (sym (of-byte d (p .byte) byte .1)) ∙ ap (λ (i : ℕ). widthOf (byteOfIndex d i)) (sym g)

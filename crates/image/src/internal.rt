@@ -1,7 +1,7 @@
 // Bits and bytes of a list, image or readout alike: for the crates above.
 // A function here may require that an index or a bit is there.
 ghost use mathlib.Core.Path.{_≡_};
-ghost use Prim.Native.Nat.{_<_, _≤_};
+ghost use Prim.Native.Nat.{_+_, _*_, _/_, _%_, _<_, _≤_};
 ghost use lib.ListN.{length};
 ghost use Rattle.image.specs.Bits.{bitAt, withBit, onesIn};
 ghost use Rattle.image.specs.Image.{sum16};
@@ -25,6 +25,25 @@ pub fn set_bit(bytes: &mut [u8], index: usize, bit: u32, state: u32)
     let changed = above / 2 * 2 + state as u64;
     let byte = ((changed << bit) + below) as u8;
     bytes[index] = byte;
+}
+
+// Two neighbouring bits of a byte.
+pub fn pair_of(bytes: &[u8], index: usize, bit: u32) -> u32
+    requires { ⌜ (index < length (now bytes)) × (bit < 7) ⌝ }
+    ensures { λ r. ⌜ r ≡ bitAt (now (bytes .entry)) index bit + 2 * bitAt (now (bytes .entry)) index (bit + 1) ⌝ }
+{
+    (bytes[index] >> bit) as u32 % 4
+}
+
+// Two neighbouring bits of a byte put in place.
+pub fn set_pair(bytes: &mut [u8], index: usize, bit: u32, states: u32)
+    requires { ⌜ (index < length (now bytes)) × (bit < 7) × (states < 4) ⌝ }
+    ensures { λ _. ⌜ now (bytes .exit) ≡ withBit (withBit (now (bytes .entry)) index bit (states % 2)) index (bit + 1) (states / 2) ⌝ }
+{
+    let x = bytes[index];
+    let old = (x >> bit) % 4;
+    let rest = x - (old << bit);
+    bytes[index] = rest + ((states as u8) << bit);
 }
 
 // The sum of the bytes, of which the low 16 bits are kept.

@@ -1,4 +1,4 @@
--- `pattern_at` meets its contract: a bit more of the pattern at each turn.
+-- `pattern_at` meets its contract: USERCODE by pairs; of any other setting, a bit more of the pattern at each turn.
 -- Assumes nothing.
 use mathlib.Core.Path.{_≡_, refl, _∙_, ap, ap₂}
 use mathlib.Core.Bool.{Bool, true}
@@ -16,9 +16,14 @@ use Rattle.image.specs.Bits.{bitAt, gathered}
 use Rattle.edit.specs.Edit.{bytesOf, byteOf, bitIn, stateOf, patternAt}
 use Rattle.edit.proofs.Edits.{inside, fuse-below}
 use Rattle.edit.proofs.Steps.{bits-few, bit-small, bitsRead, read-more}
+use Rattle.edit.proofs.Usercode.{usercode, has-usercode, its-pattern}
 use borrow.Author.Needs.{needs}
 use Rattle.edit.proofs.internal.pattern_at.Statement.{statement}
 use Rattle.edit.proofs.internal.pattern_at.Tie as tie
+
+of-usercode : (d : Device) (form : Bool) (bytes : List ℕ) (s : Setting) (width r : ℕ) → hasSetting d s ≡ true → width ≡ bitsOf s → width ≡ 32
+    → r ≡ patternAt d form bytes usercode → r ≡ patternAt d form bytes s
+of-usercode d form bytes s width r h e q g = g ∙ its-pattern d s h width e q form bytes
 
 -- what has been read so far
 record Read (d : Device) (form : Bool) (bytes : List ℕ) (s : Setting) (width pattern bit : ℕ) : Type 0 where
@@ -68,6 +73,12 @@ abbrev μ-loop : tie.MeasureT-loop
 bits-of-requires : tie.Need-bits-of-requires Inv-loop μ-loop
 bits-of-requires c κs = search needs
 
+usercode-at-requires : tie.Need-usercode-at-requires Inv-loop μ-loop
+usercode-at-requires c κs = (search needs, search (needs, has-usercode), search needs)
+
+returns : tie.Need-returns Inv-loop μ-loop
+returns c = search (needs, of-usercode)
+
 loop-holds : tie.Need-loop-holds Inv-loop μ-loop
 loop-holds c = search (needs, start)
 
@@ -92,8 +103,8 @@ loop-less c = search needs
 loop-again : tie.Need-loop-again Inv-loop μ-loop
 loop-again c = search (needs, more)
 
-returns : tie.Need-returns Inv-loop μ-loop
-returns c = search (needs, end)
+returns-2 : tie.Need-returns-2 Inv-loop μ-loop
+returns-2 c = search (needs, end)
 
 pub pattern-at-spec : {M : Type 1} → statement M
 pattern-at-spec =
@@ -102,6 +113,8 @@ pattern-at-spec =
     Inv-loop
     μ-loop
     bits-of-requires
+    usercode-at-requires
+    returns
     loop-holds
     spot-of-requires
     bit-of-requires
@@ -110,4 +123,4 @@ pattern-at-spec =
     add-bit
     loop-less
     loop-again
-    returns)
+    returns-2)

@@ -1,4 +1,4 @@
--- `put_pattern` meets its contract: one more bit put in place at each turn.
+-- `put_pattern` meets its contract: USERCODE by pairs; of any other setting, one more bit put in place at each turn.
 -- Assumes nothing.
 use mathlib.Core.Path.{_≡_, refl, sym, _∙_, ap}
 use mathlib.Core.Bool.{Bool, true}
@@ -13,11 +13,20 @@ use Rattle.image.proofs.Bits.{with-length}
 use Rattle.settings.specs.Settings.{hasSetting, bitsOf, fuseOf}
 use Rattle.settings.specs.declared.Setting.{Setting}
 use Rattle.edit.specs.Edit.{bytesOf, byteOf, bitIn, withBits, withPattern}
-use Rattle.edit.proofs.Edits.{inside, fuse-below}
+use Rattle.edit.proofs.Edits.{inside, fuse-below, set-length}
 use Rattle.edit.proofs.Steps.{bits-few, bit-small}
+use Rattle.edit.proofs.Usercode.{usercode, has-usercode, its-bytes}
 use borrow.Author.Needs.{needs}
 use Rattle.edit.proofs.internal.put_pattern.Statement.{statement}
 use Rattle.edit.proofs.internal.put_pattern.Tie as tie
+
+module _ (d : Device) (form : Bool) (before : List ℕ) (s : Setting) (pattern width : ℕ) (h : hasSetting d s ≡ true) (e : width ≡ bitsOf s) (q : width ≡ 32)
+    (after : List ℕ) (g : after ≡ withPattern d form before usercode pattern) where
+  of-usercode : after ≡ withPattern d form before s pattern
+  of-usercode = g ∙ its-bytes d s h width e q form before pattern
+
+  kept-usercode : known d ≡ true → length before ≡ bytesOf d form → length after ≡ length before
+  kept-usercode k size = rw of-usercode (set-length d k form before size s h pattern)
 
 -- the bits put in place so far
 record Put (d : Device) (form : Bool) (before : List ℕ) (s : Setting) (pattern width : ℕ) (bytes : List ℕ) (bit : ℕ) : Type 0 where
@@ -74,6 +83,15 @@ abbrev μ-loop : tie.MeasureT-loop
 bits-of-requires : tie.Need-bits-of-requires Inv-loop μ-loop
 bits-of-requires c κs = search needs
 
+put-usercode-requires : tie.Need-put-usercode-requires Inv-loop μ-loop
+put-usercode-requires c κs = (search needs, search (needs, has-usercode), search needs)
+
+same-length : tie.Need-same-length Inv-loop μ-loop
+same-length c = search (needs, kept-usercode)
+
+returns : tie.Need-returns Inv-loop μ-loop
+returns c = search (needs, of-usercode)
+
 loop-holds : tie.Need-loop-holds Inv-loop μ-loop
 loop-holds c = search (needs, start)
 
@@ -95,11 +113,11 @@ loop-less c = search needs
 loop-again : tie.Need-loop-again Inv-loop μ-loop
 loop-again c = search (needs, more)
 
-same-length : tie.Need-same-length Inv-loop μ-loop
-same-length c = search (needs, kept)
+same-length-2 : tie.Need-same-length-2 Inv-loop μ-loop
+same-length-2 c = search (needs, kept)
 
-returns : tie.Need-returns Inv-loop μ-loop
-returns c = search (needs, end)
+returns-2 : tie.Need-returns-2 Inv-loop μ-loop
+returns-2 c = search (needs, end)
 
 pub put-pattern-spec : {M : Type 1} → statement M
 put-pattern-spec =
@@ -108,6 +126,9 @@ put-pattern-spec =
     Inv-loop
     μ-loop
     bits-of-requires
+    put-usercode-requires
+    same-length
+    returns
     loop-holds
     spot-of-requires
     shr-state
@@ -115,5 +136,5 @@ put-pattern-spec =
     add-bit
     loop-less
     loop-again
-    same-length
-    returns)
+    same-length-2
+    returns-2)
