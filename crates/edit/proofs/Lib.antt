@@ -3,6 +3,13 @@
 pub mod Spots
 pub mod Edits
 pub mod Steps
+pub mod NotRefused
+pub mod SameReadout
+pub mod SameImage
+pub mod ReadsAsSet
+pub mod OthersAsBefore
+pub mod ListedFuses
+pub mod OtherFuses
 pub mod Demand
 pub mod Numbered
 pub mod Laws
