@@ -24,6 +24,11 @@ use Rattle.readout.proofs.Laws.{lying, readout-state, change-agrees}
 use Rattle.settings.specs.Settings.{hasSetting, bitsOf, fuseOf, lists}
 use Rattle.settings.specs.declared.Setting.{Setting}
 use Rattle.settings.proofs.Laws as settings
+use Rattle.values.specs.Values.{bitsIn}
+use Rattle.values.specs.declared.Kind.{Kind}
+use Rattle.values.specs.declared.Kind.the-variants as kind
+use Rattle.setting_values.specs.Kinds.{kindOf}
+use Rattle.setting_values.proofs.Widths.{kind-bits}
 use Rattle.edit.specs.Edit.{inImage, inReadout, bytesOf, byteOf, bitIn, stateOf, withState, patternAt, withBits, withPattern, strayAmong}
 use Rattle.edit.proofs.Spots.{a-bit, put, put-length, put-other, put-same, put-read}
 
@@ -43,6 +48,27 @@ listed d t h b l = and-iff (hasSetting d t) (ltb b (bitsOf t)) .1 (h, lt-ltb b (
 
 pub fuse-below : (d : Device) → known d ≡ true → (t : Setting) → hasSetting d t ≡ true → (b : ℕ) → b < bitsOf t → fuseOf d t b < fuseCount d
 fuse-below d k t h b l = settings.left-inverse d k .below t b (listed d t h b l)
+
+-- and each setting has one at least
+some-bit : (k : Kind) → 0 < bitsIn k
+some-bit kind.Flag = omega arith
+some-bit kind.TermAlloc = omega arith
+some-bit kind.ImportAlloc = omega arith
+some-bit kind.ExportDir = omega arith
+some-bit kind.IobOeMux = omega arith
+some-bit kind.OutMux = omega arith
+some-bit kind.OeMux = omega arith
+some-bit kind.ClkMux = omega arith
+some-bit kind.RegMode = omega arith
+some-bit kind.RstSetMux = omega arith
+some-bit kind.UimOeMux = omega arith
+some-bit kind.IobSlew = omega arith
+some-bit (kind.FclkMux c) = omega arith
+some-bit (kind.FoeMux e large) = omega arith
+some-bit kind.Usercode = omega arith
+
+pub some-fuse : (d : Device) (t : Setting) → hasSetting d t ≡ true → 0 < bitsOf t
+some-fuse d t h = rw (← kind-bits d t h) (some-bit (kindOf d t))
 
 -- bits put one after the other, as the definition has it
 as-put : (d : Device) (form : Bool) (bytes : List ℕ) (s : Setting) (pattern w : ℕ)

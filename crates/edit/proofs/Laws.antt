@@ -1,5 +1,6 @@
 -- What holds of reading and setting, each law once, for every device, setting and value:
 --   holds            demand 3, whole (specs/Demand.antt), of the definitions of setting, reading and the passages
+--   some-fuse        each setting of a device lists a fuse at least, so that the field `listed-fuses` is never about none
 --   of-calls         the same of any calls that are those that their names say (`Made`); `both_ways` is such a run
 --   read-after-set, read-after-set-image   in any readout, whatever its other bytes hold, and in any image: a setting that was set reads
 --                    as set
@@ -27,6 +28,7 @@ use Rattle.edit.specs.Edit.{inImage, inReadout, bytesOf, byteOf, bitIn, 
 use Rattle.edit.proofs.Edits.{set-length, set-others, set-reads, set-clean, clean-through}
 use Rattle.edit.proofs.NotRefused.{Clean}
 use Rattle.edit.proofs.ReadsAsSet.{image-clean, readout-clean, reads}
+pub use Rattle.edit.proofs.Edits.{some-fuse}
 pub use Rattle.edit.proofs.Demand.{holds, of-calls}
 pub use Rattle.edit.proofs.Numbered.{reads-numbered, sets-numbered}
 
