@@ -33,6 +33,13 @@ passes : (d : Device) (image target : List ℕ) → known d ≡ true → length 
 unfolding toReadout
 passes d image target k e f = rw (k, eq-eqb (length image) (imageBytes d) e, eq-eqb (length target) (readoutBytes d) f)
 
+-- .. and what the passage of an image's readout back did
+back : (d : Device) (image readout target after : List ℕ) (o : Outcome (Unit {0})) → known d ≡ true → readout ≡ readoutOf d image
+    → length target ≡ imageBytes d → Written (toImage d readout target) o (imageOf d readout) target after → after ≡ imageOf d readout
+back d image readout target after o k same size w =
+    let clean : Within d readout = subst (Within d) (sym same) (readout-accepted d image) in
+    left w (accepted-iff d readout target .1 (k, ap length same ∙ its-length d image, size, clean))
+
 ran : (d : Device) (image readout its-readout its-image : List ℕ) (s : Setting) (v : Value)
     (o1 a b o4 o5 : Outcome (Unit {0})) (x y : Outcome Value) (readout1 image2 readout2 its-readout1 its-image1 : List ℕ)
     → Written (toReadout d image readout) o1 (readoutOf d image) readout readout1
@@ -63,13 +70,11 @@ ran d image readout its-readout its-image s v o1 a b o4 o5 x y readout1 image2 r
     let size2 : length image2 ≡ imageBytes d = ap length changed2 ∙ changed d image s v pattern t .size in
     let its : its-readout1 ≡ readoutOf d image2 = left w4 (passes d image2 its-readout k size2 (room .its-readout-size)) in
     let same : readout2 ≡ readoutOf d image2 = changed3 ∙ same-readout d image s v pattern t ∙ ap (readoutOf d) (sym changed2) in
-    let clean : Within d readout2 = subst (Within d) (sym same) (readout-accepted d image2) in
-    let taken-in : toImage d readout2 its-image ≡ accepted tt =
-    accepted-iff d readout2 its-image .1 (k, ap length same ∙ its-length d image2, room .its-image-size, clean) in
+    let its-own : its-image1 ≡ imageOf d readout2 = back d image2 readout2 its-image its-image1 o5 k same (room .its-image-size) w5 in
     let made : Made d image s v _ = record {
       answers = (w2 .answers, set3 .answers);
       changes = (changed2, changed3);
-      passages = (its, left w5 taken-in);
+      passages = (its, its-own);
       readings = (ex, ey);
     } in
     (made, of-calls d image s v pattern _ t made)
@@ -108,7 +113,13 @@ same-length-4 : tie.Need-same-length-4
 same-length-4 c = search needs
 
 returns : tie.Need-returns
-returns c = ran _ _ _ _ _ _ _ _ _ _ _ _ _ _ _ _ _ _ _ (c .before .before .before .before .before .before .before .before .before .before .before .before .before .before .before .before .before .before .before .before .before .before .before .before .image-to-readout .ensures) (c .before .before .before .before .before .before .before .before .before .before .before .before .before .before .before .before .before .before .before .before .set-in-image .ensures) (c .before .before .before .before .before .before .before .before .before .before .before .before .before .before .before .before .set-in-readout .ensures) (c .before .before .before .before .before .before .before .before .before .before .before .image-to-readout2 .ensures) (c .before .before .before .before .before .before .readout-to-image .ensures) (c .before .before .read-in-image .ensures) (c .read-in-readout .ensures)
+returns c =
+    let passage-back = c .before .before .before .before .before .before in
+    let passage = passage-back .before .before .before .before .before in
+    let set-readout = passage .before .before .before .before .before in
+    let set-image = set-readout .before .before .before .before in
+    let first-passage = set-image .before .before .before .before in
+    ran _ _ _ _ _ _ _ _ _ _ _ _ _ _ _ _ _ _ _ (first-passage .image-to-readout .ensures) (set-image .set-in-image .ensures) (set-readout .set-in-readout .ensures) (passage .image-to-readout2 .ensures) (passage-back .readout-to-image .ensures) (c .before .before .read-in-image .ensures) (c .read-in-readout .ensures)
 
 pub both-ways-spec : {M : Type 1} → statement M
 both-ways-spec =
