@@ -1,5 +1,5 @@
 -- Demand 3 holds: of the definitions of setting, reading and the two passages, for every known device, image, setting and value. Each
--- field has a file of its own, which this one imports in the order of the fields; a field rests on earlier ones alone.
+-- field is proved in a file of its own, and rests on no later one.
 use mathlib.Core.Path.{_≡_}
 use mathlib.Core.List.{List}
 use Prim.Native.Nat.{ℕ}

@@ -28,12 +28,13 @@ use Rattle.edit.proofs.internal.both_ways.Tie as tie
 left : {A : Type 0} {o answer : Outcome A} {x : A} {result before after : List ℕ} → Written o answer result before after → o ≡ accepted x → after ≡ result
 left {result = result} {before = before} w e = w .holds ∙ ap (λ (p : Outcome _). written p result before) e
 
+-- the passage of an image is accepted
 passes : (d : Device) (image target : List ℕ) → known d ≡ true → length image ≡ imageBytes d → length target ≡ readoutBytes d
     → toReadout d image target ≡ accepted tt
 unfolding toReadout
 passes d image target k e f = rw (k, eq-eqb (length image) (imageBytes d) e, eq-eqb (length target) (readoutBytes d) f)
 
--- .. and what the passage of an image's readout back did
+-- the passage back, of a readout that is an image's
 back : (d : Device) (image readout target after : List ℕ) (o : Outcome (Unit {0})) → known d ≡ true → readout ≡ readoutOf d image
     → length target ≡ imageBytes d → Written (toImage d readout target) o (imageOf d readout) target after → after ≡ imageOf d readout
 back d image readout target after o k same size w =
