@@ -4,11 +4,11 @@ use mathlib.Core.Path.{_≡_, refl, sym, _∙_, ap, ap₂}
 use mathlib.Core.Logic.{_≢_}
 use mathlib.Core.Bool.{Bool, true, false}
 use mathlib.Core.List.{List}
-use Prim.Native.Nat.{ℕ, zero, suc, _/_, _%_, _^_, _<_, _≤_}
+use Prim.Native.Nat.{ℕ, zero, suc, _^_, _<_, _≤_}
 use native.Mathlib.Omega.{arith}
 use native.Mathlib.Decide.{ℕ-discrete}
 use lib.Dec.{ltb}
-use lib.ListN.{length, getD}
+use lib.ListN.{length, getD, set}
 use lib.Seq.{getD-set-same, getD-set-other}
 use borrow.Author.Tests.{lt-ltb, lt-leb}
 use Rattle.part.specs.Device.{known, fuseCount, imageBytes, readoutBytes}
@@ -16,12 +16,19 @@ use Rattle.part.specs.declared.Device.{Device}
 use Rattle.part.proofs.Facts.{and-iff}
 use Rattle.part.proofs.Devices.{image-whole}
 use Rattle.image.specs.Bits.{bitOf, bitAt, putBit, withBit}
-use Rattle.image.proofs.Bits.{put-small, with-length, gathered-same}
-use Rattle.readout.specs.Readout.{widthAt, fuseAt, readoutOf, strayAt}
-use Rattle.readout.proofs.Laws.{lying, change-agrees}
+use Rattle.image.specs.Image.{state}
+use Rattle.image.proofs.Bits.{put-small, gathered-same}
+use Rattle.image.proofs.Counts.{state-bit}
+use Rattle.readout.specs.Readout.{widthAt, fuseAt, readoutOf, stateIn, strayAt}
+use Rattle.readout.proofs.Laws.{lying, readout-state, change-agrees}
 use Rattle.settings.specs.Settings.{hasSetting, bitsOf, fuseOf, lists}
 use Rattle.settings.specs.declared.Setting.{Setting}
 use Rattle.settings.proofs.Laws as settings
+use Rattle.values.specs.Values.{bitsIn}
+use Rattle.values.specs.declared.Kind.{Kind}
+use Rattle.values.specs.declared.Kind.the-variants as kind
+use Rattle.setting_values.specs.Kinds.{kindOf}
+use Rattle.setting_values.proofs.Widths.{kind-bits}
 use Rattle.edit.specs.Edit.{inImage, inReadout, bytesOf, byteOf, bitIn, stateOf, withState, patternAt, withBits, withPattern, strayAmong}
 use Rattle.edit.proofs.Spots.{a-bit, put, put-length, put-other, put-same, put-read}
 
@@ -41,6 +48,27 @@ listed d t h b l = and-iff (hasSetting d t) (ltb b (bitsOf t)) .1 (h, lt-ltb b (
 
 pub fuse-below : (d : Device) → known d ≡ true → (t : Setting) → hasSetting d t ≡ true → (b : ℕ) → b < bitsOf t → fuseOf d t b < fuseCount d
 fuse-below d k t h b l = settings.left-inverse d k .below t b (listed d t h b l)
+
+-- and each setting has one at least
+some-bit : (k : Kind) → 0 < bitsIn k
+some-bit kind.Flag = omega arith
+some-bit kind.TermAlloc = omega arith
+some-bit kind.ImportAlloc = omega arith
+some-bit kind.ExportDir = omega arith
+some-bit kind.IobOeMux = omega arith
+some-bit kind.OutMux = omega arith
+some-bit kind.OeMux = omega arith
+some-bit kind.ClkMux = omega arith
+some-bit kind.RegMode = omega arith
+some-bit kind.RstSetMux = omega arith
+some-bit kind.UimOeMux = omega arith
+some-bit kind.IobSlew = omega arith
+some-bit (kind.FclkMux c) = omega arith
+some-bit (kind.FoeMux e large) = omega arith
+some-bit kind.Usercode = omega arith
+
+pub some-fuse : (d : Device) (t : Setting) → hasSetting d t ≡ true → 0 < bitsOf t
+some-fuse d t h = rw (← kind-bits d t h) (some-bit (kindOf d t))
 
 -- bits put one after the other, as the definition has it
 as-put : (d : Device) (form : Bool) (bytes : List ℕ) (s : Setting) (pattern w : ℕ)
@@ -110,24 +138,24 @@ module _ (d : Device) (k : known d ≡ true) (form : Bool) (bytes : List ℕ) (e
       set-other-fuses (fuseOf d t b) (fuse-below d k t ht b l)
       (λ c m x. ne (settings.apart d k t s b c (listed d t ht b l) (listed d s h c m) (sym x) .0)))
 
+-- so many of the bits put: the length stays
+bits-length : (d : Device) → known d ≡ true → (form : Bool) (bytes : List ℕ) → length bytes ≡ bytesOf d form → (s : Setting) → hasSetting d s ≡ true
+    → (pattern w : ℕ) → w ≤ bitsOf s → length (withBits d form bytes s pattern w) ≡ bytesOf d form
+bits-length d k form bytes e s h pattern w l =
+    rw (as-put d form bytes s pattern w)
+    (put-length (λ b. byteOf d form (fuseOf d s b)) (λ b. bitIn d form (fuseOf d s b)) pattern bytes w
+    (λ b m. rw e (inside d form (fuseOf d s b) k (fuse-below d k s h b (omega arith))))
+    ∙ e)
+
 -- The two ways agree, bit after bit: the readout of the changed image is the changed readout
 module _ (d : Device) (k : known d ≡ true) (image : List ℕ) (e : length image ≡ imageBytes d)
     (s : Setting) (h : hasSetting d s ≡ true) (pattern : ℕ) where
-  bits-length : (w : ℕ) → w ≤ bitsOf s → length (withBits d inImage image s pattern w) ≡ imageBytes d
-  unfolding withBits
-  bits-length zero l = e
-  bits-length (suc w) l =
-      let before = bits-length w (omega arith) in
-      with-length (withBits d inImage image s pattern w) _ _ (bitOf pattern w)
-      (rw before (inside d inImage (fuseOf d s w) k (fuse-below d k s h w l))) (a-bit pattern w)
-      ∙ before
-
   bits-agree : (w : ℕ) → w ≤ bitsOf s
       → readoutOf d (withBits d inImage image s pattern w) ≡ withBits d inReadout (readoutOf d image) s pattern w
   unfolding withBits
   bits-agree zero l = refl
   bits-agree (suc w) l =
-      change-agrees d (withBits d inImage image s pattern w) (fuseOf d s w) (bitOf pattern w) k (bits-length w (omega arith))
+      change-agrees d (withBits d inImage image s pattern w) (fuseOf d s w) (bitOf pattern w) k (bits-length d k inImage image e s h pattern w (omega arith))
       (fuse-below d k s h w l) (a-bit pattern w)
       ∙ ap (λ (r : List ℕ). withState d inReadout r (fuseOf d s w) (bitOf pattern w)) (bits-agree w (omega arith))
 
@@ -135,75 +163,55 @@ module _ (d : Device) (k : known d ≡ true) (image : List ℕ) (e : length imag
   unfolding withPattern
   agrees = bits-agree (bitsOf s) (omega arith)
 
--- a byte keeps its bound where a bit within it is put
-module _ (bytes : List ℕ) (index b st bound : ℕ) (there : index < length bytes) (bit : st < 2) (within : b < bound) where
-  pub with-small : getD bytes index 0 < 2 ^ bound → getD (withBit bytes index b st) index 0 < 2 ^ bound
-  unfolding withBit
-  with-small h =
-      rw (getD-set-same bytes index (putBit (getD bytes index 0) b st) 0 there) (put-small (getD bytes index 0) b st bit bound h within)
+-- in the readout of an image each fuse stands as in the image, and so each setting
+module _ (d : Device) (image : List ℕ) where
+  pub same-state : (f : ℕ) → f < fuseCount d → stateOf d inReadout (readoutOf d image) f ≡ stateOf d inImage image f
+  unfolding readoutOf stateIn state
+  same-state f h = readout-state d (state image) (state-bit image) f h
 
-  pub with-elsewhere : (i : ℕ) → i ≢ index → getD (withBit bytes index b st) i 0 ≡ getD bytes i 0
-  unfolding withBit
-  with-elsewhere i ne = getD-set-other bytes index i (putBit (getD bytes index 0) b st) 0 ne
+  pub same-pattern : known d ≡ true → (t : Setting) → hasSetting d t ≡ true → patternAt d inReadout (readoutOf d image) t ≡ patternAt d inImage image t
+  unfolding patternAt
+  same-pattern k t h =
+      gathered-same (λ b. stateOf d inReadout (readoutOf d image) (fuseOf d t b)) (λ b. stateOf d inImage image (fuseOf d t b)) (bitsOf t)
+      (λ b l. same-state (fuseOf d t b) (fuse-below d k t h b l))
 
--- so an image stays a list of bytes ..
-module _ (d : Device) (k : known d ≡ true) (image : List ℕ) (e : length image ≡ imageBytes d)
-    (s : Setting) (h : hasSetting d s ≡ true) (pattern : ℕ) (small : (i : ℕ) → getD image i 0 < 2 ^ 8) where
-  bits-small : (w : ℕ) → w ≤ bitsOf s → (i : ℕ) → getD (withBits d inImage image s pattern w) i 0 < 2 ^ 8
+-- a byte keeps its bound where a bit within the bound is put
+pub with-kept : (bytes : List ℕ) (index b st : ℕ) (bound : ℕ → ℕ) → index < length bytes → st < 2 → b < bound index
+    → (i : ℕ) → getD bytes i 0 < 2 ^ bound i → getD (withBit bytes index b st) i 0 < 2 ^ bound i
+unfolding withBit
+with-kept bytes index b st bound there bit within i own = at-or (ℕ-discrete i index)
+  where
+    at-or : Dec (i ≡ index) → getD (set bytes index (putBit (getD bytes index 0) b st)) i 0 < 2 ^ bound i
+    at-or (yes e) =
+        rw (e, getD-set-same bytes index (putBit (getD bytes index 0) b st) 0 there)
+        (put-small (getD bytes index 0) b st bit (bound index) (rw e at own) within)
+    at-or (no ne) = rw (getD-set-other bytes index i (putBit (getD bytes index 0) b st) 0 ne) own
+
+module _ (d : Device) (k : known d ≡ true) (form : Bool) (bytes : List ℕ) (e : length bytes ≡ bytesOf d form)
+    (s : Setting) (h : hasSetting d s ≡ true) (pattern : ℕ) (bound : ℕ → ℕ)
+    (within : (b : ℕ) → b < bitsOf s → bitIn d form (fuseOf d s b) < bound (byteOf d form (fuseOf d s b))) where
+  bits-kept : (w : ℕ) → w ≤ bitsOf s → (i : ℕ) → getD bytes i 0 < 2 ^ bound i → getD (withBits d form bytes s pattern w) i 0 < 2 ^ bound i
   unfolding withBits
-  bits-small zero l i = small i
-  bits-small (suc w) l i =
-      let f = fuseOf d s w in
-      let before = withBits d inImage image s pattern w in
-      let there : f / 8 < length before =
-      rw (bits-length d k image e s h pattern w (omega arith)) (inside d inImage f k (fuse-below d k s h w l)) in
-      here (ℕ-discrete i (f / 8)) there (bits-small w (omega arith) i) (bits-small w (omega arith) (f / 8))
-    where
-      here : Dec (i ≡ fuseOf d s w / 8) → fuseOf d s w / 8 < length (withBits d inImage image s pattern w)
-          → getD (withBits d inImage image s pattern w) i 0 < 2 ^ 8 → getD (withBits d inImage image s pattern w) (fuseOf d s w / 8) 0 < 2 ^ 8
-          → getD (withState d inImage (withBits d inImage image s pattern w) (fuseOf d s w) (bitOf pattern w)) i 0 < 2 ^ 8
-      here (yes x) there own at =
-          rw x (with-small (withBits d inImage image s pattern w) (fuseOf d s w / 8) (fuseOf d s w % 8) (bitOf pattern w) 8 there (a-bit pattern w) (omega arith) at)
-      here (no x) there own at =
-          rw (with-elsewhere (withBits d inImage image s pattern w) (fuseOf d s w / 8) (fuseOf d s w % 8) (bitOf pattern w) 8 there (a-bit pattern w) (omega arith) i x) own
+  bits-kept zero l i own = own
+  bits-kept (suc w) l i own =
+      with-kept (withBits d form bytes s pattern w) (byteOf d form (fuseOf d s w)) (bitIn d form (fuseOf d s w)) (bitOf pattern w) bound
+      (rw (bits-length d k form bytes e s h pattern w (omega arith)) (inside d form (fuseOf d s w) k (fuse-below d k s h w l))) (a-bit pattern w) (within w l)
+      i (bits-kept w (omega arith) i own)
 
-  pub set-small : (i : ℕ) → getD (withPattern d inImage image s pattern) i 0 < 2 ^ 8
+  set-kept : (i : ℕ) → getD bytes i 0 < 2 ^ bound i → getD (withPattern d form bytes s pattern) i 0 < 2 ^ bound i
   unfolding withPattern
-  set-small = bits-small (bitsOf s) (omega arith)
+  set-kept = bits-kept (bitsOf s) (omega arith)
+
+-- so a byte of an image stays a byte ..
+pub set-small : (d : Device) → known d ≡ true → (image : List ℕ) → length image ≡ imageBytes d → (s : Setting) → hasSetting d s ≡ true
+    → (pattern i : ℕ) → getD image i 0 < 2 ^ 8 → getD (withPattern d inImage image s pattern) i 0 < 2 ^ 8
+set-small d k image e s h pattern = set-kept d k inImage image e s h pattern (λ i. 8) (λ b l. omega arith)
 
 -- .. and a readout byte without a bit above its width stays one
-module _ (d : Device) (k : known d ≡ true) (readout : List ℕ) (e : length readout ≡ readoutBytes d)
-    (s : Setting) (h : hasSetting d s ≡ true) (pattern : ℕ) where
-  readout-length : (w : ℕ) → w ≤ bitsOf s → length (withBits d inReadout readout s pattern w) ≡ readoutBytes d
-  unfolding withBits
-  readout-length zero l = e
-  readout-length (suc w) l =
-      let before = readout-length w (omega arith) in
-      with-length (withBits d inReadout readout s pattern w) _ _ (bitOf pattern w)
-      (rw before (inside d inReadout (fuseOf d s w) k (fuse-below d k s h w l))) (a-bit pattern w)
-      ∙ before
-
-  bits-clean : (w : ℕ) → w ≤ bitsOf s → (i : ℕ) → getD readout i 0 < 2 ^ widthAt d i → getD (withBits d inReadout readout s pattern w) i 0 < 2 ^ widthAt d i
-  unfolding withBits
-  bits-clean zero l i c = c
-  bits-clean (suc w) l i c =
-      let f = fuseOf d s w in
-      let below = fuse-below d k s h w l in
-      let there : byteOf d inReadout f < length (withBits d inReadout readout s pattern w) = rw (readout-length w (omega arith)) (inside d inReadout f k below) in
-      here (ℕ-discrete i (byteOf d inReadout f)) there (lying d f below .bit-below) (bits-clean w (omega arith) i c)
-    where
-      here : Dec (i ≡ byteOf d inReadout (fuseOf d s w)) → byteOf d inReadout (fuseOf d s w) < length (withBits d inReadout readout s pattern w)
-          → bitIn d inReadout (fuseOf d s w) < widthAt d (byteOf d inReadout (fuseOf d s w))
-          → getD (withBits d inReadout readout s pattern w) i 0 < 2 ^ widthAt d i
-          → getD (withState d inReadout (withBits d inReadout readout s pattern w) (fuseOf d s w) (bitOf pattern w)) i 0 < 2 ^ widthAt d i
-      here (yes x) there inBits own =
-          rw x (with-small (withBits d inReadout readout s pattern w) (byteOf d inReadout (fuseOf d s w)) (bitIn d inReadout (fuseOf d s w)) (bitOf pattern w) (widthAt d (byteOf d inReadout (fuseOf d s w))) there (a-bit pattern w) inBits (rw x at own))
-      here (no x) there inBits own =
-          rw (with-elsewhere (withBits d inReadout readout s pattern w) (byteOf d inReadout (fuseOf d s w)) (bitIn d inReadout (fuseOf d s w)) (bitOf pattern w) (widthAt d (byteOf d inReadout (fuseOf d s w))) there (a-bit pattern w) inBits i x) own
-
-  pub set-clean : (i : ℕ) → getD readout i 0 < 2 ^ widthAt d i → getD (withPattern d inReadout readout s pattern) i 0 < 2 ^ widthAt d i
-  unfolding withPattern
-  set-clean = bits-clean (bitsOf s) (omega arith)
+pub set-clean : (d : Device) → known d ≡ true → (readout : List ℕ) → length readout ≡ readoutBytes d → (s : Setting) → hasSetting d s ≡ true
+    → (pattern i : ℕ) → getD readout i 0 < 2 ^ widthAt d i → getD (withPattern d inReadout readout s pattern) i 0 < 2 ^ widthAt d i
+set-clean d k readout e s h pattern =
+    set-kept d k inReadout readout e s h pattern (widthAt d) (λ b l. lying d (fuseOf d s b) (fuse-below d k s h b l) .bit-below)
 
 -- no byte that holds the setting has a bit above its width exactly if the scan goes through
 pub clean-through : (d : Device) (readout : List ℕ) (s : Setting) (w : ℕ)

@@ -1,11 +1,12 @@
 -- What holds of reading and setting, each law once, for every device, setting and value:
 --   holds            demand 3, whole (specs/Demand.antt), of the definitions of setting, reading and the passages
---   of-calls         the same of any calls that gave what their definitions say; `both_ways` is such a run
+--   some-fuse        each setting of a device lists a fuse at least, so that the field `listed-fuses` is never about none
+--   of-calls         the same of any calls that are those that their names say (`Made`); `both_ways` is such a run
 --   read-after-set, read-after-set-image   in any readout, whatever its other bytes hold, and in any image: a setting that was set reads
 --                    as set
 --   other-bits       .. and every bit of every byte that is none of the setting's stands as before
 --   reads-numbered, sets-numbered   the edit by number and pattern is the edit by the setting and the value that they stand for
-use mathlib.Core.Path.{_≡_, _∙_, ap}
+use mathlib.Core.Path.{_≡_, _∙_}
 use mathlib.Core.Bool.{Bool, true}
 use mathlib.Core.List.{List}
 use mathlib.Core.Option.Option.{some}
@@ -21,11 +22,13 @@ use Rattle.settings.specs.declared.Setting.{Setting}
 use Rattle.values.specs.Patterns.{patternIn}
 use Rattle.values.specs.declared.Value.{Value}
 use Rattle.values.proofs.Laws as values
-use Rattle.setting_values.specs.Kinds.{kindOf, valueOf}
+use Rattle.setting_values.specs.Kinds.{kindOf}
 use Rattle.setting_values.proofs.Widths.{kind-bits}
 use Rattle.edit.specs.Edit.{inImage, inReadout, bytesOf, byteOf, bitIn, withPattern, withValue, readIn}
 use Rattle.edit.proofs.Edits.{set-length, set-others, set-reads, set-clean, clean-through}
-use Rattle.edit.proofs.Demand.{Clean, image-clean, readout-clean, reads}
+use Rattle.edit.proofs.NotRefused.{Clean}
+use Rattle.edit.proofs.ReadsAsSet.{image-clean, readout-clean, reads}
+pub use Rattle.edit.proofs.Edits.{some-fuse}
 pub use Rattle.edit.proofs.Demand.{holds, of-calls}
 pub use Rattle.edit.proofs.Numbered.{reads-numbered, sets-numbered}
 
@@ -38,9 +41,8 @@ module _ (d : Device) (k : known d ≡ true) (s : Setting) (h : hasSetting d s �
   unfolding withValue
   reads-set form bytes e clean =
       rw p
-      (reads d form (withPattern d form bytes s pattern) s k (set-length d k form bytes e s h pattern ∙ e) h clean
-      ∙ ap (λ (x : ℕ). accepted (valueOf d s x)) (set-reads d k form bytes e s h pattern fits)
-      ∙ ap accepted (values.pattern-iff (kindOf d s) v pattern .0 p .1))
+      (reads d form (withPattern d form bytes s pattern) s pattern v k (set-length d k form bytes e s h pattern ∙ e) h clean
+      (set-reads d k form bytes e s h pattern fits) (values.pattern-iff (kindOf d s) v pattern .0 p .1))
 
   pub read-after-set-image : (image : List ℕ) → length image ≡ imageBytes d → readIn d inImage (withValue d inImage image s v) s ≡ accepted v
   read-after-set-image image e = reads-set inImage image e (image-clean d _ _)

@@ -78,9 +78,11 @@ module _ (d : Device) (k : known d ≡ true) (form : Bool) (bytes : List ℕ) (n
       let one = passed (known d) _ 1 0 e in
       let two = passed (eqb (length bytes) (bytesOf d form)) _ 2 0 (one .1) in
       let three = passed (ltb number (countOf d)) _ 4 0 (two .1) in
-      let same = not-stray (ltb (strayIn d form bytes (settingOf d number)) (bytesOf d form)) (strayIn d form bytes (settingOf d number)) (patternAt d form bytes (settingOf d number)) p (three .1) in
-      rw (← same)
-      (gathered-small (λ b. stateOf d form bytes (fuseOf d (settingOf d number) b)) (λ b. state-small d form bytes (fuseOf d (settingOf d number) b)) (bitsOf (settingOf d number)))
+      let same : patternAt d form bytes (settingOf d number) ≡ p =
+      not-stray (ltb (strayIn d form bytes (settingOf d number)) (bytesOf d form)) (strayIn d form bytes (settingOf d number)) _ p (three .1) in
+      let small : patternAt d form bytes (settingOf d number) < 2 ^ bitsOf (settingOf d number) =
+      gathered-small (λ b. stateOf d form bytes (fuseOf d (settingOf d number) b)) (λ b. state-small d form bytes (fuseOf d (settingOf d number) b)) (bitsOf (settingOf d number)) in
+      omega arith
 
   pub read-value : (v : Value) → accepted v ≡ readIn d form bytes (settingOf d number)
       → (p : ℕ) × (readPattern d form bytes number ≡ accepted p) × (patternIn (kindOf d (settingOf d number)) v ≡ some p)

@@ -5,18 +5,18 @@ use mathlib.Core.Bool.{Bool, true, false, not, _&&_}
 use mathlib.Core.List.{List}
 use Prim.Native.Nat.{ℕ, suc, _+_, _*_, _/_, _%_, _^_, _<_, _≤_}
 use native.Mathlib.Omega.{arith}
-use native.Mathlib.Nat.{div-eq-of-lt, div-lt-iff-lt-mul}
+use native.Mathlib.Nat.{div-eq-of-lt, div-lt-iff-lt-mul, mul-le-mul, mul-le-mul-right}
 use lib.Dec.{ltb, leb, eqb}
 use lib.ListN.{getD}
 use lib.Pow.{pow-pos, pow-mono, shl-exact}
 use borrow.Author.Tests.{lt-leb, le-leb, ne-eqb}
-use Rattle.part.specs.Device.{known, readoutBytes}
+use Rattle.part.specs.Device.{known, inDevice, fuseCount, readoutBytes}
 use Rattle.part.specs.Place.{hasByte, hasPlace, widthOf, placeOfFuse, indexOfByte, byteOfIndex}
 use Rattle.part.specs.declared.Device.{Device}
 use Rattle.part.specs.declared.Place.{Place}
 use Rattle.part.proofs.Facts.{and-iff, compared}
 use Rattle.part.proofs.Laws.{width-small}
-use Rattle.part.proofs.Devices.{fuses-small, image-whole, in-device-small}
+use Rattle.part.proofs.Devices.{by-count, known-count, fuses-small, image-whole, in-device-small}
 use Rattle.part.proofs.Fuses.{of-place}
 use Rattle.part.proofs.Readouts.{of-byte}
 use Rattle.image.specs.Bits.{bitAt, gathered}
@@ -32,11 +32,17 @@ use Rattle.values.proofs.Laws as values
 use Rattle.edit.specs.Edit.{bytesOf, byteOf, bitIn, stateOf, strayAmong}
 use Rattle.edit.proofs.Edits.{fuse-below}
 
--- no image and no readout has more bytes than those of the largest device
-pub bytes-few : (d : Device) (form : Bool) → known d ≡ true → bytesOf d form ≤ 40320
-unfolding readoutBytes
-bytes-few d false k = omega (arith, fuses-small d k, image-whole d k)
-bytes-few d true k = in-device-small d 1080 90 k
+-- an image or a readout has at least the bytes of the smallest device's image, and at most those of the largest device's readout
+least : (d : Device) (main subarea : ℕ) → known d ≡ true → 2 * (main + 2 * subarea) ≤ inDevice d main subarea
+least d main subarea k =
+    let two : 2 ≤ d .blocks =
+    by-count (λ n. 2 ≤ n) (omega arith) (omega arith) (omega arith) (omega arith) (omega arith) (omega arith) (d .blocks) (known-count d k) in
+    mul-le-mul two (omega (arith, mul-le-mul-right subarea two))
+
+pub bytes-between : (d : Device) (form : Bool) → known d ≡ true → (2268 ≤ bytesOf d form) × (bytesOf d form ≤ 40320)
+unfolding readoutBytes fuseCount
+bytes-between d false k = (omega (arith, least d 7776 648 k, image-whole d k), omega (arith, fuses-small d k, image-whole d k))
+bytes-between d true k = (omega (arith, least d 1080 90 k), in-device-small d 1080 90 k)
 
 -- a setting has at most 32 bits
 pub bits-few : (d : Device) (s : Setting) → hasSetting d s ≡ true → bitsOf s ≤ 32

@@ -20,7 +20,7 @@ use Rattle.values.specs.declared.Value.{Value}
 use Rattle.setting_values.specs.Kinds.{kindOf}
 use Rattle.setting_values.specs.Operations.{valueOutcome}
 use Rattle.edit.specs.declared.internal.BothAnswer.{BothAnswer}
-use Rattle.edit.specs.Edit.{inImage, inReadout, stateOf, readIn, setIn}
+use Rattle.edit.specs.Edit.{inImage, inReadout, stateOf, readIn, setIn, withValue}
 
 -- "take any known device, any image of it, the readout of that image, any setting of that device and any value of that setting"; the
 -- value stands for a pattern of states: by `pattern-iff` (values/proofs/Laws.antt) the only one that has this value
@@ -43,11 +43,15 @@ pub record Calls : Type 0 where
   pub read-image : Outcome Value
   pub read-readout : Outcome Value
 
-pub record Demand3 (d : Device) (image : List ℕ) (s : Setting) (v : Value) (pattern : ℕ) (c : Calls) : Type 0 where
-  -- the calls are those that their names say: each answer, and the bytes of each passage, are the definition's
+-- the calls are those that their names say: the answers of setting and what it left, the bytes of each passage and the answers of reading
+-- are the definitions'
+pub record Made (d : Device) (image : List ℕ) (s : Setting) (v : Value) (c : Calls) : Type 0 where
   pub answers : (c .set-image ≡ setIn d inImage image s v) × (c .set-readout ≡ setIn d inReadout (readoutOf d image) s v)
+  pub changes : (c .image ≡ withValue d inImage image s v) × (c .readout ≡ withValue d inReadout (readoutOf d image) s v)
   pub passages : (c .its-readout ≡ readoutOf d (c .image)) × (c .its-image ≡ imageOf d (c .readout))
   pub readings : (c .read-image ≡ readIn d inImage (c .image) s) × (c .read-readout ≡ readIn d inReadout (c .readout) s)
+
+pub record Demand3 (d : Device) (image : List ℕ) (s : Setting) (v : Value) (pattern : ℕ) (c : Calls) : Type 0 where
   -- "Set it in the image, or set it straight in the readout's few bytes. Neither is refused."
   pub not-refused : (c .set-image ≡ accepted tt) × (c .set-readout ≡ accepted tt)
   -- "Then the changed readout equals, byte for byte, the readout of the changed image, .."
@@ -88,7 +92,7 @@ pub record Room (d : Device) (readout its-readout its-image : List ℕ) : Type 0
   pub its-readout-size : length its-readout ≡ readoutBytes d
   pub its-image-size : length its-image ≡ imageBytes d
 
--- what `both_ways` ensures of its calls: demand 3, for whatever it was given
+-- what `both_ways` ensures of its calls, for whatever it was given: they are those, and demand 3 holds of them
 abbrev pub BothWays : Device → (image readout its-readout its-image : List ℕ) → Setting → Value → Calls → Type 0
 BothWays d image readout its-readout its-image s v c =
-    (pattern : ℕ) → Taken d image s v pattern → Room d readout its-readout its-image → Demand3 d image s v pattern c
+    (pattern : ℕ) → Taken d image s v pattern → Room d readout its-readout its-image → Made d image s v c × Demand3 d image s v pattern c

@@ -21,7 +21,7 @@ use Rattle.values.specs.declared.Value.{Value}
 use Rattle.values.specs.declared.Kind.{Kind}
 use Rattle.setting_values.specs.Kinds.{kindOf}
 use Rattle.edit.specs.Edit.{bytesOf, patternAt, strayIn, readIn}
-use Rattle.edit.proofs.Steps.{bytes-few}
+use Rattle.edit.proofs.Steps.{bytes-between}
 use borrow.Author.Needs.{needs}
 use Rattle.edit.proofs.internal.read.Statement.{statement}
 use Rattle.edit.proofs.internal.read.Tie as tie
@@ -40,7 +40,7 @@ module _ (d : Device) (form : Bool) (bytes : List ℕ) (s : Setting) (size : ℕ
     its-size = n ∙ e
 
     small : (stray : ℕ) → stray < length bytes → Fits w32 stray
-    small stray l = record { fits = omega (arith, its-size, bytes-few d form k) }
+    small stray l = record { fits = omega (arith, its-size, bytes-between d form k) }
 
     no-setting : hasSetting d s ≡ false → refused 4 0 ≡ readIn d form bytes s
     unfolding readIn

@@ -27,7 +27,7 @@ use Rattle.values.specs.declared.internal.Found.{Found}
 use Rattle.values.specs.declared.internal.Found.the-variants.{Pattern, NoSuchValue}
 use Rattle.setting_values.specs.Kinds.{kindOf}
 use Rattle.edit.specs.Edit.{bytesOf, strayIn, setIn, withPattern, withValue}
-use Rattle.edit.proofs.Steps.{bytes-few}
+use Rattle.edit.proofs.Steps.{bytes-between}
 use borrow.Author.Needs.{needs}
 use Rattle.edit.proofs.internal.set.Statement.{statement}
 use Rattle.edit.proofs.internal.set.Tie as tie
@@ -54,7 +54,7 @@ module _ (d : Device) (form : Bool) (bytes : List ℕ) (s : Setting) (v : Value)
     its-size = n ∙ e
 
     small : (stray : ℕ) → stray < length bytes → Fits w32 stray
-    small stray l = record { fits = omega (arith, its-size, bytes-few d form k) }
+    small stray l = record { fits = omega (arith, its-size, bytes-between d form k) }
 
     no-setting : hasSetting d s ≡ false → Given d form bytes s v (refused 4 0) bytes
     unfolding setIn
@@ -114,7 +114,7 @@ enum-known-found : tie.Need-enum-known-found
 enum-known-found c = search needs
 
 stray-in-requires : tie.Need-stray-in-requires
-stray-in-requires c κs = (search (needs, is-known), has _ _ _ (c .before .before .before .before .before .before .before .has-setting .ensures) (c .before .before .before .before .before .before .if3 .left), search (needs, its-size))
+stray-in-requires c κs = let at = c .before .before .before .before .before .before in (search (needs, is-known), has _ _ _ (at .before .has-setting .ensures) (at .if3 .left), search (needs, its-size))
 
 cast-index : tie.Need-cast-index
 cast-index c = search (needs, is-known, small)
@@ -126,7 +126,7 @@ returns-4 : tie.Need-returns-4
 returns-4 c = search (needs, is-known, has, a-stray)
 
 put-pattern-requires : tie.Need-put-pattern-requires
-put-pattern-requires c κs = (search (needs, is-known), has _ _ _ (c .before .before .before .before .before .before .before .before .before .before .has-setting .ensures) (c .before .before .before .before .before .before .before .before .before .if3 .left), search (needs, its-size))
+put-pattern-requires c κs = let at = c .before .before .before .before .before .before .before .before .before in (search (needs, is-known), has _ _ _ (at .before .has-setting .ensures) (at .if3 .left), search (needs, its-size))
 
 enum-told : tie.Need-enum-told
 enum-told c = search needs

@@ -1,0 +1,28 @@
+-- Demand 3: "Each fuse listed for the setting stands as the value needs it."
+-- Assumes nothing.
+use mathlib.Core.Path.{_≡_, _∙_}
+use mathlib.Core.List.{List}
+use Prim.Native.Nat.{ℕ, _<_}
+use Rattle.part.specs.declared.Device.{Device}
+use Rattle.image.specs.Bits.{bitOf}
+use Rattle.readout.specs.Readout.{readoutOf}
+use Rattle.settings.specs.Settings.{bitsOf, fuseOf}
+use Rattle.settings.specs.declared.Setting.{Setting}
+use Rattle.values.specs.declared.Value.{Value}
+use Rattle.edit.specs.Edit.{inImage, inReadout, stateOf, withValue}
+use Rattle.edit.specs.Demand.{Taken}
+use Rattle.edit.proofs.Edits.{fuse-below, set-fuses, same-state}
+use Rattle.edit.proofs.SameReadout.{start, same-readout}
+
+module _ (d : Device) (image : List ℕ) (s : Setting) (v : Value) (pattern : ℕ) (taken : Taken d image s v pattern) (b : ℕ) (l : b < bitsOf s) where
+  in-image : stateOf d inImage (withValue d inImage image s v) (fuseOf d s b) ≡ bitOf pattern b
+  unfolding withValue
+  in-image = rw (taken .value) (set-fuses d (taken .device) inImage _ (start d image s v pattern taken .size) s (taken .setting) _ b l)
+
+  pub listed-fuses : (stateOf d inImage (withValue d inImage image s v) (fuseOf d s b) ≡ bitOf pattern b)
+      × (stateOf d inReadout (withValue d inReadout (readoutOf d image) s v) (fuseOf d s b) ≡ bitOf pattern b)
+  listed-fuses = (
+    in-image,
+    rw (same-readout d image s v pattern taken)
+        (same-state d _ (fuseOf d s b) (fuse-below d (taken .device) s (taken .setting) b l) ∙ in-image),
+  )

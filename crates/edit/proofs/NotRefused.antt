@@ -1,0 +1,53 @@
+-- Demand 3: "Set it in the image, or set it straight in the readout's few bytes. Neither is refused."
+-- Assumes nothing.
+use mathlib.Core.Path.{_≡_, refl}
+use mathlib.Core.Bool.{Bool, true}
+use mathlib.Core.List.{List}
+use mathlib.Core.Option.Option.{some}
+use Prim.Native.Nat.{ℕ}
+use native.Mathlib.Omega.{arith}
+use lib.ListN.{length}
+use borrow.Author.Tests.{eq-eqb, le-ltb}
+use Rattle.part.specs.Outcome.Outcome.{accepted}
+use Rattle.part.specs.Device.{known, readoutBytes}
+use Rattle.part.specs.declared.Device.{Device}
+use Rattle.readout.specs.Readout.{readoutOf}
+use Rattle.readout.proofs.Laws.{from-length, readout-accepted}
+use Rattle.settings.specs.Settings.{hasSetting, bitsOf, fuseOf}
+use Rattle.settings.specs.declared.Setting.{Setting}
+use Rattle.values.specs.Patterns.{patternIn}
+use Rattle.values.specs.declared.Value.{Value}
+use Rattle.setting_values.specs.Kinds.{kindOf}
+use Rattle.edit.specs.Edit.{inImage, inReadout, bytesOf, byteOf, strayAmong, strayIn, setIn}
+use Rattle.edit.specs.Demand.{Taken}
+use Rattle.edit.proofs.Edits.{inside, fuse-below, clean-through}
+
+-- no byte that holds the setting has a bit above its width
+abbrev pub Clean : Device → Bool → List ℕ → Setting → Type 0
+Clean d form bytes t = strayIn d form bytes t ≡ bytesOf d form
+
+-- setting is not refused where the device, the length, the setting and the value are right and no byte has such a bit
+sets : (d : Device) (form : Bool) (bytes : List ℕ) (t : Setting) (v : Value) (pattern : ℕ) → known d ≡ true → length bytes ≡ bytesOf d form
+    → hasSetting d t ≡ true → patternIn (kindOf d t) v ≡ some pattern → Clean d form bytes t → setIn d form bytes t v ≡ accepted tt
+unfolding setIn
+sets d form bytes t v pattern k e h p clean =
+    rw (k, eq-eqb (length bytes) (bytesOf d form) e, h, p, clean, le-ltb (bytesOf d form) (bytesOf d form) (omega arith))
+
+-- the readout of an image: its length, and no byte of it has such a bit
+pub its-length : (d : Device) (image : List ℕ) → length (readoutOf d image) ≡ readoutBytes d
+unfolding readoutOf
+its-length d image = from-length d _
+
+pub its-bits : (d : Device) (image : List ℕ) (t : Setting) → known d ≡ true → hasSetting d t ≡ true → strayAmong d (readoutOf d image) t (bitsOf t) ≡ readoutBytes d
+its-bits d image t k h =
+    clean-through d (readoutOf d image) t (bitsOf t)
+    (λ b l. readout-accepted d image (byteOf d inReadout (fuseOf d t b)) (inside d inReadout (fuseOf d t b) k (fuse-below d k t h b l)))
+
+pub not-refused : (d : Device) (image : List ℕ) (s : Setting) (v : Value) (pattern : ℕ) → Taken d image s v pattern
+    → (setIn d inImage image s v ≡ accepted tt) × (setIn d inReadout (readoutOf d image) s v ≡ accepted tt)
+unfolding strayIn
+not-refused d image s v pattern taken = (
+  sets d inImage image s v pattern (taken .device) (taken .size) (taken .setting) (taken .value) refl,
+  sets d inReadout (readoutOf d image) s v pattern (taken .device) (its-length d image) (taken .setting) (taken .value)
+      (its-bits d image s (taken .device) (taken .setting)),
+)

@@ -1,0 +1,29 @@
+-- Demand 3: "Every other fuse of the part, named or not, stands as before."
+-- Assumes nothing.
+use mathlib.Core.Path.{_≡_, sym, _∙_}
+use mathlib.Core.Logic.{_≢_}
+use mathlib.Core.List.{List}
+use Prim.Native.Nat.{ℕ, _<_}
+use Rattle.part.specs.Device.{fuseCount}
+use Rattle.part.specs.declared.Device.{Device}
+use Rattle.readout.specs.Readout.{readoutOf}
+use Rattle.settings.specs.Settings.{bitsOf, fuseOf}
+use Rattle.settings.specs.declared.Setting.{Setting}
+use Rattle.values.specs.declared.Value.{Value}
+use Rattle.edit.specs.Edit.{inImage, inReadout, stateOf, withValue}
+use Rattle.edit.specs.Demand.{Taken}
+use Rattle.edit.proofs.Edits.{set-other-fuses, same-state}
+use Rattle.edit.proofs.SameReadout.{start, same-readout}
+
+module _ (d : Device) (image : List ℕ) (s : Setting) (v : Value) (pattern : ℕ) (taken : Taken d image s v pattern)
+    (f : ℕ) (l : f < fuseCount d) (apart : (b : ℕ) → b < bitsOf s → fuseOf d s b ≢ f) where
+  in-image : stateOf d inImage (withValue d inImage image s v) f ≡ stateOf d inImage image f
+  unfolding withValue
+  in-image = rw (taken .value) (set-other-fuses d (taken .device) inImage _ (start d image s v pattern taken .size) s (taken .setting) _ f l apart)
+
+  pub other-fuses : (stateOf d inImage (withValue d inImage image s v) f ≡ stateOf d inImage image f)
+      × (stateOf d inReadout (withValue d inReadout (readoutOf d image) s v) f ≡ stateOf d inReadout (readoutOf d image) f)
+  other-fuses = (
+    in-image,
+    rw (same-readout d image s v pattern taken) (same-state d _ f l ∙ in-image ∙ sym (same-state d image f l)),
+  )

@@ -1,0 +1,44 @@
+-- Demand 3: ".. and every other setting reads as it did before."
+-- Assumes nothing.
+use mathlib.Core.Path.{_≡_, sym, _∙_}
+use mathlib.Core.Logic.{_≢_}
+use mathlib.Core.Bool.{true}
+use mathlib.Core.List.{List}
+use Prim.Native.Nat.{ℕ}
+use native.Mathlib.Omega.{arith}
+use lib.ListN.{length}
+use borrow.Author.Tests.{eq-eqb, le-ltb}
+use Rattle.part.specs.Device.{imageBytes}
+use Rattle.part.specs.declared.Device.{Device}
+use Rattle.readout.specs.Readout.{readoutOf}
+use Rattle.settings.specs.Settings.{hasSetting}
+use Rattle.settings.specs.declared.Setting.{Setting}
+use Rattle.values.specs.declared.Value.{Value}
+use Rattle.edit.specs.Edit.{inImage, inReadout, patternAt, readIn, withValue}
+use Rattle.edit.specs.Demand.{Taken}
+use Rattle.edit.proofs.Edits.{set-others-read}
+use Rattle.edit.proofs.SameReadout.{start, same-readout}
+use Rattle.edit.proofs.SameImage.{changed}
+use Rattle.edit.proofs.ReadsAsSet.{image-clean, same-reading}
+
+module _ (d : Device) (image : List ℕ) (s : Setting) (v : Value) (pattern : ℕ) (taken : Taken d image s v pattern)
+    (t : Setting) (h : hasSetting d t ≡ true) (ne : t ≢ s) where
+  stands : patternAt d inImage (withValue d inImage image s v) t ≡ patternAt d inImage image t
+  unfolding withValue
+  stands = rw (taken .value) (set-others-read d (taken .device) inImage _ (start d image s v pattern taken .size) s (taken .setting) _ t h ne)
+
+  in-image : readIn d inImage (withValue d inImage image s v) t ≡ readIn d inImage image t
+  unfolding readIn
+  in-image =
+      let after = withValue d inImage image s v in
+      rw (taken .device, eq-eqb (length after) (imageBytes d) (changed d image s v pattern taken .size), eq-eqb (length image) (imageBytes d) (taken .size), h, image-clean d after t, image-clean d image t, le-ltb (imageBytes d) (imageBytes d) (omega arith), stands)
+
+  pub others-as-before : (readIn d inImage (withValue d inImage image s v) t ≡ readIn d inImage image t)
+      × (readIn d inReadout (withValue d inReadout (readoutOf d image) s v) t ≡ readIn d inReadout (readoutOf d image) t)
+  others-as-before = (
+    in-image,
+    rw (same-readout d image s v pattern taken)
+        (same-reading d _ t (taken .device) (changed d image s v pattern taken .size) h
+        ∙ in-image
+        ∙ sym (same-reading d image t (taken .device) (taken .size) h)),
+  )

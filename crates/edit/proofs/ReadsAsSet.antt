@@ -1,0 +1,72 @@
+-- Demand 3: "In the changed image and in the changed readout the setting reads as that value, .."
+-- Assumes nothing.
+use mathlib.Core.Path.{_≡_, refl, _∙_}
+use mathlib.Core.Bool.{Bool, true}
+use mathlib.Core.List.{List}
+use Prim.Native.Nat.{ℕ, _^_, _<_}
+use native.Mathlib.Omega.{arith}
+use lib.ListN.{length}
+use borrow.Author.Tests.{eq-eqb, le-ltb}
+use Rattle.part.specs.Outcome.Outcome.{accepted}
+use Rattle.part.specs.Device.{known, imageBytes, readoutBytes}
+use Rattle.part.specs.declared.Device.{Device}
+use Rattle.readout.specs.Readout.{readoutOf}
+use Rattle.settings.specs.Settings.{hasSetting, bitsOf}
+use Rattle.settings.specs.declared.Setting.{Setting}
+use Rattle.values.specs.declared.Value.{Value}
+use Rattle.values.proofs.Laws as values
+use Rattle.setting_values.specs.Kinds.{kindOf, valueOf}
+use Rattle.setting_values.proofs.Widths.{kind-bits}
+use Rattle.edit.specs.Edit.{inImage, inReadout, bytesOf, patternAt, strayAmong, strayIn, readIn, withValue}
+use Rattle.edit.specs.Demand.{Taken}
+use Rattle.edit.proofs.Edits.{set-reads, same-pattern}
+use Rattle.edit.proofs.NotRefused.{Clean, its-length, its-bits}
+use Rattle.edit.proofs.SameReadout.{start, same-readout}
+use Rattle.edit.proofs.SameImage.{changed}
+
+pub image-clean : (d : Device) (bytes : List ℕ) (t : Setting) → Clean d inImage bytes t
+unfolding strayIn
+image-clean d bytes t = refl
+
+pub readout-clean : (d : Device) (bytes : List ℕ) (t : Setting) → strayAmong d bytes t (bitsOf t) ≡ readoutBytes d → Clean d inReadout bytes t
+unfolding strayIn
+readout-clean d bytes t e = e
+
+-- reading answers the value of the pattern that stands there, where the device, the length and the setting are right and no byte of the
+-- setting has a bit above its width ..
+pub reads : (d : Device) (form : Bool) (bytes : List ℕ) (t : Setting) (pattern : ℕ) (v : Value) → known d ≡ true → length bytes ≡ bytesOf d form
+    → hasSetting d t ≡ true → Clean d form bytes t → patternAt d form bytes t ≡ pattern → valueOf d t pattern ≡ v → readIn d form bytes t ≡ accepted v
+unfolding readIn
+reads d form bytes t pattern v k e h clean p means =
+    rw (k, eq-eqb (length bytes) (bytesOf d form) e, h, clean, le-ltb (bytesOf d form) (bytesOf d form) (omega arith), p, means)
+
+-- .. and so the same in an image and in its readout
+pub same-reading : (d : Device) (image : List ℕ) (t : Setting) → known d ≡ true → length image ≡ imageBytes d → hasSetting d t ≡ true
+    → readIn d inReadout (readoutOf d image) t ≡ readIn d inImage image t
+unfolding readIn
+same-reading d image t k e h =
+    rw (k, eq-eqb (length image) (imageBytes d) e, eq-eqb (length (readoutOf d image)) (readoutBytes d) (its-length d image), h, image-clean d image t, readout-clean d (readoutOf d image) t (its-bits d image t k h), le-ltb (imageBytes d) (imageBytes d) (omega arith), le-ltb (readoutBytes d) (readoutBytes d) (omega arith), same-pattern d image k t h)
+
+module _ (d : Device) (image : List ℕ) (s : Setting) (v : Value) (pattern : ℕ) (taken : Taken d image s v pattern) where
+  fits : pattern < 2 ^ bitsOf s
+  fits = rw (← kind-bits d s (taken .setting)) (values.pattern-iff (kindOf d s) v pattern .0 (taken .value) .0)
+
+  means : valueOf d s pattern ≡ v
+  means = values.pattern-iff (kindOf d s) v pattern .0 (taken .value) .1
+
+  stands : patternAt d inImage (withValue d inImage image s v) s ≡ pattern
+  unfolding withValue
+  stands = rw (taken .value) (set-reads d (taken .device) inImage _ (start d image s v pattern taken .size) s (taken .setting) _ fits)
+
+  in-image : readIn d inImage (withValue d inImage image s v) s ≡ accepted v
+  in-image =
+      reads d inImage (withValue d inImage image s v) s _ v (taken .device) (changed d image s v pattern taken .size) (taken .setting)
+      (image-clean d _ _) stands means
+
+  pub reads-as-set : (readIn d inImage (withValue d inImage image s v) s ≡ accepted v)
+      × (readIn d inReadout (withValue d inReadout (readoutOf d image) s v) s ≡ accepted v)
+  reads-as-set = (
+    in-image,
+    rw (same-readout d image s v pattern taken)
+        (same-reading d _ s (taken .device) (changed d image s v pattern taken .size) (taken .setting) ∙ in-image),
+  )

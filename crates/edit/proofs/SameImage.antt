@@ -1,0 +1,31 @@
+-- Demand 3: ".. and turned into an image it equals the changed image."
+-- Assumes nothing.
+use mathlib.Core.Path.{_≡_, _∙_, ap}
+use mathlib.Core.List.{List}
+use Prim.Native.Nat.{ℕ}
+use Rattle.part.specs.declared.Device.{Device}
+use Rattle.readout.specs.Readout.{readoutOf, imageOf}
+use Rattle.readout.proofs.Laws.{image-again}
+use Rattle.settings.specs.declared.Setting.{Setting}
+use Rattle.values.specs.declared.Value.{Value}
+use Rattle.edit.specs.Edit.{inImage, inReadout, withValue}
+use Rattle.edit.specs.Demand.{Taken}
+use Rattle.edit.proofs.Edits.{set-length, set-small}
+use Rattle.edit.proofs.SameReadout.{IsImage, start, same-readout}
+
+module _ (d : Device) (image : List ℕ) (s : Setting) (v : Value) (pattern : ℕ) (taken : Taken d image s v pattern) where
+  -- the changed image is an image
+  pub changed : IsImage d (withValue d inImage image s v)
+  unfolding withValue
+  changed =
+      let from = start d image s v pattern taken in
+      rw (taken .value)
+      (record {
+        size = set-length d (taken .device) inImage _ (from .size) s (taken .setting) _ ∙ from .size;
+        bytes = λ i. set-small d (taken .device) _ (from .size) s (taken .setting) _ i (from .bytes i);
+      })
+
+  pub same-image : imageOf d (withValue d inReadout (readoutOf d image) s v) ≡ withValue d inImage image s v
+  same-image =
+      ap (imageOf d) (same-readout d image s v pattern taken)
+      ∙ image-again d (withValue d inImage image s v) (taken .device) (changed .size) (changed .bytes)
