@@ -1,0 +1,3 @@
+-- The laws that the proofs of `jedec_writer` cite.
+-- Assumes nothing.
+pub mod Tokens

@@ -1,0 +1,54 @@
+-- `put_column` meets its contract: TODO
+-- Assumes nothing.
+use borrow.Author.Needs.{needs}
+use Rattle.jedec_writer.proofs.internal.put_column.Statement.{statement}
+use Rattle.jedec_writer.proofs.internal.put_column.Tie as tie
+
+put-cells-requires : tie.Need-put-cells-requires
+put-cells-requires c κs = search needs
+
+eight-states-requires : tie.Need-eight-states-requires
+eight-states-requires c κs = search needs
+
+add-put-cells : tie.Need-add-put-cells
+add-put-cells c = search needs
+
+put-cells-requires-2 : tie.Need-put-cells-requires-2
+put-cells-requires-2 c κs = search needs
+
+seven-states-requires : tie.Need-seven-states-requires
+seven-states-requires c κs = search needs
+
+add-put-cells-2 : tie.Need-add-put-cells-2
+add-put-cells-2 c = search needs
+
+put-cells-requires-3 : tie.Need-put-cells-requires-3
+put-cells-requires-3 c κs = search needs
+
+same-length : tie.Need-same-length
+same-length c = search needs
+
+returns : tie.Need-returns
+returns c = ?
+
+same-length-2 : tie.Need-same-length-2
+same-length-2 c = search needs
+
+returns-2 : tie.Need-returns-2
+returns-2 c = ?
+
+pub put-column-spec : {M : Type 1} → statement M
+put-column-spec =
+    tie.close
+    (tie.spec
+    put-cells-requires
+    eight-states-requires
+    add-put-cells
+    put-cells-requires-2
+    seven-states-requires
+    add-put-cells-2
+    put-cells-requires-3
+    same-length
+    returns
+    same-length-2
+    returns-2)

@@ -1,0 +1,58 @@
+-- `row_out` meets its contract: TODO
+-- Assumes nothing.
+use borrow.Author.Needs.{needs}
+use Rattle.jedec_writer.proofs.internal.row_out.Statement.{statement}
+use Rattle.jedec_writer.proofs.internal.row_out.Tie as tie
+
+put-line-requires : tie.Need-put-line-requires
+put-line-requires c κs = ?
+
+add-put-line : tie.Need-add-put-line
+add-put-line c = search needs
+
+add-put-line-2 : tie.Need-add-put-line-2
+add-put-line-2 c = search needs
+
+put-line-requires-2 : tie.Need-put-line-requires-2
+put-line-requires-2 c κs = ?
+
+add-put-line-3 : tie.Need-add-put-line-3
+add-put-line-3 c = search needs
+
+add-put-line-4 : tie.Need-add-put-line-4
+add-put-line-4 c = search needs
+
+put-line-requires-3 : tie.Need-put-line-requires-3
+put-line-requires-3 c κs = ?
+
+put-line-requires-4 : tie.Need-put-line-requires-4
+put-line-requires-4 c κs = ?
+
+same-length : tie.Need-same-length
+same-length c = search needs
+
+returns : tie.Need-returns
+returns c = ?
+
+same-length-2 : tie.Need-same-length-2
+same-length-2 c = search needs
+
+returns-2 : tie.Need-returns-2
+returns-2 c = ?
+
+pub row-out-spec : {M : Type 1} → statement M
+row-out-spec =
+    tie.close
+    (tie.spec
+    put-line-requires
+    add-put-line
+    add-put-line-2
+    put-line-requires-2
+    add-put-line-3
+    add-put-line-4
+    put-line-requires-3
+    put-line-requires-4
+    same-length
+    returns
+    same-length-2
+    returns-2)
