@@ -100,6 +100,16 @@ pub bits-at : (image : List ℕ) (fuse p s w : ℕ) → w ≡ join (replicate 8 
 bits-at image fuse p s w e h f widths g =
     rw e (piece image widths p s 8 h g ∙ ap (λ (t : ℕ). cut widths (number image / 2 ^ t)) f)
 
+pub bits-below : (image : List ℕ) (fuse w : ℕ) → fuse / 8 < length image - 8 → w ≡ join (replicate 8 8) (drop (fuse / 8) image)
+    → (widths : List ℕ) → total widths ≤ 56 → fuse + total widths ≤ length image * 8 → cut widths (w / 2 ^ (fuse % 8)) ≡ cut widths (number image / 2 ^ fuse)
+bits-below image fuse w h e widths few g = bits-at image fuse (fuse / 8) (fuse % 8) w e (omega arith) (omega arith) widths (omega arith)
+
+pub bits-last : (image : List ℕ) (fuse w : ℕ) → 8 ≤ length image → length image - 8 ≤ fuse / 8 → w ≡ join (replicate 8 8) (drop (length image - 8) image)
+    → (widths : List ℕ) → total widths ≤ 56 → fuse + total widths ≤ length image * 8
+    → cut widths (w / 2 ^ (fuse - (length image - 8) * 8)) ≡ cut widths (number image / 2 ^ fuse)
+bits-last image fuse w enough h e widths few g =
+    bits-at image fuse (length image - 8) (fuse - (length image - 8) * 8) w e (omega arith) (omega arith) widths (omega arith)
+
 -- bytes stored over others that are no more than they are
 set-before : (l bytes : List ℕ) (i j b : ℕ) → i < j → set (sets l j bytes) i b ≡ sets (set l i b) j bytes
 set-before l [] i j b h = refl
@@ -118,6 +128,13 @@ pub over : (l bytes old new : List ℕ) (at here : ℕ) → here ≡ at + length
     → sets (sets l at (bytes ++ old)) here new ≡ sets l at (bytes ++ new)
 over l bytes old new at here e h =
     rw (e, sets-append l at bytes old, sets-append l at bytes new) (stored-over (sets l at bytes) old new (at + length bytes) h)
+
+-- three runs of bytes, stored one after another
+pub three-parts : (out one two three a b c : List ℕ) (at p q : ℕ) → one ≡ sets out at a → two ≡ sets one p b → three ≡ sets two q c
+    → p ≡ at + length a → q ≡ p + length b → three ≡ sets out at (a ++ b ++ c)
+three-parts out one two three a b c at p q e1 e2 e3 ep eq =
+    let place : q ≡ at + length (a ++ b) = omega (arith, length-append a b) in
+    e3 ∙ rw (e2, e1, place, ep) (sym (sets-append out at (a ++ b) c ∙ ap (λ (l : List ℕ). sets l (at + length (a ++ b)) c) (sets-append out at a b)))
 
 -- some bytes stored, and then the bytes behind them; the last ones leave nothing behind them
 pub stored-next : {before after next bytes new : List ℕ} {at : ℕ} (here : ℕ) → Stored before after at bytes → here ≡ at + length bytes → 2 ≤ length new

@@ -1,5 +1,6 @@
--- `bits_from` meets its contract: TODO
+-- `bits_from` meets its contract: eight bytes from that of the fuse on, or the last eight.
 -- Assumes nothing.
+use Rattle.jedec_writer.proofs.Tokens.{bits-below, bits-last}
 use borrow.Author.Needs.{needs}
 use Rattle.jedec_writer.proofs.internal.bits_from.Statement.{statement}
 use Rattle.jedec_writer.proofs.internal.bits_from.Tie as tie
@@ -14,7 +15,7 @@ shr-result : tie.Need-shr-result
 shr-result c = search needs
 
 returns : tie.Need-returns
-returns c = ?
+returns c = search (needs, bits-below)
 
 word8-requires-2 : tie.Need-word8-requires-2
 word8-requires-2 c κs = search needs
@@ -29,7 +30,7 @@ shr-result-2 : tie.Need-shr-result-2
 shr-result-2 c = search needs
 
 returns-2 : tie.Need-returns-2
-returns-2 c = ?
+returns-2 c = search (needs, bits-last)
 
 pub bits-from-spec : {M : Type 1} → statement M
 bits-from-spec =

@@ -1,5 +1,7 @@
--- `block_fuses` meets its contract: TODO
+-- `block_fuses` meets its contract: the sizes of a block.
 -- Assumes nothing.
+use native.Mathlib.Omega.{arith}
+use Rattle.jedec_writer.proofs.Sizes.{block-size, block-small}
 use borrow.Author.Needs.{needs}
 use Rattle.jedec_writer.proofs.internal.block_fuses.Statement.{statement}
 use Rattle.jedec_writer.proofs.internal.block_fuses.Tie as tie
@@ -14,7 +16,7 @@ add-result : tie.Need-add-result
 add-result c = search needs
 
 returns : tie.Need-returns
-returns c = ?
+returns c = omega (arith, block-size (c .before .args .d), block-small (c .before .args .d) (c .before .pre))
 
 pub block-fuses-spec : {M : Type 1} → statement M
 block-fuses-spec = tie.close (tie.spec cast-n mul-result add-result returns)

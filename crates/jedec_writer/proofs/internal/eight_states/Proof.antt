@@ -1,5 +1,6 @@
--- `eight_states` meets its contract: TODO
+-- `eight_states` meets its contract: seven characters and the eighth.
 -- Assumes nothing.
+use Rattle.jedec_writer.proofs.Words.{eight-bits}
 use borrow.Author.Needs.{needs}
 use Rattle.jedec_writer.proofs.internal.eight_states.Statement.{statement}
 use Rattle.jedec_writer.proofs.internal.eight_states.Tie as tie
@@ -17,7 +18,7 @@ add-result : tie.Need-add-result
 add-result c = search needs
 
 returns : tie.Need-returns
-returns c = ?
+returns c = search (needs, eight-bits)
 
 pub eight-states-spec : {M : Type 1} → statement M
 eight-states-spec =

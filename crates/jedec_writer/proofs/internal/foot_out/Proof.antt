@@ -1,5 +1,6 @@
--- `foot_out` meets its contract: TODO
+-- `foot_out` meets its contract: a letter, four digits, and what follows them.
 -- Assumes nothing.
+use Rattle.jedec_writer.proofs.Text.{foot-of}
 use borrow.Author.Needs.{needs}
 use Rattle.jedec_writer.proofs.internal.foot_out.Statement.{statement}
 use Rattle.jedec_writer.proofs.internal.foot_out.Tie as tie
@@ -26,7 +27,7 @@ same-length : tie.Need-same-length
 same-length c = search needs
 
 returns : tie.Need-returns
-returns c = ?
+returns c = search (needs, foot-of)
 
 pub foot-out-spec : {M : Type 1} → statement M
 foot-out-spec =

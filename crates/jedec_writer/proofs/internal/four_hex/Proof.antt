@@ -1,5 +1,6 @@
--- `four_hex` meets its contract: TODO
+-- `four_hex` meets its contract: four digits, one above another.
 -- Assumes nothing.
+use Rattle.jedec_writer.proofs.Words.{four-hex-of}
 use borrow.Author.Needs.{needs}
 use Rattle.jedec_writer.proofs.internal.four_hex.Statement.{statement}
 use Rattle.jedec_writer.proofs.internal.four_hex.Tie as tie
@@ -35,7 +36,7 @@ add-result-3 : tie.Need-add-result-3
 add-result-3 c = search needs
 
 returns : tie.Need-returns
-returns c = ?
+returns c = search (needs, four-hex-of)
 
 pub four-hex-spec : {M : Type 1} → statement M
 four-hex-spec =

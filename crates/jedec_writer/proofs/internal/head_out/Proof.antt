@@ -1,5 +1,6 @@
--- `head_out` meets its contract: TODO
+-- `head_out` meets its contract: what stands before the count, its digits, and what follows them.
 -- Assumes nothing.
+use Rattle.jedec_writer.proofs.Text.{head-of}
 use borrow.Author.Needs.{needs}
 use Rattle.jedec_writer.proofs.internal.head_out.Statement.{statement}
 use Rattle.jedec_writer.proofs.internal.head_out.Tie as tie
@@ -35,7 +36,7 @@ same-length : tie.Need-same-length
 same-length c = search needs
 
 returns : tie.Need-returns
-returns c = ?
+returns c = search (needs, head-of)
 
 pub head-out-spec : {M : Type 1} → statement M
 head-out-spec =

@@ -1,5 +1,6 @@
--- `line_start` meets its contract: TODO
+-- `line_start` meets its contract: six digits in twos, each two taken apart.
 -- Assumes nothing.
+use Rattle.jedec_writer.proofs.Words.{line-start-of, start-small}
 use borrow.Author.Needs.{needs}
 use Rattle.jedec_writer.proofs.internal.line_start.Statement.{statement}
 use Rattle.jedec_writer.proofs.internal.line_start.Tie as tie
@@ -74,10 +75,10 @@ sub-result : tie.Need-sub-result
 sub-result c = search needs
 
 add-result : tie.Need-add-result
-add-result c = ?
+add-result c = record { fits = rw (line-start-of (c .args .fuse) (c .pre)) (start-small (c .args .fuse)) }
 
 returns : tie.Need-returns
-returns c = ?
+returns c = line-start-of (c .args .fuse) (c .pre)
 
 pub line-start-spec : {M : Type 1} → statement M
 line-start-spec =

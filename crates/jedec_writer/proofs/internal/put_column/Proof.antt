@@ -1,5 +1,6 @@
--- `put_column` meets its contract: TODO
+-- `put_column` meets its contract: a space and the characters of a word, by the two kinds of column.
 -- Assumes nothing.
+use Rattle.jedec_writer.proofs.Words.{wide-column, narrow-column}
 use borrow.Author.Needs.{needs}
 use Rattle.jedec_writer.proofs.internal.put_column.Statement.{statement}
 use Rattle.jedec_writer.proofs.internal.put_column.Tie as tie
@@ -29,13 +30,13 @@ same-length : tie.Need-same-length
 same-length c = search needs
 
 returns : tie.Need-returns
-returns c = ?
+returns c = search (needs, wide-column)
 
 same-length-2 : tie.Need-same-length-2
 same-length-2 c = search needs
 
 returns-2 : tie.Need-returns-2
-returns-2 c = ?
+returns-2 c = search (needs, narrow-column)
 
 pub put-column-spec : {M : Type 1} → statement M
 put-column-spec =

@@ -1,5 +1,6 @@
--- `put_line` meets its contract: TODO
+-- `put_line` meets its contract: its start, five columns, its end.
 -- Assumes nothing.
+use Rattle.jedec_writer.proofs.Lines.{line-of}
 use borrow.Author.Needs.{needs}
 use Rattle.jedec_writer.proofs.internal.put_line.Statement.{statement}
 use Rattle.jedec_writer.proofs.internal.put_line.Tie as tie
@@ -83,7 +84,7 @@ same-length : tie.Need-same-length
 same-length c = search needs
 
 returns : tie.Need-returns
-returns c = ?
+returns c = search (needs, line-of)
 
 pub put-line-spec : {M : Type 1} → statement M
 put-line-spec =

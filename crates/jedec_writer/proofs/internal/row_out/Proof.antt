@@ -1,5 +1,6 @@
--- `row_out` meets its contract: TODO
+-- `row_out` meets its contract: the lines of a main row, or the line of a wire-AND row.
 -- Assumes nothing.
+use Rattle.jedec_writer.proofs.Sizes.{main-row-of, wire-and-row-of}
 use borrow.Author.Needs.{needs}
 use Rattle.jedec_writer.proofs.internal.row_out.Statement.{statement}
 use Rattle.jedec_writer.proofs.internal.row_out.Tie as tie
@@ -32,13 +33,13 @@ same-length : tie.Need-same-length
 same-length c = search needs
 
 returns : tie.Need-returns
-returns c = ?
+returns c = search (needs, main-row-of)
 
 same-length-2 : tie.Need-same-length-2
 same-length-2 c = search needs
 
 returns-2 : tie.Need-returns-2
-returns-2 c = ?
+returns-2 c = search (needs, wire-and-row-of)
 
 pub row-out-spec : {M : Type 1} → statement M
 row-out-spec =
