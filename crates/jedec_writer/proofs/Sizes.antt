@@ -11,7 +11,7 @@ use lib.Seq.{sets}
 use Rattle.cells.specs.Cells.{cut, join, total, repeat, number}
 use Rattle.part.specs.Device.{isBlockCount, known, blocksOf, inDevice, mainRows, mainRowText, wireAndRows, wireAndRowText, fuseCount, imageBytes, textBytes, decimalDigits}
 use Rattle.part.specs.declared.Device.{Device}
-use Rattle.part.proofs.Devices.{by-count, known-count, blocks-small, fuses-small, image-whole, digits-small}
+use Rattle.part.proofs.Devices.{by-count, known-count, blocks-small, fuses-small, image-whole}
 use Rattle.image.specs.Bits.{tabulate}
 use Rattle.jedec.specs.Characters.{digitsOf, letterL, sevenDigits, countDigits}
 use Rattle.jedec.specs.Written.{lineText, linesText}
@@ -75,16 +75,27 @@ unfolding textBytes
 text-size d = rw (pattern-bytes d, device-bytes d) (omega arith)
 
 -- an image has at least a word, and fuse numbers of six digits
-pub image-size : (d : Device) → known d ≡ true → (8 ≤ imageBytes d) × (imageBytes d ≤ 125000)
+image-size : (d : Device) → known d ≡ true → (8 ≤ imageBytes d) × (imageBytes d ≤ 125000)
 unfolding imageBytes fuseCount
 image-size d k =
     by-count (λ n. (8 ≤ (n * (7776 + n * 648) + 7) / 8) × ((n * (7776 + n * 648) + 7) / 8 ≤ 125000)) (omega arith) (omega arith) (omega arith) (omega arith) (omega arith) (omega arith) (d .blocks) (known-count d k)
 
-pub count-small : (d : Device) → known d ≡ true → fuseCount d < 1000000
-count-small d k = omega (arith, fuses-small d k)
+pub image-word : (d : Device) (image : List ℕ) → known d ≡ true → length image ≡ imageBytes d → 8 ≤ length image
+image-word d image k e = rw e (image-size d k .0)
 
-pub count-digits : (d : Device) (digits : ℕ) → digits ≡ decimalDigits (fuseCount d) → digits ≤ 7
-count-digits d digits e = rw e (digits-small (fuseCount d))
+pub image-few : (d : Device) (image : List ℕ) → known d ≡ true → length image ≡ imageBytes d → length image ≤ 125000
+image-few d image k e = rw e (image-size d k .1)
+
+pub count-small : (d : Device) (x : ℕ) → known d ≡ true → x ≡ fuseCount d → x < 1000000
+count-small d x k e = omega (arith, fuses-small d k)
+
+pub count-digits : (d : Device) (digits : ℕ) → known d ≡ true → digits ≡ decimalDigits (fuseCount d) → (1 ≤ digits) × (digits ≤ 7)
+unfolding fuseCount
+count-digits d digits k e =
+    rw e (by-count (λ n. (1 ≤ decimalDigits (n * (7776 + n * 648))) × (decimalDigits (n * (7776 + n * 648)) ≤ 7)) (omega arith) (omega arith) (omega arith) (omega arith) (omega arith) (omega arith) (d .blocks) (known-count d k))
+
+pub digits-of : (d : Device) (x digits : ℕ) → x ≡ fuseCount d → digits ≡ decimalDigits x → digits ≡ decimalDigits (fuseCount d)
+digits-of d x digits e f = f ∙ ap decimalDigits e
 
 -- the count's digits are the last of its seven
 pub count-cut : (d : Device) → known d ≡ true

@@ -15,8 +15,9 @@ use Rattle.cells.proofs.Laws.{sets-append}
 use Rattle.part.specs.Outcome.{Outcome}
 use Rattle.part.specs.Outcome.Outcome.{accepted, refused}
 use Rattle.part.specs.Device.{known, fuseCount, imageBytes, textBytes, decimalDigits}
+use Rattle.part.specs.Convert.{ifKnown}
 use Rattle.part.specs.declared.Device.{Device}
-use Rattle.image.specs.Image.{sum16}
+use Rattle.image.specs.Image.{sum16, ifLength}
 use Rattle.image.proofs.Checks as checks
 use Rattle.readout.specs.Readout.{written, Written}
 use Rattle.readout.proofs.Targets.{says}
@@ -98,12 +99,12 @@ text-length d image =
 stored-first : (out bytes : List ℕ) (n : ℕ) → length bytes ≡ n → n ≤ length out → sets out 0 bytes ≡ bytes ++ drop n out
 stored-first out bytes n e h = sets-eq bytes out 0 (omega arith) ∙ rw (zero-add (length bytes), e)
 
-pub text-of : (d : Device) (image out one two three four : List ℕ) (digits end fuses sum last hex : ℕ) → textBytes d ≤ length out → digits ≡ decimalDigits (fuseCount d)
+pub text-of : (d : Device) (image out one two three four : List ℕ) (digits end fuses last hex : ℕ) → textBytes d ≤ length out → digits ≡ decimalDigits (fuseCount d)
     → end ≡ textBytes d - 4 → fuses ≡ sum16 image → one ≡ sets out 0 (headText (fuseCount d)) → two ≡ sets one (11 + digits) (linesText image 0 (pattern d))
     → three ≡ sets two (end - 8) (footText fuses) → last ≡ sum16 (take end three) → hex ≡ number (fourHex last)
     → four ≡ sets three end (cut (replicate 4 8) hex) → four ≡ sets out 0 (textOf d image)
 unfolding upToEtx textOf textWith
-text-of d image out one two three four digits end fuses sum last hex room ed ee ef e1 e2 e3 el eh e4 =
+text-of d image out one two three four digits end fuses last hex room ed ee ef e1 e2 e3 el eh e4 =
     let head = headText (fuseCount d) in
     let lines = linesText image 0 (pattern d) in
     let up = upToEtx (fuseCount d) (pattern d) image in
@@ -130,8 +131,18 @@ module _ (d : Device) (image room : List ℕ) where
         says (toText d image (length room)) (refused 2 0) (withText d image room) room (checks.other-length (length image) (imageBytes d) _ x ex h ∙ sym (checks.the-device d _ k))
 
     module _ (hx : length image ≡ x) (y : ℕ) (ey : y ≡ textBytes d) where
+      tested : (o : Outcome ℕ) → o ≡ ifKnown d (ifLength (length image) (imageBytes d) o)
+      tested o = sym (checks.the-length (length image) (imageBytes d) o x ex hx) ∙ sym (checks.the-device d _ k)
+
       pub too-short : length room < y → At (refused 12 y) room
       unfolding toText
       too-short h =
           let short : length room < textBytes d = omega arith in
-          says (toText d image (length room)) (refused 12 y) (withText d image room) room (rw (k, ← hx, ex, ey, lt-ltb (length room) (textBytes d) short) refl)
+          says (toText d image (length room)) (refused 12 y) (withText d image room) room (ap (refused 12) ey ∙ sym (rw (lt-ltb (length room) (textBytes d) short)) ∙ tested _)
+
+      pub all-passed : y ≤ length room → (after : List ℕ) → after ≡ sets room 0 (textOf d image) → At (accepted y) after
+      unfolding toText
+      all-passed h after f =
+          let long : textBytes d ≤ length room = omega arith in
+          let same : accepted y ≡ toText d image (length room) = ap accepted ey ∙ sym (rw (le-ltb (length room) (textBytes d) long)) ∙ tested _ in
+          record { answers = same; holds = f ∙ stored-first room (textOf d image) (textBytes d) (text-length d image) long ∙ ap (λ (o : Outcome ℕ). written o (withText d image room) room) same }

@@ -15,7 +15,7 @@ use Rattle.image.specs.Image.{state}
 use Rattle.readout.proofs.Passages.{number-bit}
 use Rattle.jedec.specs.Characters.{space, decimalDigit}
 use Rattle.jedec.specs.Written.{statesText, columnsText}
-use Rattle.jedec_writer.specs.Tokens.{bitsText, columnText, Stored}
+use Rattle.jedec_writer.specs.Tokens.{bitsText, columnText, columnsOf, Stored}
 
 -- every number of a list is a byte
 abbrev pub Bytes : List ℕ → Type 0
@@ -73,11 +73,7 @@ states-bits image zero fuse h = refl
 states-bits image (suc width) fuse h =
     ap₂ _∷_ (ap decimalDigit (sym (number-bit image fuse (omega arith)))) (states-bits image width (fuse + 1) (omega arith) ∙ ap (bitsText width) (sym (shr-shr (number image) fuse 1)))
 
--- the columns that a number's bits give
-unfoldable pub columnsOf : ℕ → List ℕ → List ℕ
-columnsOf x [] = []
-columnsOf x (w ∷ widths) = columnText w x ++ columnsOf (x / 2 ^ w) widths
-
+-- the columns of an image are those of its number
 pub columns-bits : (image widths : List ℕ) (fuse : ℕ) → fuse + total widths ≤ length image * 8 → columnsText image fuse widths ≡ columnsOf (number image / 2 ^ fuse) widths
 unfolding columnsText columnsOf total
 columns-bits image [] fuse h = refl

@@ -17,6 +17,15 @@ bitsText width x = map decimalDigit (cut (replicate width 1) x)
 abbrev pub columnText : (width : ℕ) → ℕ → List ℕ
 columnText width x = space ∷ bitsText width x
 
+-- the columns of a line
+unfoldable pub columnsOf : ℕ → List ℕ → List ℕ
+columnsOf x [] = []
+columnsOf x (w ∷ widths) = columnText w x ++ columnsOf (x / 2 ^ w) widths
+
+-- the widths that columns have
+abbrev pub Wide : ℕ → Type 0
+Wide width = (6 ≤ width) × (width ≤ 8)
+
 -- the fuses and the bytes of some lines
 unfoldable pub fusesIn : List (List ℕ) → ℕ
 fusesIn [] = 0

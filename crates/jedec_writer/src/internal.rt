@@ -11,7 +11,7 @@ ghost use Rattle.part.specs.Device.{known, fuseCount, imageBytes, textBytes, de
 ghost use Rattle.jedec.specs.Characters.{letterL, sevenDigits, hexDigit, fourHex};
 ghost use Rattle.jedec.specs.Written.{lineText, linesText, headText, footText};
 ghost use Rattle.jedec_writer.specs.Pattern.{rowLines, blockLines, pattern, textOf};
-ghost use Rattle.jedec_writer.specs.Tokens.{bitsText, columnText, fusesIn, bytesIn, Stored};
+ghost use Rattle.jedec_writer.specs.Tokens.{bitsText, columnText, columnsOf, Wide, fusesIn, bytesIn, Stored};
 use cells::internal::low_bits;
 use cells::internal::put_cells;
 use cells::internal::word8;
@@ -48,7 +48,7 @@ fn eight_states(bits: u64) -> u64
 
 // A column: a space and its bits.
 fn put_column(word: u64, width: usize, out: &mut [u8], at: usize)
-    requires { ⌜ (6 ≤ width) × (width ≤ 8) × (at + 9 ≤ length (now out)) ⌝ }
+    requires { ⌜ (Wide width) × (at + 9 ≤ length (now out)) ⌝ }
     ensures { λ _. ⌜ Stored (now (out .entry)) (now (out .exit)) at (columnText width word) ⌝ }
 {
     put_cells(SPACE, 8, 1, out, at);
@@ -68,8 +68,9 @@ fn line_start(fuse: u32) -> u64
     let rest = fuse - high * 10000;
     let middle = rest / 100;
     let low = rest - middle * 100;
-    let twos =
-        high as u64 * 0x0001_0000 + middle as u64 * 0x0001_0000_0000 + low as u64 * 0x0001_0000_0000_0000;
+    let twos = high as u64 * 0x0001_0000
+        + middle as u64 * 0x0001_0000_0000
+        + low as u64 * 0x0001_0000_0000_0000;
     let tens = (high / 10) as u64 * 0x0001_0000
         + (middle / 10) as u64 * 0x0001_0000_0000
         + (low / 10) as u64 * 0x0001_0000_0000_0000;
@@ -89,6 +90,35 @@ fn bits_from(image: &[u8], fuse: usize) -> u64
     word8(image, last) >> (fuse - last * 8)
 }
 
+// Five columns, one after another.
+fn put_columns(
+    word: u64,
+    a: usize,
+    b: usize,
+    c: usize,
+    d: usize,
+    e: usize,
+    out: &mut [u8],
+    at: usize,
+)
+    requires { ⌜ (Wide a) × (Wide b) × (Wide c) × (Wide d) × (Wide e) × (at + 7 + (a + b + c + d + e) ≤ length (now out)) ⌝ }
+    ensures { λ _. ⌜ Stored (now (out .entry)) (now (out .exit)) at (columnsOf word (a ∷ b ∷ c ∷ d ∷ e ∷ [])) ⌝ }
+{
+    put_column(word, a, out, at);
+    let word2 = word >> a;
+    let at2 = at + (1 + a);
+    put_column(word2, b, out, at2);
+    let word3 = word2 >> b;
+    let at3 = at2 + (1 + b);
+    put_column(word3, c, out, at3);
+    let word4 = word3 >> c;
+    let at4 = at3 + (1 + c);
+    put_column(word4, d, out, at4);
+    let word5 = word4 >> d;
+    let at5 = at4 + (1 + d);
+    put_column(word5, e, out, at5);
+}
+
 // A line of five columns.
 fn put_line(
     image: &[u8],
@@ -101,27 +131,13 @@ fn put_line(
     out: &mut [u8],
     at: usize,
 )
-    requires { ⌜ (8 ≤ length (now image)) × (length (now image) ≤ 125000) × (fuse + (a + b + c + d + e) ≤ length (now image) * 8) × (at + 15 + (a + b + c + d + e) ≤ length (now out)) ⌝ }
-    requires { ⌜ (6 ≤ a) × (a ≤ 8) × (6 ≤ b) × (b ≤ 8) × (6 ≤ c) × (c ≤ 8) × (6 ≤ d) × (d ≤ 8) × (6 ≤ e) × (e ≤ 8) ⌝ }
+    requires { ⌜ (8 ≤ length (now image)) × (length (now image) ≤ 125000) × (fuse + (a + b + c + d + e) ≤ length (now image) * 8) × (at + 15 + (a + b + c + d + e) ≤ length (now out)) × (Wide a) × (Wide b) × (Wide c) × (Wide d) × (Wide e) ⌝ }
     ensures { λ _. ⌜ now (out .exit) ≡ sets (now (out .entry)) at (lineText (now (image .entry)) fuse (a ∷ b ∷ c ∷ d ∷ e ∷ [])) ⌝ }
 {
     let word = bits_from(image, fuse);
     put_cells(line_start(fuse as u32), 8, 8, out, at);
-    let at1 = at + 8;
-    put_column(word, a, out, at1);
-    let word2 = word >> a;
-    let at2 = at1 + (1 + a);
-    put_column(word2, b, out, at2);
-    let word3 = word2 >> b;
-    let at3 = at2 + (1 + b);
-    put_column(word3, c, out, at3);
-    let word4 = word3 >> c;
-    let at4 = at3 + (1 + c);
-    put_column(word4, d, out, at4);
-    let word5 = word4 >> d;
-    let at5 = at4 + (1 + d);
-    put_column(word5, e, out, at5);
-    put_cells(LINE_END, 8, 2, out, at5 + (1 + e));
+    put_columns(word, a, b, c, d, e, out, at + 8);
+    put_cells(LINE_END, 8, 2, out, at + (13 + (a + b + c + d + e)));
 }
 
 // The lines of a row.

@@ -1,5 +1,7 @@
 -- `head_out` meets its contract: what stands before the count, its digits, and what follows them.
 -- Assumes nothing.
+use native.Mathlib.Omega.{arith}
+use Rattle.jedec_writer.proofs.Sizes.{count-small, count-digits}
 use Rattle.jedec_writer.proofs.Text.{head-of}
 use borrow.Author.Needs.{needs}
 use Rattle.jedec_writer.proofs.internal.head_out.Statement.{statement}
@@ -12,16 +14,16 @@ fuse-count-requires : tie.Need-fuse-count-requires
 fuse-count-requires c κs = search needs
 
 line-start-requires : tie.Need-line-start-requires
-line-start-requires c κs = ?
+line-start-requires c κs = search (needs, count-small)
 
 mul-put-cells : tie.Need-mul-put-cells
-mul-put-cells c = ?
+mul-put-cells c = omega (arith, count-digits (c .before .before .before .before .before .before .before .args .d) (c .before .before .before .before .before .before .before .args .digits) (c .before .before .before .before .before .before .before .pre .0) (c .before .before .before .before .before .before .before .pre .1))
 
 sub-put-cells : tie.Need-sub-put-cells
-sub-put-cells c = ?
+sub-put-cells c = omega (arith, count-digits (c .before .before .before .before .before .before .before .args .d) (c .before .before .before .before .before .before .before .args .digits) (c .before .before .before .before .before .before .before .pre .0) (c .before .before .before .before .before .before .before .pre .1))
 
 shr-put-cells : tie.Need-shr-put-cells
-shr-put-cells c = ?
+shr-put-cells c = omega (arith, count-digits (c .before .before .before .before .before .before .before .args .d) (c .before .before .before .before .before .before .before .args .digits) (c .before .before .before .before .before .before .before .pre .0) (c .before .before .before .before .before .before .before .pre .1))
 
 put-cells-requires-2 : tie.Need-put-cells-requires-2
 put-cells-requires-2 c κs = search needs
