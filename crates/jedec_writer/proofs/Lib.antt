@@ -5,3 +5,4 @@ pub mod Words
 pub mod Lines
 pub mod Sizes
 pub mod Text
+pub mod Laws

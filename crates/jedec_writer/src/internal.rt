@@ -288,7 +288,8 @@ pub fn text_out(d: Device, image: &[u8], text: &mut [u8])
     head_out(d, digits, text);
     blocks_out(d, image, text, 11 + digits);
     let end = part::internal::text_bytes(d) as usize - 4;
-    foot_out(image::internal::sum_of(image), text, end - 8);
+    let foot = end - 8;
+    foot_out(image::internal::sum_of(image), text, foot);
     let sum = image::internal::sum_of(&text[..end]);
     put_cells(four_hex(sum), 8, 4, text, end);
 }

@@ -37,11 +37,11 @@ cast-end c = search needs
 sub-end : tie.Need-sub-end
 sub-end c = omega (arith, text-size (c .before .before .before .before .before .before .before .before .before .before .before .before .before .args .d), c .text-bytes .ensures)
 
+sub-foot : tie.Need-sub-foot
+sub-foot c = omega (arith, text-size (c .before .before .before .before .before .before .before .before .before .before .before .before .before .args .d), c .text-bytes .ensures)
+
 sum-of-requires : tie.Need-sum-of-requires
 sum-of-requires c κs = search needs
-
-sub-foot-out : tie.Need-sub-foot-out
-sub-foot-out c = omega (arith, text-size (c .before .before .before .before .before .before .before .before .before .before .before .before .before .before .before .args .d), c .before .before .text-bytes .ensures)
 
 foot-out-requires : tie.Need-foot-out-requires
 foot-out-requires c κs = omega (arith, text-size (c .before .before .before .before .before .before .before .before .before .before .before .before .before .before .before .args .d), c .before .before .text-bytes .ensures, c .before .before .before .before .before .before .before .before .before .before .before .before .before .before .before .pre .2, c .before .before .before .before .before .before .before .before .before .head-out .kept, c .before .before .before .before .before .blocks-out .kept)
@@ -80,8 +80,8 @@ text-out-spec =
     text-bytes-requires
     cast-end
     sub-end
+    sub-foot
     sum-of-requires
-    sub-foot-out
     foot-out-requires
     slice-reshare-prefix-sum-of
     slice-aggregate-sum-of
