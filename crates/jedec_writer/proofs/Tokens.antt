@@ -6,11 +6,13 @@ use Prim.Native.Nat.{ℕ, zero, suc, _+_, _*_, _-_, _/_, _%_, _^_, _≤_, _<_}
 use native.Mathlib.Omega.{arith}
 use native.Mathlib.Numerals.{add-one, one-add}
 use native.Mathlib.Nat.{div-one, zero-add, suc-add, mul-one, mod-lt, mod-eq-of-lt, le-of-suc-le-suc, not-suc-le-zero}
-use lib.ListN.{length, drop, replicate, set, length-append, length-map, length-replicate}
+use lib.ListN.{length, drop, replicate, set, length-append, length-map, length-replicate, replicate-append-replicate}
 use lib.Pow.{pow-pos, shr-shr, high, low}
 use lib.Seq.{sets, set-set, set-comm}
+use mir.Syntax.{w8}
+use mir.Val.{Fits}
 use Rattle.cells.specs.Cells.{cut, join, total, number}
-use Rattle.cells.proofs.Laws.{cut-length, cut-low, total-replicate, sets-append, piece}
+use Rattle.cells.proofs.Laws.{cut-length, cut-low, total-replicate, sets-append, cut-sets, piece}
 use Rattle.image.specs.Image.{state}
 use Rattle.readout.proofs.Passages.{number-bit}
 use Rattle.jedec.specs.Characters.{space, decimalDigit}
@@ -124,6 +126,36 @@ pub over : (l bytes old new : List ℕ) (at here : ℕ) → here ≡ at + length
     → sets (sets l at (bytes ++ old)) here new ≡ sets l at (bytes ++ new)
 over l bytes old new at here e h =
     rw (e, sets-append l at bytes old, sets-append l at bytes new) (stored-over (sets l at bytes) old new (at + length bytes) h)
+
+-- the bytes of a word, stored one by one
+pub byte-fits : (x low : ℕ) → low ≡ x % 2 ^ 8 → Fits w8 low
+byte-fits x low e = rw e (record { fits = mod-lt x (pow-pos 8) })
+
+none-stored : (out : List ℕ) (at word : ℕ) → out ≡ sets out at (cut (replicate 0 8) word)
+unfolding cut
+none-stored out at word = refl
+
+byte-next : (out l next : List ℕ) (at k word : ℕ) → l ≡ sets out at (cut (replicate k 8) word) → next ≡ set l (at + k) (word / 2 ^ (k * 8) % 2 ^ 8)
+    → next ≡ sets out at (cut (replicate (k + 1) 8) word)
+unfolding cut
+byte-next out l next at k word e f =
+    f
+    ∙ rw e (cut-sets out (replicate k 8) (replicate 1 8) at word k (k * 8) (length-replicate {A = ℕ} k 8) (total-replicate k 8))
+    ∙ ap (λ (ws : List ℕ). sets out at (cut ws word)) (replicate-append-replicate k 1 8)
+
+pub bytes-of : (out a b c d e f g h : List ℕ) (at word : ℕ) → a ≡ set out (at + 0) (word / 2 ^ (0 * 8) % 2 ^ 8) → b ≡ set a (at + 1) (word / 2 ^ (1 * 8) % 2 ^ 8)
+    → c ≡ set b (at + 2) (word / 2 ^ (2 * 8) % 2 ^ 8) → d ≡ set c (at + 3) (word / 2 ^ (3 * 8) % 2 ^ 8) → e ≡ set d (at + 4) (word / 2 ^ (4 * 8) % 2 ^ 8)
+    → f ≡ set e (at + 5) (word / 2 ^ (5 * 8) % 2 ^ 8) → g ≡ set f (at + 6) (word / 2 ^ (6 * 8) % 2 ^ 8) → h ≡ set g (at + 7) (word / 2 ^ (7 * 8) % 2 ^ 8)
+    → h ≡ sets out at (cut (replicate 8 8) word)
+bytes-of out a b c d e f g h at word ea eb ec ed ee ef eg eh =
+    let one = byte-next out out a at 0 word (none-stored out at word) ea in
+    let two = byte-next out a b at 1 word one eb in
+    let three = byte-next out b c at 2 word two ec in
+    let four = byte-next out c d at 3 word three ed in
+    let five = byte-next out d e at 4 word four ee in
+    let six = byte-next out e f at 5 word five ef in
+    let seven = byte-next out f g at 6 word six eg in
+    byte-next out g h at 7 word seven eh
 
 -- three runs of bytes, stored one after another
 pub three-parts : (out one two three a b c : List ℕ) (at p q : ℕ) → one ≡ sets out at a → two ≡ sets one p b → three ≡ sets two q c

@@ -4,7 +4,7 @@ ghost use mathlib.Core.Path.{_≡_};
 ghost use mathlib.Core.Bool.{Bool, true};
 ghost use mathlib.Core.List.{List, [], _∷_, _++_};
 ghost use Prim.Native.Nat.{ℕ, _+_, _*_, _/_, _%_, _^_, _<_, _≤_};
-ghost use lib.ListN.{length};
+ghost use lib.ListN.{length, replicate, set};
 ghost use lib.Seq.{sets};
 ghost use Rattle.cells.specs.Cells.{cut, total, repeat, number};
 ghost use Rattle.part.specs.Device.{known, fuseCount, imageBytes, textBytes, decimalDigits};
@@ -46,6 +46,29 @@ fn eight_states(bits: u64) -> u64
     seven + low_bits(bits >> 7, 1) * 0x0100_0000_0000_0000
 }
 
+// A byte of a word, put `k` bytes behind an index.
+fn put_byte(word: u64, k: usize, out: &mut [u8], at: usize)
+    requires { ⌜ (k < 8) × (at + k < length (now out)) ⌝ }
+    ensures { λ _. ⌜ now (out .exit) ≡ set (now (out .entry)) (at + k) (word / 2 ^ (k * 8) % 2 ^ 8) ⌝ }
+{
+    out[at + k] = low_bits(word >> (k * 8), 8) as u8;
+}
+
+// `put_cells(word, 8, 8, out, at)`, written out: so it compiles to one store.
+fn put_eight(word: u64, out: &mut [u8], at: usize)
+    requires { ⌜ at + 8 ≤ length (now out) ⌝ }
+    ensures { λ _. ⌜ now (out .exit) ≡ sets (now (out .entry)) at (cut (replicate 8 8) word) ⌝ }
+{
+    put_byte(word, 0, out, at);
+    put_byte(word, 1, out, at);
+    put_byte(word, 2, out, at);
+    put_byte(word, 3, out, at);
+    put_byte(word, 4, out, at);
+    put_byte(word, 5, out, at);
+    put_byte(word, 6, out, at);
+    put_byte(word, 7, out, at);
+}
+
 // A column: a space and its bits.
 fn put_column(word: u64, width: usize, out: &mut [u8], at: usize)
     requires { ⌜ (Wide width) × (at + 9 ≤ length (now out)) ⌝ }
@@ -53,9 +76,9 @@ fn put_column(word: u64, width: usize, out: &mut [u8], at: usize)
 {
     put_cells(SPACE, 8, 1, out, at);
     if width == 8 {
-        put_cells(eight_states(word), 8, 8, out, at + 1);
+        put_eight(eight_states(word), out, at + 1);
     } else {
-        put_cells(seven_states(word), 8, 8, out, at + 1);
+        put_eight(seven_states(word), out, at + 1);
     }
 }
 
@@ -135,7 +158,7 @@ fn put_line(
     ensures { λ _. ⌜ now (out .exit) ≡ sets (now (out .entry)) at (lineText (now (image .entry)) fuse (a ∷ b ∷ c ∷ d ∷ e ∷ [])) ⌝ }
 {
     let word = bits_from(image, fuse);
-    put_cells(line_start(fuse as u32), 8, 8, out, at);
+    put_eight(line_start(fuse as u32), out, at);
     put_columns(word, a, b, c, d, e, out, at + 8);
     put_cells(LINE_END, 8, 2, out, at + (13 + (a + b + c + d + e)));
 }

@@ -11,20 +11,20 @@ put-cells-requires c κs = search needs
 eight-states-requires : tie.Need-eight-states-requires
 eight-states-requires c κs = search needs
 
-add-put-cells : tie.Need-add-put-cells
-add-put-cells c = search needs
+add-put-eight : tie.Need-add-put-eight
+add-put-eight c = search needs
 
-put-cells-requires-2 : tie.Need-put-cells-requires-2
-put-cells-requires-2 c κs = search needs
+put-eight-requires : tie.Need-put-eight-requires
+put-eight-requires c κs = search needs
 
 seven-states-requires : tie.Need-seven-states-requires
 seven-states-requires c κs = search needs
 
-add-put-cells-2 : tie.Need-add-put-cells-2
-add-put-cells-2 c = search needs
+add-put-eight-2 : tie.Need-add-put-eight-2
+add-put-eight-2 c = search needs
 
-put-cells-requires-3 : tie.Need-put-cells-requires-3
-put-cells-requires-3 c κs = search needs
+put-eight-requires-2 : tie.Need-put-eight-requires-2
+put-eight-requires-2 c κs = search needs
 
 same-length : tie.Need-same-length
 same-length c = search needs
@@ -44,11 +44,11 @@ put-column-spec =
     (tie.spec
     put-cells-requires
     eight-states-requires
-    add-put-cells
-    put-cells-requires-2
+    add-put-eight
+    put-eight-requires
     seven-states-requires
-    add-put-cells-2
-    put-cells-requires-3
+    add-put-eight-2
+    put-eight-requires-2
     same-length
     returns
     same-length-2

@@ -14,8 +14,8 @@ cast-line-start c = search needs
 line-start-requires : tie.Need-line-start-requires
 line-start-requires c κs = search needs
 
-put-cells-requires : tie.Need-put-cells-requires
-put-cells-requires c κs = search needs
+put-eight-requires : tie.Need-put-eight-requires
+put-eight-requires c κs = search needs
 
 add-put-columns : tie.Need-add-put-columns
 add-put-columns c = search needs
@@ -41,8 +41,8 @@ add-put-cells-5 c = search needs
 add-put-cells-6 : tie.Need-add-put-cells-6
 add-put-cells-6 c = search needs
 
-put-cells-requires-2 : tie.Need-put-cells-requires-2
-put-cells-requires-2 c κs = search needs
+put-cells-requires : tie.Need-put-cells-requires
+put-cells-requires c κs = search needs
 
 same-length : tie.Need-same-length
 same-length c = search needs
@@ -57,7 +57,7 @@ put-line-spec =
     bits-from-requires
     cast-line-start
     line-start-requires
-    put-cells-requires
+    put-eight-requires
     add-put-columns
     put-columns-requires
     add-put-cells
@@ -66,6 +66,6 @@ put-line-spec =
     add-put-cells-4
     add-put-cells-5
     add-put-cells-6
-    put-cells-requires-2
+    put-cells-requires
     same-length
     returns)
