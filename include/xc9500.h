@@ -41,6 +41,11 @@ uint64_t xc9500_image_to_readout(uint32_t blocks, uint32_t class_, const uint8_t
 uint64_t xc9500_readout_to_image(uint32_t blocks, uint32_t class_, const uint8_t *readout, size_t readout_len,
                                  uint8_t *image, size_t image_len);
 
+/* The JEDEC text of an image, put at the start of `text`: the bytes written; the bytes of `text` behind them stay. Refused: 1; 2 an image that
+   has not the exact length; 12 `text` is too short, with the bytes needed. A refusal changes no byte. The two do not overlap. */
+uint64_t xc9500_image_to_text(uint32_t blocks, uint32_t class_, const uint8_t *image, size_t image_len, uint8_t *text,
+                              size_t text_len);
+
 /* Settings are numbered from 0 in the listing order: term literals by block, macrocell, term, input, P before N; wire-AND by block, input,
    source block, macrocell; macrocell fields by block, macrocell, field; block fields by block, field; global fields; the last index
    fastest, fields in the order of the papers (ALLOC[0] to [4], INV, .., IOB_SLEW, HP[0] to [4]; ENABLE, EXPORT_ENABLE, PULLUP_DISABLE,

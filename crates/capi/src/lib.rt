@@ -1,12 +1,14 @@
 // The C interface, declared in include/xc9500.h: numbers are u32, a slice is a pointer and a length, every answer is one u64.
 // Each function only calls its library function and packs the answer: specs/Packed.antt says how.
 ghost use mathlib.Core.Path.{_≡_};
+ghost use lib.ListN.{length};
 ghost use Rattle.part.specs.Answer.{number, value, addressOutcome, fuseOutcome, numberOutcome};
 ghost use Rattle.part.specs.Convert.{addressOfFuse, fuseOfAddress};
 ghost use Rattle.image.specs.Image.{fuseSum, zeroCount};
 ghost use Rattle.readout.specs.Readout.{doneOutcome, written, toReadout, readoutOf, toImage, imageOf};
 ghost use Rattle.settings.specs.Answer.{bitOutcome};
 ghost use Rattle.settings.specs.Operations.{countOfSettings, settingOfNumber, fuseOfBit, settingAtFuse};
+ghost use Rattle.jedec_writer.specs.Pattern.{toText, withText};
 ghost use Rattle.edit.specs.Edit.{inImage, inReadout, readPattern, setPattern, withNumbered};
 ghost use Rattle.capi.specs.Packed.{packed, refusalWord, device, addressAndBit, itself, nothing, orNone, settingAndBit, through};
 use part::AddressAnswer;
@@ -138,6 +140,20 @@ pub extern "C" fn xc9500_readout_to_image(
     ensures { λ _. ⌜ now (image .exit) ≡ written (toImage (device blocks class) (now (readout .entry)) (now (image .entry))) (imageOf (device blocks class) (now (readout .entry))) (now (image .entry)) ⌝ }
 {
     done_word(readout::readout_to_image(Device { blocks, class }, readout, image))
+}
+
+// The JEDEC text of an image, put at the start of `text`: how many bytes it has.
+#[no_mangle]
+pub extern "C" fn xc9500_image_to_text(
+    blocks: u32,
+    class: u32,
+    image: &[u8],
+    text: &mut [u8],
+) -> u64
+    ensures { λ w. ⌜ w ≡ packed itself (toText (device blocks class) (now (image .entry)) (length (now (text .entry)))) ⌝ }
+    ensures { λ _. ⌜ now (text .exit) ≡ written (toText (device blocks class) (now (image .entry)) (length (now (text .entry)))) (withText (device blocks class) (now (image .entry)) (now (text .entry))) (now (text .entry)) ⌝ }
+{
+    number_word(jedec_writer::image_to_text(Device { blocks, class }, image, text))
 }
 
 // How many settings a device has.

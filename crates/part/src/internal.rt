@@ -102,7 +102,8 @@ pub fn readout_bytes(d: Device) -> u32
     in_device(d, MAIN_BYTES, SUBAREA_BYTES)
 }
 
-fn decimal_digits(x: u32) -> u32
+// The decimal digits of a count.
+pub fn decimal_digits(x: u32) -> u32
     ensures { λ r. ⌜ r ≡ decimalDigits x ⌝ }
 {
     if x < 10 {

@@ -1,0 +1,154 @@
+-- The fuses and the bytes of rows, blocks and devices, and where the parts of a text stand.
+-- Assumes nothing.
+use mathlib.Core.Path.{_≡_, refl, sym, _∙_, ap, ap₂}
+use mathlib.Core.Bool.{Bool, true, false}
+use mathlib.Core.List.{List, [], _∷_, _++_, append-nil}
+use Prim.Native.Nat.{ℕ, zero, suc, _+_, _*_, _-_, _/_, _^_, _≤_, _<_}
+use native.Mathlib.Omega.{arith}
+use lib.Dec.{ltb}
+use lib.ListN.{length, replicate, length-append}
+use lib.Seq.{sets}
+use Rattle.cells.specs.Cells.{cut, join, total, repeat, number}
+use Rattle.part.specs.Device.{isBlockCount, known, blocksOf, inDevice, mainRows, mainRowText, wireAndRows, wireAndRowText, fuseCount, imageBytes, textBytes, decimalDigits}
+use Rattle.part.specs.declared.Device.{Device}
+use Rattle.part.proofs.Devices.{by-count, known-count, blocks-small, fuses-small, image-whole}
+use Rattle.image.specs.Bits.{tabulate}
+use Rattle.jedec.specs.Characters.{digitsOf, letterL, sevenDigits, countDigits}
+use Rattle.jedec.specs.Written.{lineText, linesText}
+use Rattle.jedec_writer.specs.Pattern.{rowLines, blockLines, pattern}
+use Rattle.jedec_writer.specs.Tokens.{fusesIn, bytesIn}
+use Rattle.jedec_writer.proofs.Lines.{fuses-append, bytes-append, fuses-repeat, bytes-repeat, lines-sets, Left, begun, ended}
+
+pub main-lines : rowLines true ≡ (8 ∷ 8 ∷ 8 ∷ 8 ∷ 8 ∷ []) ∷ (8 ∷ 8 ∷ 8 ∷ 8 ∷ 6 ∷ []) ∷ (6 ∷ 6 ∷ 6 ∷ 6 ∷ 6 ∷ []) ∷ []
+unfolding rowLines tabulate
+main-lines = refl
+
+pub wire-and-lines : rowLines false ≡ (8 ∷ 7 ∷ 7 ∷ 7 ∷ 7 ∷ []) ∷ []
+unfolding rowLines tabulate
+wire-and-lines = refl
+
+pub main-size : (main : Bool) → main ≡ true → (fusesIn (rowLines main) ≡ 108) × (bytesIn (rowLines main) ≡ 153)
+unfolding rowLines tabulate fusesIn bytesIn total
+main-size main e = rw e (refl, refl)
+
+pub wire-and-size : (main : Bool) → main ≡ false → (fusesIn (rowLines main) ≡ 36) × (bytesIn (rowLines main) ≡ 51)
+unfolding rowLines tabulate fusesIn bytesIn total
+wire-and-size main e = rw e (refl, refl)
+
+-- the main rows of a block, and a block
+pub main-rows : (fusesIn (repeat 72 (rowLines true)) ≡ 7776) × (bytesIn (repeat 72 (rowLines true)) ≡ 11016)
+main-rows =
+    (fuses-repeat 72 (rowLines true) ∙ ap (λ (k : ℕ). 72 * k) (main-size true refl .0), bytes-repeat 72 (rowLines true) ∙ ap (λ (k : ℕ). 72 * k) (main-size true refl .1))
+
+pub block-size : (d : Device) → (fusesIn (blockLines d) ≡ 7776 + d .blocks * 648) × (bytesIn (blockLines d) ≡ 11016 + d .blocks * 918)
+unfolding blockLines
+block-size d =
+    let w = wire-and-size false refl in
+    let rows = repeat 72 (rowLines true) in
+    let vs = rowLines false in (
+      rw (fuses-append rows (repeat (d .blocks * 18) vs), main-rows .0, fuses-repeat (d .blocks * 18) vs, w .0) (omega arith),
+      rw (bytes-append rows (repeat (d .blocks * 18) vs), main-rows .1, bytes-repeat (d .blocks * 18) vs, w .1) (omega arith),
+    )
+
+pub block-small : (d : Device) → known d ≡ true → (7776 + d .blocks * 648 ≤ 18144) × (11016 + d .blocks * 918 ≤ 25704)
+block-small d k = omega (arith, blocks-small d k)
+
+-- a device: its fuses, and the bytes of its lines
+pub device-fuses : (d : Device) → d .blocks * fusesIn (blockLines d) ≡ fuseCount d
+unfolding fuseCount
+device-fuses d = ap (λ (x : ℕ). d .blocks * x) (block-size d .0)
+
+pub device-bytes : (d : Device) → d .blocks * bytesIn (blockLines d) ≡ inDevice d (mainRows * mainRowText) (wireAndRows * wireAndRowText)
+device-bytes d = ap (λ (x : ℕ). d .blocks * x) (block-size d .1)
+
+pub pattern-fuses : (d : Device) → fusesIn (pattern d) ≡ fuseCount d
+unfolding pattern
+pattern-fuses d = fuses-repeat (d .blocks) (blockLines d) ∙ device-fuses d
+
+pub pattern-bytes : (d : Device) → bytesIn (pattern d) ≡ d .blocks * bytesIn (blockLines d)
+unfolding pattern
+pattern-bytes d = bytes-repeat (d .blocks) (blockLines d)
+
+-- the text: eleven bytes and the count's digits, the lines, eight bytes, four digits
+pub text-size : (d : Device) → textBytes d ≡ 11 + decimalDigits (fuseCount d) + bytesIn (pattern d) + 12
+unfolding textBytes
+text-size d = rw (pattern-bytes d, device-bytes d) (omega arith)
+
+-- an image has at least a word, and fuse numbers of six digits
+image-size : (d : Device) → known d ≡ true → (8 ≤ imageBytes d) × (imageBytes d ≤ 125000)
+unfolding imageBytes fuseCount
+image-size d k =
+    by-count (λ n. (8 ≤ (n * (7776 + n * 648) + 7) / 8) × ((n * (7776 + n * 648) + 7) / 8 ≤ 125000)) (omega arith) (omega arith) (omega arith) (omega arith) (omega arith) (omega arith) (d .blocks) (known-count d k)
+
+pub image-word : (d : Device) (image : List ℕ) → known d ≡ true → length image ≡ imageBytes d → 8 ≤ length image
+image-word d image k e = rw e (image-size d k .0)
+
+pub image-few : (d : Device) (image : List ℕ) → known d ≡ true → length image ≡ imageBytes d → length image ≤ 125000
+image-few d image k e = rw e (image-size d k .1)
+
+pub count-small : (d : Device) (x : ℕ) → known d ≡ true → x ≡ fuseCount d → x < 1000000
+count-small d x k e = omega (arith, fuses-small d k)
+
+pub count-digits : (d : Device) (digits : ℕ) → known d ≡ true → digits ≡ decimalDigits (fuseCount d) → (1 ≤ digits) × (digits ≤ 7)
+unfolding fuseCount
+count-digits d digits k e =
+    rw e (by-count (λ n. (1 ≤ decimalDigits (n * (7776 + n * 648))) × (decimalDigits (n * (7776 + n * 648)) ≤ 7)) (omega arith) (omega arith) (omega arith) (omega arith) (omega arith) (omega arith) (d .blocks) (known-count d k))
+
+pub digits-of : (d : Device) (x digits : ℕ) → x ≡ fuseCount d → digits ≡ decimalDigits x → digits ≡ decimalDigits (fuseCount d)
+digits-of d x digits e f = f ∙ ap decimalDigits e
+
+-- the count's digits are the last of its seven
+pub count-cut : (d : Device) → known d ≡ true
+    → cut (replicate (decimalDigits (fuseCount d)) 8) (number (letterL ∷ sevenDigits (fuseCount d)) / 2 ^ (64 - decimalDigits (fuseCount d) * 8)) ≡ countDigits (fuseCount d)
+unfolding fuseCount number join cut digitsOf
+count-cut d k =
+    by-count (λ n.
+    let x = n * (7776 + n * 648) in
+    cut (replicate (decimalDigits x) 8) (number (letterL ∷ sevenDigits x) / 2 ^ (64 - decimalDigits x * 8)) ≡ countDigits x)
+    refl refl refl refl refl refl (d .blocks) (known-count d k)
+
+-- the loops over rows and blocks, at their sizes
+pub block-of-rows : (d : Device) (image out one two : List ℕ) (fuse at : ℕ)
+    → one ≡ sets out at (linesText image fuse (repeat 72 (rowLines true)))
+    → two ≡ sets one (at + 11016) (linesText image (fuse + 7776) (repeat (d .blocks * 18) (rowLines false)))
+    → two ≡ sets out at (linesText image fuse (blockLines d))
+unfolding blockLines
+block-of-rows d image out one two fuse at e1 e2 =
+    e2 ∙ rw e1 (lines-sets image out (repeat 72 (rowLines true)) (repeat (d .blocks * 18) (rowLines false)) fuse at 11016 7776 (main-rows .1) (main-rows .0))
+
+pub blocks-begun : (d : Device) (image out : List ℕ) (at : ℕ) → known d ≡ true → length image ≡ imageBytes d → at + bytesIn (pattern d) ≤ length out
+    → Left (blockLines d) image out out 0 at (d .blocks) 0 at (d .blocks)
+blocks-begun d image out at k e f =
+    begun (blockLines d) image out 0 at (d .blocks) (omega (arith, device-fuses d, image-whole d k)) (omega (arith, pattern-bytes d))
+
+pub blocks-ended : (d : Device) (image before out : List ℕ) (at f a left : ℕ) → Left (blockLines d) image before out 0 at (d .blocks) f a left → left ≤ 0
+    → out ≡ sets before at (linesText image 0 (pattern d))
+unfolding pattern
+blocks-ended d image before out at f a left now h = ended now h
+
+-- a line by itself
+alone : (image : List ℕ) (fuse : ℕ) (line : List ℕ) → linesText image fuse (line ∷ []) ≡ lineText image fuse line
+unfolding linesText
+alone image fuse line = append-nil (lineText image fuse line)
+
+-- the lines of a row, one after another
+pub main-row-of : (main : Bool) (image out one two three : List ℕ) (fuse at : ℕ) → main ≡ true
+    → one ≡ sets out at (lineText image fuse (8 ∷ 8 ∷ 8 ∷ 8 ∷ 8 ∷ []))
+    → two ≡ sets one (at + 55) (lineText image (fuse + 40) (8 ∷ 8 ∷ 8 ∷ 8 ∷ 6 ∷ []))
+    → three ≡ sets two (at + 108) (lineText image (fuse + 78) (6 ∷ 6 ∷ 6 ∷ 6 ∷ 6 ∷ []))
+    → three ≡ sets out at (linesText image fuse (rowLines main))
+unfolding total fusesIn bytesIn
+main-row-of main image out one two three fuse at e e1 e2 e3 =
+    let l1 : List ℕ = 8 ∷ 8 ∷ 8 ∷ 8 ∷ 8 ∷ [] in
+    let l2 : List ℕ = 8 ∷ 8 ∷ 8 ∷ 8 ∷ 6 ∷ [] in
+    let l3 : List ℕ = 6 ∷ 6 ∷ 6 ∷ 6 ∷ 6 ∷ [] in
+    rw (e, main-lines)
+    (e3
+    ∙ rw (e2, e1, ← alone image fuse l1, ← alone image (fuse + 40) l2, ← alone image (fuse + 78) l3)
+    (ap (λ (l : List ℕ). sets l (at + 108) (linesText image (fuse + 78) (l3 ∷ []))) (lines-sets image out (l1 ∷ []) (l2 ∷ []) fuse at 55 40 refl refl)
+    ∙ lines-sets image out (l1 ∷ l2 ∷ []) (l3 ∷ []) fuse at 108 78 refl refl))
+
+pub wire-and-row-of : (main : Bool) (image out one : List ℕ) (fuse at : ℕ) → main ≡ false
+    → one ≡ sets out at (lineText image fuse (8 ∷ 7 ∷ 7 ∷ 7 ∷ 7 ∷ [])) → one ≡ sets out at (linesText image fuse (rowLines main))
+wire-and-row-of main image out one fuse at e e1 =
+    rw (e, wire-and-lines) (e1 ∙ rw (← alone image fuse (8 ∷ 7 ∷ 7 ∷ 7 ∷ 7 ∷ [])))

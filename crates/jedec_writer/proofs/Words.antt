@@ -1,0 +1,181 @@
+-- The words that the code makes of bits and of numbers: each is the number of the characters that are meant.
+-- The characters of bits are proved by one computed test over all of them.
+use mathlib.Core.Path.{_≡_, refl, sym, _∙_, ap, ap₂, subst}
+use mathlib.Core.Bool.{Bool, true, cond}
+use mathlib.Core.List.{List, [], _∷_, _++_}
+use Prim.Native.Nat.{ℕ, suc, _+_, _*_, _-_, _/_, _%_, _^_, _≤_, _<_}
+use native.Mathlib.Omega.{arith}
+use native.Mathlib.Numerals.{add-one}
+use native.Mathlib.Nat.{mod-lt}
+use lib.Bits.{bitAnd, and-le-r}
+use lib.Dec.{eqb, leb}
+use lib.ListN.{length, replicate}
+use lib.Pow.{pow-pos, field, mod-mod-pow}
+use lib.Seq.{sets}
+use borrow.Author.Tests.{eqb-true, le-leb, lt-leb}
+use Rattle.cells.specs.Cells.{cut, join, total, number}
+use Rattle.cells.proofs.Laws.{join-small}
+use Rattle.part.proofs.Facts.{compared}
+use Rattle.part.proofs.Tables.{allBelow, below-all}
+use Rattle.jedec.specs.Characters.{space, letterL, decimalDigit, hexDigit, digitsOf, sevenDigits, fourHex}
+use Rattle.jedec_writer.specs.Tokens.{bitsText, columnText, Stored}
+use Rattle.jedec_writer.proofs.Tokens.{Bytes, placed, number-placed, cut-number, bits-length, bits-bytes, bits-append, bits-low}
+
+-- seven bits apart, and the character 0 added to each
+abbrev pub apart : ℕ → ℕ
+apart bits = bitAnd (bits * 0x0002040810204081) 0x0101010101010101
+
+pub apart-small : (bits : ℕ) → apart bits ≤ 0x0101010101010101
+apart-small bits = and-le-r (bits * 0x0002040810204081) 0x0101010101010101
+
+seven-right : ℕ → Bool
+seven-right i = eqb (apart i + 0x3030303030303030) (number (bitsText 8 i))
+
+seven-all : allBelow seven-right 128 ≡ true
+unfolding seven-right bitsText number cut join
+seven-all = refl
+
+pub seven-bits : (bits low : ℕ) → low ≡ bits % 2 ^ 7 → apart low + 0x3030303030303030 ≡ number (bitsText 8 (bits % 2 ^ 7))
+unfolding seven-right
+seven-bits bits low e = rw e (eqb-true _ _ (below-all seven-right 128 seven-all (bits % 2 ^ 7) (mod-lt bits (pow-pos 7))))
+
+-- the eighth bit added
+eight-right : ℕ → Bool
+eight-right i = eqb (number (bitsText 8 (i % 2 ^ 7)) + i / 2 ^ 7 * 2 ^ 56) (number (bitsText 8 i))
+
+eight-all : allBelow eight-right 256 ≡ true
+unfolding eight-right bitsText number cut join
+eight-all = refl
+
+pub eight-bits : (bits seven top : ℕ) → seven ≡ number (bitsText 8 (bits % 2 ^ 7)) → top ≡ bits / 2 ^ 7 % 2 ^ 1 → seven + top * 2 ^ 56 ≡ number (bitsText 8 (bits % 2 ^ 8))
+unfolding eight-right
+eight-bits bits seven top e f =
+    e' (sym (mod-mod-pow bits 1 7)) (sym (field bits 1 7)) ∙ eqb-true _ _ (below-all eight-right 256 eight-all (bits % 2 ^ 8) (mod-lt bits (pow-pos 8)))
+  where
+    e' : bits % 2 ^ 7 ≡ bits % 2 ^ 8 % 2 ^ 7 → bits / 2 ^ 7 % 2 ^ 1 ≡ bits % 2 ^ 8 / 2 ^ 7
+        → seven + top * 2 ^ 56 ≡ number (bitsText 8 (bits % 2 ^ 8 % 2 ^ 7)) + bits % 2 ^ 8 / 2 ^ 7 * 2 ^ 56
+    e' low high = ap₂ (λ (x y : ℕ). x + y * 2 ^ 56) (e ∙ ap (λ (y : ℕ). number (bitsText 8 y)) low) (f ∙ high)
+
+-- the bytes of the code's words that are always the same
+blank : cut (replicate 1 8) 0x20 ≡ space ∷ []
+unfolding cut
+blank = refl
+
+-- a column from a word of eight characters, of which the first `width` are its bits
+column-of : (out one two : List ℕ) (at width k word r : ℕ) → 6 ≤ width → width ≤ k → k ≤ 8 → r ≡ number (bitsText 8 (word % 2 ^ k))
+    → one ≡ sets out at (cut (replicate 1 8) 0x20) → two ≡ sets one (at + 1) (cut (replicate 8 8) r) → Stored out two at (columnText width word)
+column-of out one two at width k word r h hk h8 e e1 e2 =
+    let x = word % 2 ^ k in
+    let again : cut (replicate 8 8) r ≡ bitsText 8 x = rw e (ap (λ (n : ℕ). cut (replicate n 8) (number (bitsText 8 x))) (sym (bits-length 8 x)) ∙ cut-number (bitsText 8 x) (bits-bytes 8 x)) in
+    let whole : width + (8 - width) ≡ 8 = omega arith in
+    let parts : bitsText 8 x ≡ bitsText width x ++ bitsText (8 - width) (x / 2 ^ width) = ap (λ (n : ℕ). bitsText n x) (sym whole) ∙ bits-append width (8 - width) x in
+    let more : k - width + width ≡ k = omega arith in
+    let own : bitsText width x ≡ bitsText width word = ap (λ (n : ℕ). bitsText width (word % 2 ^ n)) (sym more) ∙ bits-low width (k - width) word in
+    record {
+      more = bitsText (8 - width) (x / 2 ^ width);
+      few = omega (arith, bits-length (8 - width) (x / 2 ^ width));
+      holds = e2 ∙ rw (e1, blank, again, add-one at) (ap (sets out at) (ap (λ (l : List ℕ). space ∷ l) (parts ∙ ap (λ (l : List ℕ). l ++ bitsText (8 - width) (x / 2 ^ width)) own)));
+    }
+
+pub wide-column : (out one two : List ℕ) (at width word r : ℕ) → width ≡ 8 → r ≡ number (bitsText 8 (word % 2 ^ 8))
+    → one ≡ sets out at (cut (replicate 1 8) 0x20) → two ≡ sets one (at + 1) (cut (replicate 8 8) r) → Stored out two at (columnText width word)
+wide-column out one two at width word r h = column-of out one two at width 8 word r (omega arith) (omega arith) (omega arith)
+
+pub narrow-column : (out one two : List ℕ) (at width word r : ℕ) → 6 ≤ width → width ≤ 8 → (width ≡ 8 → ⊥) → r ≡ number (bitsText 8 (word % 2 ^ 7))
+    → one ≡ sets out at (cut (replicate 1 8) 0x20) → two ≡ sets one (at + 1) (cut (replicate 8 8) r) → Stored out two at (columnText width word)
+narrow-column out one two at width word r h g n = column-of out one two at width 7 word r h (omega arith) (omega arith)
+
+-- the digits of a fuse
+pub start-bytes : (fuse : ℕ) → Bytes (letterL ∷ sevenDigits fuse)
+unfolding digitsOf
+start-bytes fuse = (omega arith, (omega arith, (omega arith, (omega arith, (omega arith, (omega arith, (omega arith, (omega arith, tt))))))))
+
+-- six digits in twos, each two taken apart
+taken-apart : (a b c d e f : ℕ)
+    → ((f * 10 + e) * 0x10000 + (d * 10 + c) * 0x100000000 + (b * 10 + a) * 0x1000000000000) * 256 - (f * 0x10000 + d * 0x100000000 + b * 0x1000000000000) * 2559 + 0x303030303030304C
+    ≡ (((((((48 + a) * 256 + (48 + b)) * 256 + (48 + c)) * 256 + (48 + d)) * 256 + (48 + e)) * 256 + (48 + f)) * 256 + 48) * 256 + 76
+taken-apart a b c d e f = omega arith
+
+seven-placed : (a b c d e f g : ℕ) → g ≡ 0
+    → (((((((48 + a) * 256 + (48 + b)) * 256 + (48 + c)) * 256 + (48 + d)) * 256 + (48 + e)) * 256 + (48 + f)) * 256 + 48) * 256 + 76
+    ≡ placed (76 ∷ (48 + g) ∷ (48 + f) ∷ (48 + e) ∷ (48 + d) ∷ (48 + c) ∷ (48 + b) ∷ (48 + a) ∷ [])
+seven-placed a b c d e f g h = rw h (omega arith)
+
+-- the digits of a number below a million, lowest first, and its digits in twos
+module _ (x : ℕ) (h : x < 1000000) where
+  high-digits : x / 10000 ≡ x / 10 / 10 / 10 / 10 / 10 % 10 * 10 + x / 10 / 10 / 10 / 10 % 10
+  high-digits = omega arith
+
+  middle-digits : (x - x / 10000 * 10000) / 100 ≡ x / 10 / 10 / 10 % 10 * 10 + x / 10 / 10 % 10
+  middle-digits = omega arith
+
+  low-digits : x - x / 10000 * 10000 - (x - x / 10000 * 10000) / 100 * 100 ≡ x / 10 % 10 * 10 + x % 10
+  low-digits = omega arith
+
+  no-more : x / 10 / 10 / 10 / 10 / 10 / 10 % 10 ≡ 0
+  no-more = omega arith
+
+pub line-start-of : (x : ℕ) → x < 1000000
+    → (x / 10000 * 0x10000 + (x - x / 10000 * 10000) / 100 * 0x100000000 + (x - x / 10000 * 10000 - (x - x / 10000 * 10000) / 100 * 100) * 0x1000000000000) * 256
+    - (x / 10000 / 10 * 0x10000 + (x - x / 10000 * 10000) / 100 / 10 * 0x100000000 + (x - x / 10000 * 10000 - (x - x / 10000 * 10000) / 100 * 100) / 10 * 0x1000000000000) * 2559
+    + 0x303030303030304C
+    ≡ number (letterL ∷ sevenDigits x)
+unfolding digitsOf
+line-start-of x h =
+    let a = x % 10 in
+    let b = x / 10 % 10 in
+    let c = x / 10 / 10 % 10 in
+    let d = x / 10 / 10 / 10 % 10 in
+    let e = x / 10 / 10 / 10 / 10 % 10 in
+    let f = x / 10 / 10 / 10 / 10 / 10 % 10 in
+    let tenth : (u v : ℕ) → v < 10 → (u * 10 + v) / 10 ≡ u = λ u v g. omega arith in
+    rw (low-digits x h, middle-digits x h, high-digits x h, tenth b a (omega arith), tenth d c (omega arith), tenth f e (omega arith))
+    (taken-apart a b c d e f ∙ seven-placed a b c d e f (x / 10 / 10 / 10 / 10 / 10 / 10 % 10) (no-more x h) ∙ sym (number-placed (letterL ∷ sevenDigits x) (start-bytes x)))
+
+-- the number of some bytes fits in them
+number-small : (bytes : List ℕ) → number bytes < 2 ^ total (replicate (length bytes) 8)
+unfolding number
+number-small bytes = join-small (replicate (length bytes) 8) bytes
+
+pub start-small : (x : ℕ) → number (letterL ∷ sevenDigits x) < 2 ^ 64
+unfolding digitsOf total
+start-small x = number-small (letterL ∷ sevenDigits x)
+
+-- four hex digits
+pub hex-low : (x : ℕ) → x ≤ 9 → 48 + x ≡ hexDigit x
+hex-low x h = rw (le-leb x 9 h)
+
+pub hex-high : (x : ℕ) → 9 < x → 55 + x ≡ hexDigit x
+hex-high x h = rw (lt-leb x 9 h)
+
+pub hex-small : (x : ℕ) → x < 16 → hexDigit x < 128
+hex-small x h = by-cases-le (λ l. rw (le-leb x 9 l) (omega arith)) (λ g. rw (lt-leb x 9 g) (omega arith))
+  where
+    by-cases-le : (x ≤ 9 → hexDigit x < 128) → (9 < x → hexDigit x < 128) → hexDigit x < 128
+    by-cases-le p q = compared 9 x q p
+
+pub hex-bytes : (x : ℕ) → Bytes (fourHex x)
+unfolding digitsOf
+hex-bytes x =
+    let digit : (y : ℕ) → y < 16 → hexDigit y < 2 ^ 8 = λ y h. omega (arith, hex-small y h) in
+    (digit (x / 16 / 16 / 16 % 16) (omega arith), (digit (x / 16 / 16 % 16) (omega arith), (digit (x / 16 % 16) (omega arith), (digit (x % 16) (omega arith), tt))))
+
+four-placed : (a b c d : ℕ) → a + b * 0x100 + c * 0x10000 + d * 0x1000000 ≡ placed (a ∷ b ∷ c ∷ d ∷ [])
+four-placed a b c d = omega arith
+
+pub four-hex-of : (x a b c d : ℕ) → x < 2 ^ 16 → a ≡ hexDigit (x / 4096) → b ≡ hexDigit (x / 256 % 16) → c ≡ hexDigit (x / 16 % 16) → d ≡ hexDigit (x % 16)
+    → a + b * 0x100 + c * 0x10000 + d * 0x1000000 ≡ number (fourHex x)
+unfolding digitsOf
+four-hex-of x a b c d h ea eb ec ed =
+    let first : x / 4096 ≡ x / 16 / 16 / 16 % 16 = omega arith in
+    let second : x / 256 % 16 ≡ x / 16 / 16 % 16 = omega arith in
+    rw (ea, eb, ec, ed, first, second)
+    (four-placed (hexDigit (x / 16 / 16 / 16 % 16)) (hexDigit (x / 16 / 16 % 16)) (hexDigit (x / 16 % 16)) (hexDigit (x % 16)) ∙ sym (number-placed (fourHex x) (hex-bytes x)))
+
+pub hex-cut : (x : ℕ) → cut (replicate 4 8) (number (fourHex x)) ≡ fourHex x
+unfolding digitsOf
+hex-cut x = cut-number (fourHex x) (hex-bytes x)
+
+pub start-cut : (x : ℕ) → cut (replicate 8 8) (number (letterL ∷ sevenDigits x)) ≡ letterL ∷ sevenDigits x
+unfolding digitsOf
+start-cut x = cut-number (letterL ∷ sevenDigits x) (start-bytes x)

@@ -1,0 +1,44 @@
+-- The line pattern of a device, as 001 has it: "per main row 40, 38 and 30 bits, per wire-AND row 36", five columns to a line.
+-- The writer's text by that pattern, and what the writer answers: refusals 1, 2 and then 12 with the bytes needed.
+use Prim.Native.Nat.{ℕ, _+_, _*_}
+use mathlib.Core.Bool.{Bool, true, false, cond}
+use mathlib.Core.List.{List, [], _∷_, _++_}
+use lib.Dec.{ltb}
+use lib.ListN.{length, drop}
+use Rattle.cells.specs.Cells.{repeat}
+use Rattle.part.specs.Outcome.{Outcome}
+use Rattle.part.specs.Outcome.Outcome.{accepted, refused}
+use Rattle.part.specs.Device.{blocksOf, mainRows, mainWidth, wireAndRows, wireAndWidth, fuseCount, imageBytes, textBytes}
+use Rattle.part.specs.Convert.{ifKnown}
+use Rattle.part.specs.declared.Device.{Device}
+use Rattle.image.specs.Bits.{tabulate}
+use Rattle.image.specs.Image.{ifLength}
+use Rattle.jedec.specs.Written.{textWith}
+
+-- the widths of the columns of a line, from a column on
+abbrev pub columnsFrom : (ℕ → ℕ) → ℕ → List ℕ
+columnsFrom width first = tabulate 5 (λ column. width (first + column))
+
+-- the lines of a row of the main area, and of the wire-AND area
+unfoldable pub rowLines : (main : Bool) → List (List ℕ)
+rowLines true = columnsFrom mainWidth 0 ∷ columnsFrom mainWidth 5 ∷ columnsFrom mainWidth 10 ∷ []
+rowLines false = columnsFrom wireAndWidth 0 ∷ []
+
+-- a block: the rows of its main area, then those of each of its subareas
+unfoldable pub blockLines : Device → List (List ℕ)
+blockLines d = repeat mainRows (rowLines true) ++ repeat (blocksOf d * wireAndRows) (rowLines false)
+
+unfoldable pub pattern : Device → List (List ℕ)
+pattern d = repeat (blocksOf d) (blockLines d)
+
+unfoldable pub textOf : Device → (image : List ℕ) → List ℕ
+textOf d image = textWith (fuseCount d) (pattern d) image
+
+-- the bytes written, for a room of so many bytes
+unfoldable pub toText : Device → (image : List ℕ) → (room : ℕ) → Outcome ℕ
+toText d image room =
+    ifKnown d (ifLength (length image) (imageBytes d) (cond (ltb room (textBytes d)) (refused 12 (textBytes d)) (accepted (textBytes d))))
+
+-- the room with the text in it: "Bytes of the lent room beyond that stay"
+abbrev pub withText : Device → (image room : List ℕ) → List ℕ
+withText d image room = textOf d image ++ drop (textBytes d) room

@@ -1,0 +1,47 @@
+-- What the proofs of the writer work with: the characters of a number's bits, the fuses and bytes of lines, bytes stored with more behind them.
+-- Assumes nothing.
+use Prim.Native.Nat.{ℕ, zero, suc, _+_, _*_, _/_, _%_, _^_, _≤_, _<_}
+use mathlib.Core.Path.{_≡_}
+use mathlib.Core.List.{List, [], _∷_, _++_, map}
+use lib.ListN.{length, replicate}
+use lib.Seq.{sets}
+use Rattle.cells.specs.Cells.{cut, total}
+use Rattle.part.specs.Device.{lineBytes}
+use Rattle.jedec.specs.Characters.{space, decimalDigit}
+
+-- the low bits of a number in characters, lowest first
+unfoldable pub bitsText : (width : ℕ) → ℕ → List ℕ
+bitsText width x = map decimalDigit (cut (replicate width 1) x)
+
+-- a column of a line
+abbrev pub columnText : (width : ℕ) → ℕ → List ℕ
+columnText width x = space ∷ bitsText width x
+
+-- the columns of a line
+unfoldable pub columnsOf : ℕ → List ℕ → List ℕ
+columnsOf x [] = []
+columnsOf x (w ∷ widths) = columnText w x ++ columnsOf (x / 2 ^ w) widths
+
+-- the widths that columns have
+abbrev pub Wide : ℕ → Type 0
+Wide width = (6 ≤ width) × (width ≤ 8)
+
+-- the fuses and the bytes of some lines
+unfoldable pub fusesIn : List (List ℕ) → ℕ
+fusesIn [] = 0
+fusesIn (line ∷ lines) = total line + fusesIn lines
+
+unfoldable pub bytesIn : List (List ℕ) → ℕ
+bytesIn [] = 0
+bytesIn (line ∷ lines) = lineBytes (length line) (total line) + bytesIn lines
+
+-- every line has a fuse
+abbrev pub EachFilled : List (List ℕ) → Type 0
+EachFilled [] = Unit {0}
+EachFilled (line ∷ lines) = (0 < total line) × EachFilled lines
+
+-- some bytes stored from an index on, and at most two more behind them, which what is stored next replaces
+pub record Stored (before after : List ℕ) (at : ℕ) (bytes : List ℕ) : Type 0 where
+  pub more : List ℕ
+  pub few : length more ≤ 2
+  pub holds : after ≡ sets before at (bytes ++ more)

@@ -1,0 +1,318 @@
+// The writer's walk: characters of a column, lines, rows, blocks, and the frame around the lines.
+// Nothing here is part of the public interface.
+ghost use mathlib.Core.Path.{_≡_};
+ghost use mathlib.Core.Bool.{Bool, true};
+ghost use mathlib.Core.List.{List, [], _∷_, _++_};
+ghost use Prim.Native.Nat.{ℕ, _+_, _*_, _/_, _%_, _^_, _<_, _≤_};
+ghost use lib.ListN.{length, replicate, set};
+ghost use lib.Seq.{sets};
+ghost use Rattle.cells.specs.Cells.{cut, total, repeat, number};
+ghost use Rattle.part.specs.Device.{known, fuseCount, imageBytes, textBytes, decimalDigits};
+ghost use Rattle.jedec.specs.Characters.{letterL, sevenDigits, hexDigit, fourHex};
+ghost use Rattle.jedec.specs.Written.{lineText, linesText, headText, footText};
+ghost use Rattle.jedec_writer.specs.Pattern.{rowLines, blockLines, pattern, textOf};
+ghost use Rattle.jedec_writer.specs.Tokens.{bitsText, columnText, columnsOf, Wide, fusesIn, bytesIn, Stored};
+use cells::internal::low_bits;
+use cells::internal::put_cells;
+use cells::internal::word8;
+use part::Device;
+
+// `*`, LF; STX, `*`, LF, `QF`; `*`, LF, `F0*`, LF; `*`, LF, ETX: each as one word, its first byte lowest.
+const LINE_END: u64 = 0x0A2A;
+
+const BEFORE_COUNT: u64 = 0x46_510A_2A02;
+
+const AFTER_COUNT: u64 = 0x0A2A_3046_0A2A;
+
+const BEFORE_SUM: u64 = 0x43;
+
+const AFTER_SUM: u64 = 0x03_0A2A;
+
+const SPACE: u64 = 0x20;
+
+// The eight characters of seven bits and a 0. A product by 1 + 2^7 + 2^14 + .. has bit k of the seven at bit 8k.
+fn seven_states(bits: u64) -> u64
+    ensures { λ r. ⌜ (r ≡ number (bitsText 8 (bits % 2 ^ 7))) × (r < 2 ^ 62) ⌝ }
+{
+    let apart = (low_bits(bits, 7) * 0x0002_0408_1020_4081) & 0x0101_0101_0101_0101;
+    apart + 0x3030_3030_3030_3030
+}
+
+// The characters of eight bits.
+fn eight_states(bits: u64) -> u64
+    ensures { λ r. ⌜ r ≡ number (bitsText 8 (bits % 2 ^ 8)) ⌝ }
+{
+    let seven = seven_states(bits);
+    seven + low_bits(bits >> 7, 1) * 0x0100_0000_0000_0000
+}
+
+// A byte of a word, put `k` bytes behind an index.
+fn put_byte(word: u64, k: usize, out: &mut [u8], at: usize)
+    requires { ⌜ (k < 8) × (at + k < length (now out)) ⌝ }
+    ensures { λ _. ⌜ now (out .exit) ≡ set (now (out .entry)) (at + k) (word / 2 ^ (k * 8) % 2 ^ 8) ⌝ }
+{
+    out[at + k] = low_bits(word >> (k * 8), 8) as u8;
+}
+
+// `put_cells(word, 8, 8, out, at)`, written out: so it compiles to one store.
+fn put_eight(word: u64, out: &mut [u8], at: usize)
+    requires { ⌜ at + 8 ≤ length (now out) ⌝ }
+    ensures { λ _. ⌜ now (out .exit) ≡ sets (now (out .entry)) at (cut (replicate 8 8) word) ⌝ }
+{
+    put_byte(word, 0, out, at);
+    put_byte(word, 1, out, at);
+    put_byte(word, 2, out, at);
+    put_byte(word, 3, out, at);
+    put_byte(word, 4, out, at);
+    put_byte(word, 5, out, at);
+    put_byte(word, 6, out, at);
+    put_byte(word, 7, out, at);
+}
+
+// A column: a space and its bits.
+fn put_column(word: u64, width: usize, out: &mut [u8], at: usize)
+    requires { ⌜ (Wide width) × (at + 9 ≤ length (now out)) ⌝ }
+    ensures { λ _. ⌜ Stored (now (out .entry)) (now (out .exit)) at (columnText width word) ⌝ }
+{
+    put_cells(SPACE, 8, 1, out, at);
+    if width == 8 {
+        put_eight(eight_states(word), out, at + 1);
+    } else {
+        put_eight(seven_states(word), out, at + 1);
+    }
+}
+
+// `L` and the seven digits of a fuse. The digits are taken in twos: t becomes t / 10 and t % 10 by 256 * t - 2559 * (t / 10).
+fn line_start(fuse: u32) -> u64
+    requires { ⌜ fuse < 1000000 ⌝ }
+    ensures { λ r. ⌜ r ≡ number (letterL ∷ sevenDigits fuse) ⌝ }
+{
+    let high = fuse / 10000;
+    let rest = fuse - high * 10000;
+    let middle = rest / 100;
+    let low = rest - middle * 100;
+    let twos = high as u64 * 0x0001_0000
+        + middle as u64 * 0x0001_0000_0000
+        + low as u64 * 0x0001_0000_0000_0000;
+    let tens = (high / 10) as u64 * 0x0001_0000
+        + (middle / 10) as u64 * 0x0001_0000_0000
+        + (low / 10) as u64 * 0x0001_0000_0000_0000;
+    (twos * 256 - tens * 2559) + 0x3030_3030_3030_304C
+}
+
+// The bits of an image from a fuse on, at least 56 or all that are left: the last lines are taken from the last eight bytes.
+fn bits_from(image: &[u8], fuse: usize) -> u64
+    requires { ⌜ (8 ≤ length (now image)) × (fuse < length (now image) * 8) ⌝ }
+    ensures { λ r. ⌜ ((ws : List ℕ) → total ws ≤ 56 → fuse + total ws ≤ length (now (image .entry)) * 8 → cut ws r ≡ cut ws (number (now (image .entry)) / 2 ^ fuse)) ⌝ }
+{
+    let last = image.len() - 8;
+    let byte = fuse / 8;
+    if byte < last {
+        return word8(image, byte) >> (fuse % 8);
+    }
+    word8(image, last) >> (fuse - last * 8)
+}
+
+// Five columns, one after another.
+fn put_columns(
+    word: u64,
+    a: usize,
+    b: usize,
+    c: usize,
+    d: usize,
+    e: usize,
+    out: &mut [u8],
+    at: usize,
+)
+    requires { ⌜ (Wide a) × (Wide b) × (Wide c) × (Wide d) × (Wide e) × (at + 7 + (a + b + c + d + e) ≤ length (now out)) ⌝ }
+    ensures { λ _. ⌜ Stored (now (out .entry)) (now (out .exit)) at (columnsOf word (a ∷ b ∷ c ∷ d ∷ e ∷ [])) ⌝ }
+{
+    put_column(word, a, out, at);
+    let word2 = word >> a;
+    let at2 = at + (1 + a);
+    put_column(word2, b, out, at2);
+    let word3 = word2 >> b;
+    let at3 = at2 + (1 + b);
+    put_column(word3, c, out, at3);
+    let word4 = word3 >> c;
+    let at4 = at3 + (1 + c);
+    put_column(word4, d, out, at4);
+    let word5 = word4 >> d;
+    let at5 = at4 + (1 + d);
+    put_column(word5, e, out, at5);
+}
+
+// A line of five columns.
+fn put_line(
+    image: &[u8],
+    fuse: usize,
+    a: usize,
+    b: usize,
+    c: usize,
+    d: usize,
+    e: usize,
+    out: &mut [u8],
+    at: usize,
+)
+    requires { ⌜ (8 ≤ length (now image)) × (length (now image) ≤ 125000) × (fuse + (a + b + c + d + e) ≤ length (now image) * 8) × (at + 15 + (a + b + c + d + e) ≤ length (now out)) × (Wide a) × (Wide b) × (Wide c) × (Wide d) × (Wide e) ⌝ }
+    ensures { λ _. ⌜ now (out .exit) ≡ sets (now (out .entry)) at (lineText (now (image .entry)) fuse (a ∷ b ∷ c ∷ d ∷ e ∷ [])) ⌝ }
+{
+    let word = bits_from(image, fuse);
+    put_eight(line_start(fuse as u32), out, at);
+    put_columns(word, a, b, c, d, e, out, at + 8);
+    put_cells(LINE_END, 8, 2, out, at + (13 + (a + b + c + d + e)));
+}
+
+// The lines of a row.
+fn row_out(main: bool, image: &[u8], fuse: usize, out: &mut [u8], at: usize)
+    requires { ⌜ (8 ≤ length (now image)) × (length (now image) ≤ 125000) × (fuse + fusesIn (rowLines main) ≤ length (now image) * 8) × (at + bytesIn (rowLines main) ≤ length (now out)) ⌝ }
+    ensures { λ _. ⌜ now (out .exit) ≡ sets (now (out .entry)) at (linesText (now (image .entry)) fuse (rowLines main)) ⌝ }
+{
+    if main {
+        put_line(image, fuse, 8, 8, 8, 8, 8, out, at);
+        put_line(image, fuse + 40, 8, 8, 8, 8, 6, out, at + 55);
+        put_line(image, fuse + 78, 6, 6, 6, 6, 6, out, at + 108);
+    } else {
+        put_line(image, fuse, 8, 7, 7, 7, 7, out, at);
+    }
+}
+
+// The fuses of a row, and the bytes of its lines.
+fn row_fuses(main: bool) -> usize
+    ensures { λ r. ⌜ (r ≡ fusesIn (rowLines main)) × (r ≤ 108) ⌝ }
+{
+    if main {
+        return 108;
+    }
+    36
+}
+
+fn row_bytes(main: bool) -> usize
+    ensures { λ r. ⌜ (r ≡ bytesIn (rowLines main)) × (r ≤ 153) ⌝ }
+{
+    if main {
+        return 153;
+    }
+    51
+}
+
+// The lines of some rows, one after another.
+fn rows_out(main: bool, image: &[u8], fuse: usize, out: &mut [u8], at: usize, count: usize)
+    requires { ⌜ (8 ≤ length (now image)) × (length (now image) ≤ 125000) × (fuse + count * fusesIn (rowLines main) ≤ length (now image) * 8) × (at + count * bytesIn (rowLines main) ≤ length (now out)) ⌝ }
+    ensures { λ _. ⌜ now (out .exit) ≡ sets (now (out .entry)) at (linesText (now (image .entry)) fuse (repeat count (rowLines main))) ⌝ }
+{
+    let fuses = row_fuses(main);
+    let bytes = row_bytes(main);
+    let mut f = fuse;
+    let mut a = at;
+    let mut left = count;
+    while 0 < left {
+        row_out(main, image, f, out, a);
+        f += fuses;
+        a += bytes;
+        left -= 1;
+    }
+}
+
+// The fuses of a block, and the bytes of its lines.
+fn block_fuses(d: Device) -> usize
+    requires { ⌜ known d ≡ true ⌝ }
+    ensures { λ r. ⌜ (r ≡ fusesIn (blockLines d)) × (r ≤ 18144) ⌝ }
+{
+    let n = d.blocks as usize;
+    7776 + n * 648
+}
+
+fn block_bytes(d: Device) -> usize
+    requires { ⌜ known d ≡ true ⌝ }
+    ensures { λ r. ⌜ (r ≡ bytesIn (blockLines d)) × (r ≤ 25704) ⌝ }
+{
+    let n = d.blocks as usize;
+    11016 + n * 918
+}
+
+// The lines of a block.
+fn block_out(d: Device, image: &[u8], fuse: usize, out: &mut [u8], at: usize)
+    requires { ⌜ (known d ≡ true) × (8 ≤ length (now image)) × (length (now image) ≤ 125000) × (fuse + fusesIn (blockLines d) ≤ length (now image) * 8) × (at + bytesIn (blockLines d) ≤ length (now out)) ⌝ }
+    ensures { λ _. ⌜ now (out .exit) ≡ sets (now (out .entry)) at (linesText (now (image .entry)) fuse (blockLines d)) ⌝ }
+{
+    rows_out(true, image, fuse, out, at, 72);
+    let rows = d.blocks as usize * 18;
+    rows_out(false, image, fuse + 7776, out, at + 11016, rows);
+}
+
+// The lines of all blocks.
+fn blocks_out(d: Device, image: &[u8], out: &mut [u8], at: usize)
+    requires { ⌜ (known d ≡ true) × (length (now image) ≡ imageBytes d) × (at + bytesIn (pattern d) ≤ length (now out)) ⌝ }
+    ensures { λ _. ⌜ now (out .exit) ≡ sets (now (out .entry)) at (linesText (now (image .entry)) 0 (pattern d)) ⌝ }
+{
+    let fuses = block_fuses(d);
+    let bytes = block_bytes(d);
+    let mut f: usize = 0;
+    let mut a = at;
+    let mut left = d.blocks;
+    while 0 < left {
+        block_out(d, image, f, out, a);
+        f += fuses;
+        a += bytes;
+        left -= 1;
+    }
+}
+
+// From STX to the line before the first L. The count's digits are the last of the seven.
+fn head_out(d: Device, digits: usize, out: &mut [u8])
+    requires { ⌜ (known d ≡ true) × (digits ≡ decimalDigits (fuseCount d)) × (11 + digits ≤ length (now out)) ⌝ }
+    ensures { λ _. ⌜ now (out .exit) ≡ sets (now (out .entry)) 0 (headText (fuseCount d)) ⌝ }
+{
+    put_cells(BEFORE_COUNT, 8, 5, out, 0);
+    let seven = line_start(part::internal::fuse_count(d));
+    put_cells(seven >> (64 - digits * 8), 8, digits, out, 5);
+    put_cells(AFTER_COUNT, 8, 6, out, 5 + digits);
+}
+
+fn hex_digit(x: u64) -> u64
+    requires { ⌜ x < 16 ⌝ }
+    ensures { λ r. ⌜ (r ≡ hexDigit x) × (r < 128) ⌝ }
+{
+    if x <= 9 {
+        return 48 + x;
+    }
+    55 + x
+}
+
+// The four upper-case digits of a sum.
+fn four_hex(sum: u16) -> u64
+    ensures { λ r. ⌜ r ≡ number (fourHex sum) ⌝ }
+{
+    let x = sum as u64;
+    let one = hex_digit(x / 4096);
+    let two = hex_digit(x / 256 % 16);
+    let three = hex_digit(x / 16 % 16);
+    let four = hex_digit(x % 16);
+    one + two * 0x0100 + three * 0x0001_0000 + four * 0x0100_0000
+}
+
+// The line of the fuse sum, and ETX.
+fn foot_out(sum: u16, out: &mut [u8], at: usize)
+    requires { ⌜ at + 8 ≤ length (now out) ⌝ }
+    ensures { λ _. ⌜ now (out .exit) ≡ sets (now (out .entry)) at (footText sum) ⌝ }
+{
+    put_cells(BEFORE_SUM, 8, 1, out, at);
+    put_cells(four_hex(sum), 8, 4, out, at + 1);
+    put_cells(AFTER_SUM, 8, 3, out, at + 5);
+}
+
+// The text of an image, and nothing behind it.
+pub fn text_out(d: Device, image: &[u8], text: &mut [u8])
+    requires { ⌜ (known d ≡ true) × (length (now image) ≡ imageBytes d) × (textBytes d ≤ length (now text)) ⌝ }
+    ensures { λ _. ⌜ now (text .exit) ≡ sets (now (text .entry)) 0 (textOf d (now (image .entry))) ⌝ }
+{
+    let digits = part::internal::decimal_digits(part::internal::fuse_count(d)) as usize;
+    head_out(d, digits, text);
+    blocks_out(d, image, text, 11 + digits);
+    let end = part::internal::text_bytes(d) as usize - 4;
+    let foot = end - 8;
+    foot_out(image::internal::sum_of(image), text, foot);
+    let sum = image::internal::sum_of(&text[..end]);
+    put_cells(four_hex(sum), 8, 4, text, end);
+}
