@@ -19,6 +19,12 @@ pub const IMAGE: Length = |blocks| blocks * (972 + 81 * blocks);
 pub const READOUT: Length = |blocks| blocks * (1080 + 90 * blocks);
 pub const NO_TARGET: Length = |_| 0;
 
+/// The text: three lines a main row, one a wire-AND row, and a frame that holds the fuse count.
+pub const TEXT: Length = |blocks| {
+    let lines = blocks * (72 * 153 + 18 * 51 * blocks);
+    lines + 23 + (8 * IMAGE(blocks)).to_string().len()
+};
+
 /// A function under test, the reference's, the lengths of their slices, and what came of it so far.
 pub struct Comparison {
     tally: Tally,
@@ -45,7 +51,7 @@ impl Comparison {
     }
 
     /// Compares one call, with a target that is filled with a pattern first.
-    fn call(&mut self, device: Device, input: &str, source: &[u8], target_bytes: usize) {
+    pub fn call(&mut self, device: Device, input: &str, source: &[u8], target_bytes: usize) {
         let call = (device, input, source.len(), target_bytes);
         let lent = source.to_vec();
         let pattern = (0..GUARD + target_bytes + GUARD).map(|i| (i * 89 + 90) as u8);
@@ -111,5 +117,10 @@ impl Comparison {
     /// Panics unless each of the refusals occurred often enough, acceptance too, and no other did.
     pub fn assert_refusals(&self, refusals: &[u32]) {
         self.tally.assert_refusals(refusals);
+    }
+
+    /// How often an outcome occurred; 0 is acceptance.
+    pub fn seen(&self, number: u32) -> u64 {
+        self.tally.seen(number)
     }
 }

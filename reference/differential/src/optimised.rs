@@ -11,8 +11,8 @@ const MOST_BLOCKS: usize = 16;
 
 /// What the operations need of a block count.
 #[derive(Clone, Copy)]
-struct Part {
-    fuses: u32,
+pub(crate) struct Part {
+    pub(crate) fuses: u32,
     block_strips: u32,
     reciprocal: u32,
 }
@@ -20,14 +20,14 @@ struct Part {
 impl Part {
     /// The part of a known device; refusal 1 for any other.
     #[inline]
-    fn of(device: Device) -> Answer<Part> {
+    pub(crate) fn of(device: Device) -> Answer<Part> {
         match PARTS.get(device.blocks as usize) {
             Some(part) if part.fuses > 0 && device.class <= LARGE => Ok(*part),
             _ => refuse(1, 0),
         }
     }
 
-    fn image_bytes(self) -> usize {
+    pub(crate) fn image_bytes(self) -> usize {
         self.fuses as usize / 8
     }
 
@@ -35,7 +35,7 @@ impl Part {
         readout_of_strips(self.fuses / STRIP_FUSES)
     }
 
-    fn block_image_bytes(self) -> usize {
+    pub(crate) fn block_image_bytes(self) -> usize {
         image_of_strips(self.block_strips)
     }
 
@@ -44,7 +44,7 @@ impl Part {
     }
 
     /// Refusal 2 unless the image has its exact length.
-    fn check_image(self, image: &[u8]) -> Answer<()> {
+    pub(crate) fn check_image(self, image: &[u8]) -> Answer<()> {
         if image.len() == self.image_bytes() {
             Ok(())
         } else {
@@ -72,7 +72,7 @@ const fn readout_of_strips(strips: u32) -> usize {
     strips as usize * 5
 }
 
-fn refuse<T>(number: u32, value: u64) -> Answer<T> {
+pub(crate) fn refuse<T>(number: u32, value: u64) -> Answer<T> {
     Err(Refusal { number, value })
 }
 
@@ -199,16 +199,24 @@ pub fn address_of_fuse(device: Device, fuse: u32) -> Answer<(u32, u32)> {
 /// The fuse sum: the image bytes added up, the low 16 bits kept.
 pub fn fuse_sum(device: Device, image: &[u8]) -> Answer<u16> {
     Part::of(device)?.check_image(image)?;
-    // Every image is whole pairs of bytes. A pair read as one word has its upper byte 256 times,
-    // so 255 of them come off again; the processor adds up eight such words at a time.
-    let (pairs, _) = image.as_chunks();
+    Ok(sum_of_bytes(image))
+}
+
+/// The low 16 bits of the sum of some bytes.
+pub(crate) fn sum_of_bytes(bytes: &[u8]) -> u16 {
+    // A pair read as one word has its upper byte 256 times, so 255 of them come off again; the
+    // processor adds up eight such words at a time. Every image is whole pairs, a text need not be.
+    let (pairs, rest) = bytes.as_chunks();
     let (mut words, mut uppers) = (0u16, 0u16);
     for pair in pairs {
         let word = u16::from_le_bytes(*pair);
         words = words.wrapping_add(word);
         uppers = uppers.wrapping_add(word >> 8);
     }
-    Ok(words.wrapping_sub(uppers.wrapping_mul(255)))
+    for byte in rest {
+        words = words.wrapping_add(u16::from(*byte));
+    }
+    words.wrapping_sub(uppers.wrapping_mul(255))
 }
 
 /// The number of fuses at 0: all less those at 1.
@@ -231,7 +239,7 @@ pub fn zero_count(device: Device, image: &[u8]) -> Answer<u32> {
 // The passages take two rows at a time: those are whole bytes of an image, in which every second
 // row starts in the middle of a byte. Their words are shifted and masked by fixed amounts.
 
-const MAIN_IMAGE_BYTES: usize = image_of_strips(MAIN_STRIPS);
+pub(crate) const MAIN_IMAGE_BYTES: usize = image_of_strips(MAIN_STRIPS);
 const MAIN_READOUT_BYTES: usize = readout_of_strips(MAIN_STRIPS);
 const MOST_STRIPS: u32 = MAIN_STRIPS + SUBAREA_STRIPS * MOST_BLOCKS as u32;
 
@@ -304,10 +312,10 @@ fn check_widths(part: Part, readout: &[u8]) -> Answer<()> {
 
 /// Moves an area, two rows at a time.
 #[inline]
-fn each_two_rows<const FROM: usize, const TO: usize>(
+pub(crate) fn each_two_rows<const FROM: usize, const TO: usize>(
     from: &[u8],
     to: &mut [u8],
-    two_rows: impl Fn(&[u8; FROM], &mut [u8; TO]),
+    mut two_rows: impl FnMut(&[u8; FROM], &mut [u8; TO]),
 ) {
     let (from, _) = from.as_chunks();
     let (to, _) = to.as_chunks_mut();
@@ -853,7 +861,7 @@ pub fn set_in_readout(
 }
 
 #[inline]
-fn u64_at<const N: usize>(bytes: &[u8; N], at: usize) -> u64 {
+pub(crate) fn u64_at<const N: usize>(bytes: &[u8; N], at: usize) -> u64 {
     u64::from_le_bytes(*bytes[at..].first_chunk().expect("the word is in the rows"))
 }
 
@@ -863,7 +871,7 @@ fn u32_at<const N: usize>(bytes: &[u8; N], at: usize) -> u32 {
 }
 
 #[inline]
-fn put_u64<const N: usize>(bytes: &mut [u8; N], at: usize, word: u64) {
+pub(crate) fn put_u64<const N: usize>(bytes: &mut [u8; N], at: usize, word: u64) {
     bytes[at..at + 8].copy_from_slice(&word.to_le_bytes());
 }
 

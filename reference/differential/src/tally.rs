@@ -47,6 +47,11 @@ impl Tally {
         }
     }
 
+    /// How often an outcome occurred; 0 is acceptance.
+    pub fn seen(&self, number: u32) -> u64 {
+        self.seen[number as usize]
+    }
+
     /// Panics unless each of the refusals occurred often enough, acceptance too, and no other did.
     pub fn assert_refusals(&self, refusals: &[u32]) {
         for (number, seen) in (0..).zip(self.seen) {

@@ -4,7 +4,9 @@
 use xc9500_differential::comparison::{Comparison, IMAGE, NO_TARGET, READOUT};
 use xc9500_differential::edits::{Access, EditComparison};
 use xc9500_differential::inputs::{damaged_readouts, images, readouts};
-use xc9500_differential::optimised;
+use xc9500_differential::reading::compare_reader;
+use xc9500_differential::writing::compare_writer;
+use xc9500_differential::{optimised, optimised_text};
 use xc9500_reference::random::Random;
 use xc9500_reference::{
     address_of_fuse, all_devices, fuse_count, fuse_sum, image_to_readout, readout_to_image,
@@ -132,4 +134,24 @@ fn reading_and_setting() {
     comparison.unknown_devices(&mut random);
     comparison.several_faults(&mut random);
     comparison.assert_refusals();
+}
+
+#[test]
+fn writing() {
+    compare_writer(
+        "optimised image_to_text",
+        |device, image, text| {
+            optimised_text::image_to_text(device, image, text).map(|bytes| bytes as u64)
+        },
+        &mut Random::new(0x9500_0024),
+    );
+}
+
+#[test]
+fn reading() {
+    compare_reader(
+        "optimised text_to_image",
+        |device, text, image| optimised_text::text_to_image(device, text, image).map(|()| 0),
+        &mut Random::new(0x9500_0025),
+    );
 }
