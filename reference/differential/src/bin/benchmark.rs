@@ -5,7 +5,7 @@ use std::cell::RefCell;
 use std::hint::black_box;
 use std::rc::Rc;
 use xc9500_differential::comparison::Function;
-use xc9500_differential::{library, optimised};
+use xc9500_differential::{library, optimised, optimised_text};
 use xc9500_reference as reference;
 use xc9500_reference::random::Random;
 use xc9500_reference::{Answer, Device, LARGE};
@@ -58,6 +58,7 @@ fn rows() -> Vec<Row> {
     rows.extend(of_two_and_sixteen(set_literals_in_readout));
     rows.extend(of_two_and_sixteen(read_usercode_in_readout));
     rows.extend(of_two_and_sixteen(set_usercode_in_readout));
+    rows.extend(of_two_and_sixteen(image_to_text));
     rows
 }
 
@@ -126,6 +127,18 @@ fn readout_to_image(device: Device) -> Row {
         library::xc9500_readout_to_image,
         |device, readout, image| reference::readout_to_image(device, readout, image).map(|()| 0),
         |device, readout, image| optimised::readout_to_image(device, readout, image).map(|()| 0),
+    )
+}
+
+fn image_to_text(device: Device) -> Row {
+    whole_part(
+        "image to text",
+        device,
+        random_image(device),
+        reference::text_bytes(device).expect("the device is known"),
+        library::xc9500_image_to_text,
+        |device, image, text| reference::image_to_text(device, image, text).map(|n| n as u64),
+        |device, image, text| optimised_text::image_to_text(device, image, text).map(|n| n as u64),
     )
 }
 
