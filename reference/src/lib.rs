@@ -16,6 +16,7 @@ mod layout;
 pub mod random;
 mod setting;
 mod settings_vectors;
+mod text_vectors;
 mod value;
 pub mod vectors;
 

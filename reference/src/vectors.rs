@@ -10,6 +10,7 @@ use crate::image::{
 };
 use crate::jedec_writer::text_bytes;
 use crate::settings_vectors::settings_vectors;
+use crate::text_vectors::text_vectors;
 use std::fmt::Write;
 
 /// A program's name, and what it prints.
@@ -21,6 +22,7 @@ pub const PROGRAMS: &[Program] = &[
     ("readout_vectors", readout_vectors),
     ("settings_vectors", settings_vectors),
     ("edit_vectors", edit_vectors),
+    ("text_vectors", text_vectors),
 ];
 
 /// A digest of many words: for each, 1000003 times the digest plus the word, modulo a prime.
