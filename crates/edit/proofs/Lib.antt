@@ -3,10 +3,8 @@
 pub mod Spots
 pub mod Edits
 pub mod Steps
-<<<<<<< HEAD
 pub mod Usercode
 pub mod Strays
-=======
 pub mod NotRefused
 pub mod SameReadout
 pub mod SameImage
@@ -14,7 +12,6 @@ pub mod ReadsAsSet
 pub mod OthersAsBefore
 pub mod ListedFuses
 pub mod OtherFuses
->>>>>>> edit-fields
 pub mod Demand
 pub mod Numbered
 pub mod Laws

@@ -4,18 +4,26 @@
 --   totals                     the lines of the pattern have the device's fuses
 --   each-filled                each line of the pattern has a fuse
 --   main-fuses, wire-and-fuses "per main row 40, 38 and 30 bits, per wire-AND row 36"
+--   written-read               the text of any image of a known device is accepted for that device, and means that image
 use mathlib.Core.Path.{_≡_, refl, _∙_}
 use mathlib.Core.Bool.{true, false}
 use mathlib.Core.List.{List, [], _∷_, _++_, map}
-use Prim.Native.Nat.{ℕ, zero, suc, _*_}
+use Prim.Native.Nat.{ℕ, zero, suc, _*_, _/_, _%_, _^_, _<_, _≤_}
 use native.Mathlib.Omega.{arith}
-use lib.ListN.{length}
+use lib.ListN.{length, getD, List·getD-eq-default}
 use Rattle.cells.specs.Cells.{total, repeat}
-use Rattle.part.specs.Device.{fuseCount, textBytes}
+use Rattle.part.specs.Outcome.Outcome.{accepted}
+use Rattle.part.specs.Device.{known, fuseCount, imageBytes, textBytes}
 use Rattle.part.specs.declared.Device.{Device}
-use Rattle.image.specs.Bits.{tabulate}
+use Rattle.part.proofs.Devices.{by-count, known-count, fuses-small, image-whole}
+use Rattle.image.specs.Bits.{bitAt, tabulate}
+use Rattle.image.specs.Image.{state}
+use Rattle.image.proofs.Bits.{bit-above}
+use Rattle.jedec.specs.Meaning.{longest, meaning}
+use Rattle.jedec.specs.Form.{Image}
+use Rattle.jedec.proofs.Laws.{read-back}
+use Rattle.jedec.specs.Written.{patternFuses, NoneEmpty}
 use Rattle.jedec_writer.specs.Pattern.{rowLines, blockLines, pattern, textOf}
-use Rattle.jedec_writer.specs.Tokens.{fusesIn, EachFilled}
 use Rattle.jedec_writer.proofs.Sizes.{pattern-fuses}
 pub use Rattle.jedec_writer.proofs.Text.{text-length}
 
@@ -27,27 +35,27 @@ pub sixteen-blocks : (class : ℕ) (image : List ℕ) → length (textOf (record
 unfolding textBytes fuseCount
 sixteen-blocks class image = text-length (record { blocks = 16; class = class }) image
 
-pub totals : (d : Device) → fusesIn (pattern d) ≡ fuseCount d
+pub totals : (d : Device) → patternFuses (pattern d) ≡ fuseCount d
 totals d = pattern-fuses d
 
-filled-append : (lines more : List (List ℕ)) → EachFilled lines → EachFilled more → EachFilled (lines ++ more)
+filled-append : (lines more : List (List ℕ)) → NoneEmpty lines → NoneEmpty more → NoneEmpty (lines ++ more)
 filled-append [] more f g = g
 filled-append (line ∷ lines) more f g = (f .0, filled-append lines more (f .1) g)
 
-filled-repeat : (k : ℕ) (lines : List (List ℕ)) → EachFilled lines → EachFilled (repeat k lines)
+filled-repeat : (k : ℕ) (lines : List (List ℕ)) → NoneEmpty lines → NoneEmpty (repeat k lines)
 unfolding repeat
 filled-repeat zero lines f = tt
 filled-repeat (suc k) lines f = filled-append lines (repeat k lines) f (filled-repeat k lines f)
 
-main-filled : EachFilled (rowLines true)
+main-filled : NoneEmpty (rowLines true)
 unfolding rowLines tabulate total
 main-filled = (omega arith, (omega arith, (omega arith, tt)))
 
-wire-and-filled : EachFilled (rowLines false)
+wire-and-filled : NoneEmpty (rowLines false)
 unfolding rowLines tabulate total
 wire-and-filled = (omega arith, tt)
 
-pub each-filled : (d : Device) → EachFilled (pattern d)
+pub each-filled : (d : Device) → NoneEmpty (pattern d)
 unfolding pattern blockLines
 each-filled d =
     filled-repeat (d .blocks) (blockLines d) (filled-append (repeat 72 (rowLines true)) (repeat (d .blocks * 18) (rowLines false)) (filled-repeat 72 (rowLines true) main-filled) (filled-repeat (d .blocks * 18) (rowLines false) wire-and-filled))
@@ -59,3 +67,28 @@ main-fuses = refl
 pub wire-and-fuses : map total (rowLines false) ≡ 36 ∷ []
 unfolding rowLines tabulate total
 wire-and-fuses = refl
+
+-- an image of a device, which has no bits past the last fuse
+device-image : (d : Device) (image : List ℕ) → known d ≡ true → length image ≡ imageBytes d → ((i : ℕ) → getD image i 0 < 2 ^ 8) → Image (fuseCount d) image
+unfolding imageBytes state bitAt
+device-image d image k size bytes =
+    record {
+      size = size;
+      bytes = bytes;
+      no-more = λ fuse past.
+          let none-there : getD image (fuse / 8) 0 ≡ 0 = List·getD-eq-default image 0 (omega (arith, size, image-whole d k)) in
+          rw none-there (bit-above 0 0 (fuse % 8) (omega arith) (omega arith));
+    }
+
+-- no text of a device is too long to be read
+text-few : (d : Device) → known d ≡ true → textBytes d ≤ longest
+unfolding textBytes fuseCount
+text-few d k =
+    by-count (λ n. textBytes (record { blocks = n; class = d .class }) ≤ longest) (omega arith) (omega arith) (omega arith) (omega arith) (omega arith) (omega arith) (d .blocks) (known-count d k)
+
+pub written-read : (d : Device) (image : List ℕ) → known d ≡ true → length image ≡ imageBytes d → ((i : ℕ) → getD image i 0 < 2 ^ 8)
+    → meaning (fuseCount d) (textOf d image) ≡ accepted image
+unfolding textOf
+written-read d image k size bytes =
+    read-back (fuseCount d) (pattern d) image (omega (arith, fuses-small d k)) (device-image d image k size bytes) (totals d) (each-filled d)
+    (rw (text-length d image) (text-few d k))

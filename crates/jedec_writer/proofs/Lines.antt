@@ -13,8 +13,8 @@ use Rattle.cells.proofs.Laws.{sets-append}
 use Rattle.part.specs.Device.{lineBytes}
 use Rattle.readout.proofs.Sizes.{room}
 use Rattle.jedec.specs.Characters.{letterL, digitsOf, decimalDigit, sevenDigits}
-use Rattle.jedec.specs.Written.{lineEnd, statesText, columnsText, lineText, linesText}
-use Rattle.jedec_writer.specs.Tokens.{columnText, columnsOf, Wide, fusesIn, bytesIn, Stored}
+use Rattle.jedec.specs.Written.{lineEnd, statesText, columnsText, lineText, linesText, patternFuses}
+use Rattle.jedec_writer.specs.Tokens.{columnText, columnsOf, Wide, bytesIn, Stored}
 use Rattle.jedec_writer.proofs.Tokens.{bits-length, columns-bits, columns-same, stored-next, stored-last}
 use Rattle.jedec_writer.proofs.Words.{start-cut}
 
@@ -50,11 +50,11 @@ line-length image fuse widths =
 
 -- lines in two parts
 pub lines-append : (image : List ℕ) (lines more : List (List ℕ)) (fuse : ℕ)
-    → linesText image fuse (lines ++ more) ≡ linesText image fuse lines ++ linesText image (fuse + fusesIn lines) more
-unfolding linesText fusesIn
+    → linesText image fuse (lines ++ more) ≡ linesText image fuse lines ++ linesText image (fuse + patternFuses lines) more
+unfolding linesText patternFuses
 lines-append image [] more fuse = ap (λ (f : ℕ). linesText image f more) (sym (add-zero fuse))
 lines-append image (line ∷ lines) more fuse =
-    ap (λ (l : List ℕ). lineText image fuse line ++ l) (lines-append image lines more (fuse + total line) ∙ ap (λ (f : ℕ). linesText image (fuse + total line) lines ++ linesText image f more) (add-assoc fuse (total line) (fusesIn lines)))
+    ap (λ (l : List ℕ). lineText image fuse line ++ l) (lines-append image lines more (fuse + total line) ∙ ap (λ (f : ℕ). linesText image (fuse + total line) lines ++ linesText image f more) (add-assoc fuse (total line) (patternFuses lines)))
     ∙ sym (append-assoc (lineText image fuse line) (linesText image (fuse + total line) lines) _)
 
 pub lines-length : (image : List ℕ) (lines : List (List ℕ)) (fuse : ℕ) → length (linesText image fuse lines) ≡ bytesIn lines
@@ -63,21 +63,21 @@ lines-length image [] fuse = refl
 lines-length image (line ∷ lines) fuse =
     length-append (lineText image fuse line) (linesText image (fuse + total line) lines) ∙ ap₂ _+_ (line-length image fuse line) (lines-length image lines (fuse + total line))
 
-pub fuses-append : (lines more : List (List ℕ)) → fusesIn (lines ++ more) ≡ fusesIn lines + fusesIn more
-unfolding fusesIn
-fuses-append [] more = sym (zero-add (fusesIn more))
-fuses-append (line ∷ lines) more = ap (λ (x : ℕ). total line + x) (fuses-append lines more) ∙ sym (add-assoc (total line) (fusesIn lines) (fusesIn more))
+pub fuses-append : (lines more : List (List ℕ)) → patternFuses (lines ++ more) ≡ patternFuses lines + patternFuses more
+unfolding patternFuses
+fuses-append [] more = sym (zero-add (patternFuses more))
+fuses-append (line ∷ lines) more = ap (λ (x : ℕ). total line + x) (fuses-append lines more) ∙ sym (add-assoc (total line) (patternFuses lines) (patternFuses more))
 
 pub bytes-append : (lines more : List (List ℕ)) → bytesIn (lines ++ more) ≡ bytesIn lines + bytesIn more
 unfolding bytesIn
 bytes-append [] more = sym (zero-add (bytesIn more))
 bytes-append (line ∷ lines) more = ap (λ (x : ℕ). lineBytes (length line) (total line) + x) (bytes-append lines more) ∙ sym (add-assoc (lineBytes (length line) (total line)) (bytesIn lines) (bytesIn more))
 
-pub fuses-repeat : (k : ℕ) (lines : List (List ℕ)) → fusesIn (repeat k lines) ≡ k * fusesIn lines
-unfolding fusesIn repeat
-fuses-repeat zero lines = sym (zero-mul (fusesIn lines))
+pub fuses-repeat : (k : ℕ) (lines : List (List ℕ)) → patternFuses (repeat k lines) ≡ k * patternFuses lines
+unfolding patternFuses repeat
+fuses-repeat zero lines = sym (zero-mul (patternFuses lines))
 fuses-repeat (suc k) lines =
-    fuses-append lines (repeat k lines) ∙ ap (λ (x : ℕ). fusesIn lines + x) (fuses-repeat k lines) ∙ add-comm (fusesIn lines) (k * fusesIn lines) ∙ sym (suc-mul k (fusesIn lines))
+    fuses-append lines (repeat k lines) ∙ ap (λ (x : ℕ). patternFuses lines + x) (fuses-repeat k lines) ∙ add-comm (patternFuses lines) (k * patternFuses lines) ∙ sym (suc-mul k (patternFuses lines))
 
 pub bytes-repeat : (k : ℕ) (lines : List (List ℕ)) → bytesIn (repeat k lines) ≡ k * bytesIn lines
 unfolding bytesIn repeat
@@ -86,10 +86,10 @@ bytes-repeat (suc k) lines =
     bytes-append lines (repeat k lines) ∙ ap (λ (x : ℕ). bytesIn lines + x) (bytes-repeat k lines) ∙ add-comm (bytesIn lines) (k * bytesIn lines) ∙ sym (suc-mul k (bytesIn lines))
 
 -- lines stored part by part
-pub lines-sets : (image out : List ℕ) (lines more : List (List ℕ)) (fuse at n t : ℕ) → bytesIn lines ≡ n → fusesIn lines ≡ t
+pub lines-sets : (image out : List ℕ) (lines more : List (List ℕ)) (fuse at n t : ℕ) → bytesIn lines ≡ n → patternFuses lines ≡ t
     → sets (sets out at (linesText image fuse lines)) (at + n) (linesText image (fuse + t) more) ≡ sets out at (linesText image fuse (lines ++ more))
 lines-sets image out lines more fuse at n t e f =
-    sym (rw (lines-append image lines more fuse, sets-append out at (linesText image fuse lines) (linesText image (fuse + fusesIn lines) more), lines-length image lines fuse, e, f))
+    sym (rw (lines-append image lines more fuse, sets-append out at (linesText image fuse lines) (linesText image (fuse + patternFuses lines) more), lines-length image lines fuse, e, f))
 
 -- a line: its start, five columns, its end
 end-cut : cut (replicate 2 8) 0x0A2A ≡ lineEnd
@@ -155,23 +155,23 @@ line-of image out s0 s1 s2 fuse at a b c d e w x given fits ha hb hc hd he ex e0
 -- A loop that stores lines `count` times, from a fuse on: what holds when `left` times are still to come. The lines that are left, stored now,
 -- give what all give; and there are fuses and room for them.
 pub record Left (lines : List (List ℕ)) (image before out : List ℕ) (fuse at count f a left : ℕ) : Type 0 where
-  pub fuses-left : f + left * fusesIn lines ≤ length image * 8
+  pub fuses-left : f + left * patternFuses lines ≤ length image * 8
   pub bytes-left : a + left * bytesIn lines ≤ length out
   pub same : length out ≡ length before
   pub rest : sets out a (linesText image f (repeat left lines)) ≡ sets before at (linesText image fuse (repeat count lines))
 
-pub begun : (lines : List (List ℕ)) (image out : List ℕ) (fuse at count : ℕ) → fuse + count * fusesIn lines ≤ length image * 8
+pub begun : (lines : List (List ℕ)) (image out : List ℕ) (fuse at count : ℕ) → fuse + count * patternFuses lines ≤ length image * 8
     → at + count * bytesIn lines ≤ length out → Left lines image out out fuse at count fuse at count
 begun lines image out fuse at count f g = record { fuses-left = f; bytes-left = g; same = refl; rest = refl }
 
 module _ {lines : List (List ℕ)} {image before out : List ℕ} {fuse at count f a left : ℕ} (now : Left lines image before out fuse at count f a left) where
-  pub next-fuses : 0 < left → f + fusesIn lines ≤ length image * 8
-  next-fuses h = room left (fusesIn lines) f (length image * 8) h (now .fuses-left) .0
+  pub next-fuses : 0 < left → f + patternFuses lines ≤ length image * 8
+  next-fuses h = room left (patternFuses lines) f (length image * 8) h (now .fuses-left) .0
 
   pub next-bytes : 0 < left → a + bytesIn lines ≤ length out
   next-bytes h = room left (bytesIn lines) a (length out) h (now .bytes-left) .0
 
-  pub turned : (next : List ℕ) (fuses bytes : ℕ) → 0 < left → fuses ≡ fusesIn lines → bytes ≡ bytesIn lines
+  pub turned : (next : List ℕ) (fuses bytes : ℕ) → 0 < left → fuses ≡ patternFuses lines → bytes ≡ bytesIn lines
       → next ≡ sets out a (linesText image f lines) → Left lines image before next fuse at count (f + fuses) (a + bytes) (left - 1)
   unfolding repeat
   turned next fuses bytes h e1 e2 e3 =
@@ -179,7 +179,7 @@ module _ {lines : List (List ℕ)} {image before out : List ℕ} {fuse at count 
       let kept : length next ≡ length out = ap length e3 ∙ length-sets out a (linesText image f lines) in
       let all : sets out a (linesText image f (lines ++ repeat (left - 1) lines)) ≡ sets before at (linesText image fuse (repeat count lines)) = rw more at (now .rest) in
       record {
-        fuses-left = rw e1 (room left (fusesIn lines) f (length image * 8) h (now .fuses-left) .1);
+        fuses-left = rw e1 (room left (patternFuses lines) f (length image * 8) h (now .fuses-left) .1);
         bytes-left = rw (e2, kept) (room left (bytesIn lines) a (length out) h (now .bytes-left) .1);
         same = kept ∙ now .same;
         rest = rw e3 (lines-sets image out lines (repeat (left - 1) lines) f a bytes fuses (sym e2) (sym e1) ∙ all);

@@ -14,9 +14,9 @@ use Rattle.part.specs.declared.Device.{Device}
 use Rattle.part.proofs.Devices.{by-count, known-count, blocks-small, fuses-small, image-whole}
 use Rattle.image.specs.Bits.{tabulate}
 use Rattle.jedec.specs.Characters.{digitsOf, letterL, sevenDigits, countDigits}
-use Rattle.jedec.specs.Written.{lineText, linesText}
+use Rattle.jedec.specs.Written.{lineText, linesText, patternFuses}
 use Rattle.jedec_writer.specs.Pattern.{rowLines, blockLines, pattern}
-use Rattle.jedec_writer.specs.Tokens.{fusesIn, bytesIn}
+use Rattle.jedec_writer.specs.Tokens.{bytesIn}
 use Rattle.jedec_writer.proofs.Lines.{fuses-append, bytes-append, fuses-repeat, bytes-repeat, lines-sets, Left, begun, ended}
 
 pub main-lines : rowLines true ≡ (8 ∷ 8 ∷ 8 ∷ 8 ∷ 8 ∷ []) ∷ (8 ∷ 8 ∷ 8 ∷ 8 ∷ 6 ∷ []) ∷ (6 ∷ 6 ∷ 6 ∷ 6 ∷ 6 ∷ []) ∷ []
@@ -27,20 +27,20 @@ pub wire-and-lines : rowLines false ≡ (8 ∷ 7 ∷ 7 ∷ 7 ∷ 7 ∷ []) ∷ [
 unfolding rowLines tabulate
 wire-and-lines = refl
 
-pub main-size : (main : Bool) → main ≡ true → (fusesIn (rowLines main) ≡ 108) × (bytesIn (rowLines main) ≡ 153)
-unfolding rowLines tabulate fusesIn bytesIn total
+pub main-size : (main : Bool) → main ≡ true → (patternFuses (rowLines main) ≡ 108) × (bytesIn (rowLines main) ≡ 153)
+unfolding rowLines tabulate patternFuses bytesIn total
 main-size main e = rw e (refl, refl)
 
-pub wire-and-size : (main : Bool) → main ≡ false → (fusesIn (rowLines main) ≡ 36) × (bytesIn (rowLines main) ≡ 51)
-unfolding rowLines tabulate fusesIn bytesIn total
+pub wire-and-size : (main : Bool) → main ≡ false → (patternFuses (rowLines main) ≡ 36) × (bytesIn (rowLines main) ≡ 51)
+unfolding rowLines tabulate patternFuses bytesIn total
 wire-and-size main e = rw e (refl, refl)
 
 -- the main rows of a block, and a block
-pub main-rows : (fusesIn (repeat 72 (rowLines true)) ≡ 7776) × (bytesIn (repeat 72 (rowLines true)) ≡ 11016)
+pub main-rows : (patternFuses (repeat 72 (rowLines true)) ≡ 7776) × (bytesIn (repeat 72 (rowLines true)) ≡ 11016)
 main-rows =
     (fuses-repeat 72 (rowLines true) ∙ ap (λ (k : ℕ). 72 * k) (main-size true refl .0), bytes-repeat 72 (rowLines true) ∙ ap (λ (k : ℕ). 72 * k) (main-size true refl .1))
 
-pub block-size : (d : Device) → (fusesIn (blockLines d) ≡ 7776 + d .blocks * 648) × (bytesIn (blockLines d) ≡ 11016 + d .blocks * 918)
+pub block-size : (d : Device) → (patternFuses (blockLines d) ≡ 7776 + d .blocks * 648) × (bytesIn (blockLines d) ≡ 11016 + d .blocks * 918)
 unfolding blockLines
 block-size d =
     let w = wire-and-size false refl in
@@ -54,14 +54,14 @@ pub block-small : (d : Device) → known d ≡ true → (7776 + d .blocks * 648 
 block-small d k = omega (arith, blocks-small d k)
 
 -- a device: its fuses, and the bytes of its lines
-pub device-fuses : (d : Device) → d .blocks * fusesIn (blockLines d) ≡ fuseCount d
+pub device-fuses : (d : Device) → d .blocks * patternFuses (blockLines d) ≡ fuseCount d
 unfolding fuseCount
 device-fuses d = ap (λ (x : ℕ). d .blocks * x) (block-size d .0)
 
 pub device-bytes : (d : Device) → d .blocks * bytesIn (blockLines d) ≡ inDevice d (mainRows * mainRowText) (wireAndRows * wireAndRowText)
 device-bytes d = ap (λ (x : ℕ). d .blocks * x) (block-size d .1)
 
-pub pattern-fuses : (d : Device) → fusesIn (pattern d) ≡ fuseCount d
+pub pattern-fuses : (d : Device) → patternFuses (pattern d) ≡ fuseCount d
 unfolding pattern
 pattern-fuses d = fuses-repeat (d .blocks) (blockLines d) ∙ device-fuses d
 
@@ -137,7 +137,7 @@ pub main-row-of : (main : Bool) (image out one two three : List ℕ) (fuse at : 
     → two ≡ sets one (at + 55) (lineText image (fuse + 40) (8 ∷ 8 ∷ 8 ∷ 8 ∷ 6 ∷ []))
     → three ≡ sets two (at + 108) (lineText image (fuse + 78) (6 ∷ 6 ∷ 6 ∷ 6 ∷ 6 ∷ []))
     → three ≡ sets out at (linesText image fuse (rowLines main))
-unfolding total fusesIn bytesIn
+unfolding total patternFuses bytesIn
 main-row-of main image out one two three fuse at e e1 e2 e3 =
     let l1 : List ℕ = 8 ∷ 8 ∷ 8 ∷ 8 ∷ 8 ∷ [] in
     let l2 : List ℕ = 8 ∷ 8 ∷ 8 ∷ 8 ∷ 6 ∷ [] in

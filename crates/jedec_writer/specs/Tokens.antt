@@ -1,4 +1,4 @@
--- What the proofs of the writer work with: the characters of a number's bits, the fuses and bytes of lines, bytes stored with more behind them.
+-- What the proofs of the writer work with: the characters of a number's bits, the bytes of lines, bytes stored with more behind them.
 -- Assumes nothing.
 use Prim.Native.Nat.{ℕ, zero, suc, _+_, _*_, _/_, _%_, _^_, _≤_, _<_}
 use mathlib.Core.Path.{_≡_}
@@ -26,19 +26,10 @@ columnsOf x (w ∷ widths) = columnText w x ++ columnsOf (x / 2 ^ w) widths
 abbrev pub Wide : ℕ → Type 0
 Wide width = (6 ≤ width) × (width ≤ 8)
 
--- the fuses and the bytes of some lines
-unfoldable pub fusesIn : List (List ℕ) → ℕ
-fusesIn [] = 0
-fusesIn (line ∷ lines) = total line + fusesIn lines
-
+-- the bytes of some lines
 unfoldable pub bytesIn : List (List ℕ) → ℕ
 bytesIn [] = 0
 bytesIn (line ∷ lines) = lineBytes (length line) (total line) + bytesIn lines
-
--- every line has a fuse
-abbrev pub EachFilled : List (List ℕ) → Type 0
-EachFilled [] = Unit {0}
-EachFilled (line ∷ lines) = (0 < total line) × EachFilled lines
 
 -- some bytes stored from an index on, and at most two more behind them, which what is stored next replaces
 pub record Stored (before after : List ℕ) (at : ℕ) (bytes : List ℕ) : Type 0 where

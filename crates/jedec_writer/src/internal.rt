@@ -9,9 +9,9 @@ ghost use lib.Seq.{sets};
 ghost use Rattle.cells.specs.Cells.{cut, total, repeat, number};
 ghost use Rattle.part.specs.Device.{known, fuseCount, imageBytes, textBytes, decimalDigits};
 ghost use Rattle.jedec.specs.Characters.{letterL, sevenDigits, hexDigit, fourHex};
-ghost use Rattle.jedec.specs.Written.{lineText, linesText, headText, footText};
+ghost use Rattle.jedec.specs.Written.{lineText, linesText, headText, footText, patternFuses};
 ghost use Rattle.jedec_writer.specs.Pattern.{rowLines, blockLines, pattern, textOf};
-ghost use Rattle.jedec_writer.specs.Tokens.{bitsText, columnText, columnsOf, Wide, fusesIn, bytesIn, Stored};
+ghost use Rattle.jedec_writer.specs.Tokens.{bitsText, columnText, columnsOf, Wide, bytesIn, Stored};
 use cells::internal::low_bits;
 use cells::internal::put_cells;
 use cells::internal::word8;
@@ -165,7 +165,7 @@ fn put_line(
 
 // The lines of a row.
 fn row_out(main: bool, image: &[u8], fuse: usize, out: &mut [u8], at: usize)
-    requires { ⌜ (8 ≤ length (now image)) × (length (now image) ≤ 125000) × (fuse + fusesIn (rowLines main) ≤ length (now image) * 8) × (at + bytesIn (rowLines main) ≤ length (now out)) ⌝ }
+    requires { ⌜ (8 ≤ length (now image)) × (length (now image) ≤ 125000) × (fuse + patternFuses (rowLines main) ≤ length (now image) * 8) × (at + bytesIn (rowLines main) ≤ length (now out)) ⌝ }
     ensures { λ _. ⌜ now (out .exit) ≡ sets (now (out .entry)) at (linesText (now (image .entry)) fuse (rowLines main)) ⌝ }
 {
     if main {
@@ -179,7 +179,7 @@ fn row_out(main: bool, image: &[u8], fuse: usize, out: &mut [u8], at: usize)
 
 // The fuses of a row, and the bytes of its lines.
 fn row_fuses(main: bool) -> usize
-    ensures { λ r. ⌜ (r ≡ fusesIn (rowLines main)) × (r ≤ 108) ⌝ }
+    ensures { λ r. ⌜ (r ≡ patternFuses (rowLines main)) × (r ≤ 108) ⌝ }
 {
     if main {
         return 108;
@@ -198,7 +198,7 @@ fn row_bytes(main: bool) -> usize
 
 // The lines of some rows, one after another.
 fn rows_out(main: bool, image: &[u8], fuse: usize, out: &mut [u8], at: usize, count: usize)
-    requires { ⌜ (8 ≤ length (now image)) × (length (now image) ≤ 125000) × (fuse + count * fusesIn (rowLines main) ≤ length (now image) * 8) × (at + count * bytesIn (rowLines main) ≤ length (now out)) ⌝ }
+    requires { ⌜ (8 ≤ length (now image)) × (length (now image) ≤ 125000) × (fuse + count * patternFuses (rowLines main) ≤ length (now image) * 8) × (at + count * bytesIn (rowLines main) ≤ length (now out)) ⌝ }
     ensures { λ _. ⌜ now (out .exit) ≡ sets (now (out .entry)) at (linesText (now (image .entry)) fuse (repeat count (rowLines main))) ⌝ }
 {
     let fuses = row_fuses(main);
@@ -217,7 +217,7 @@ fn rows_out(main: bool, image: &[u8], fuse: usize, out: &mut [u8], at: usize, co
 // The fuses of a block, and the bytes of its lines.
 fn block_fuses(d: Device) -> usize
     requires { ⌜ known d ≡ true ⌝ }
-    ensures { λ r. ⌜ (r ≡ fusesIn (blockLines d)) × (r ≤ 18144) ⌝ }
+    ensures { λ r. ⌜ (r ≡ patternFuses (blockLines d)) × (r ≤ 18144) ⌝ }
 {
     let n = d.blocks as usize;
     7776 + n * 648
@@ -233,7 +233,7 @@ fn block_bytes(d: Device) -> usize
 
 // The lines of a block.
 fn block_out(d: Device, image: &[u8], fuse: usize, out: &mut [u8], at: usize)
-    requires { ⌜ (known d ≡ true) × (8 ≤ length (now image)) × (length (now image) ≤ 125000) × (fuse + fusesIn (blockLines d) ≤ length (now image) * 8) × (at + bytesIn (blockLines d) ≤ length (now out)) ⌝ }
+    requires { ⌜ (known d ≡ true) × (8 ≤ length (now image)) × (length (now image) ≤ 125000) × (fuse + patternFuses (blockLines d) ≤ length (now image) * 8) × (at + bytesIn (blockLines d) ≤ length (now out)) ⌝ }
     ensures { λ _. ⌜ now (out .exit) ≡ sets (now (out .entry)) at (linesText (now (image .entry)) fuse (blockLines d)) ⌝ }
 {
     rows_out(true, image, fuse, out, at, 72);
