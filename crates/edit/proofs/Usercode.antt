@@ -15,7 +15,7 @@ use Rattle.part.specs.Place.{indexOfByte}
 use Rattle.part.specs.declared.Device.{Device}
 use Rattle.part.specs.declared.Place.{Place}
 use Rattle.image.specs.Bits.{bitOf, bitAt, withBit, gathered}
-use Rattle.image.proofs.Bits.{with-length, gathered-small}
+use Rattle.image.proofs.Bits.{gathered-small}
 use Rattle.image.proofs.Pairs.{next-bit}
 use Rattle.settings.specs.Fields.{macrocellIndex}
 use Rattle.settings.specs.Settings.{placeOf, rows, hasSetting, bitsOf, fuseOf}

@@ -1,6 +1,6 @@
 -- Two neighbouring bits of a byte, read and put in place at once.
 -- Assumes nothing.
-use mathlib.Core.Path.{_≡_, refl, sym, _∙_, ap}
+use mathlib.Core.Path.{_≡_, sym, _∙_}
 use mathlib.Core.List.{List}
 use Prim.Native.Nat.{ℕ, _+_, _*_, _/_, _%_, _^_, _<_}
 use native.Mathlib.Omega.{arith}
@@ -8,7 +8,7 @@ use native.Mathlib.Nat.{mul-assoc, mul-comm, add-mul, mod-lt}
 use lib.ListN.{length, getD, set}
 use lib.Pow.{pow-add, pow-pos, shr-shr, mod-pow-add, high, low}
 use lib.Seq.{getD-set-same, set-set}
-use Rattle.image.specs.Bits.{bitOf, bitAt, putBit, withBit}
+use Rattle.image.specs.Bits.{bitOf, putBit, withBit}
 use Rattle.image.proofs.Bits.{put-small}
 
 -- the bit above another is the lowest of what is left without that one

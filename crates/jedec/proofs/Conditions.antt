@@ -16,11 +16,11 @@ use Rattle.part.specs.Outcome.Outcome.{accepted, refused}
 use Rattle.part.proofs.Facts.{either}
 use Rattle.image.specs.Image.{sum16}
 use Rattle.jedec.specs.Characters.{stx}
-use Rattle.jedec.specs.Cut.{pieces, Cut, startsWith, fieldsFrom, holdsMark, Tail, tailFrom}
+use Rattle.jedec.specs.Cut.{pieces, startsWith, fieldsFrom, holdsMark, Tail, tailFrom}
 use Rattle.jedec.specs.Cut.Tail.{given, wrong}
 use Rattle.jedec.specs.Rules.{At, Known, nothing, Fields, allFields, wrongCount, misplaced, finished}
 use Rattle.jedec.specs.Rules.Fields.{known, badAt}
-use Rattle.jedec.specs.Meaning.{longest, unless, wrongSum, wrongTransmission, concluded, withTail, withEnd, withFields, ofCut, ofPieces, meaning}
+use Rattle.jedec.specs.Meaning.{longest, unless, wrongSum, wrongTransmission, concluded, withTail, withEnd, withFields, ofPieces, meaning}
 use Rattle.jedec.specs.Form.{Concluded, Accepted}
 
 -- a refusal is no acceptance

@@ -1,18 +1,18 @@
 -- A text put together from its parts is cut into these parts: `assembled` in specs/Form.antt.
 -- Assumes nothing.
 use mathlib.Core.Path.{_≡_, refl, sym, _∙_, ap}
-use mathlib.Core.Bool.{Bool, true, false, cond, not, _&&_, true≢false}
+use mathlib.Core.Bool.{Bool, true, false, not, true≢false}
 use mathlib.Core.List.{List, [], _∷_, _++_, append-assoc}
 use mathlib.Core.Option.Option.{some}
 use Prim.Native.Nat.{ℕ, suc, _+_}
 use native.Mathlib.Omega.{arith}
 use lib.Dec.{eqb}
-use lib.ListN.{length, drop, length-append}
+use lib.ListN.{length, length-append}
 use lib.Seq.{drop-append-seam}
 use borrow.Author.Tests.{not-true, ne-eqb}
 use Rattle.part.proofs.Facts.{and-iff}
 use Rattle.jedec.specs.Characters.{etx, star, isBlank}
-use Rattle.jedec.specs.Cut.{Pieces, onFirst, pieces, blanksBefore, Cut, startsWith, withField, fieldsFrom}
+use Rattle.jedec.specs.Cut.{onFirst, pieces, blanksBefore, Cut, startsWith, fieldsFrom}
 use Rattle.jedec.specs.Form.{all, notStar, Part, starts, RightPart, RightParts, partsText, next, fieldsOf, endOf}
 
 -- bytes without a `*` stay together

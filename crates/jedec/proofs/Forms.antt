@@ -1,26 +1,25 @@
 -- A text of document 01's form whose fields are in order and whose counts and sums are right is accepted.
 -- Assumes nothing.
-use mathlib.Core.Path.{_≡_, refl, sym, _∙_, ap}
-use mathlib.Core.Bool.{Bool, true, false, cond, true≢false}
+use mathlib.Core.Path.{_≡_, refl, _∙_, ap}
+use mathlib.Core.Bool.{Bool, true, false, cond}
 use mathlib.Core.List.{List, [], _∷_, _++_, append-assoc}
 use mathlib.Core.Option.{Option}
 use mathlib.Core.Option.Option.{none, some}
-use Prim.Native.Nat.{ℕ, zero, suc, _+_, _*_, _≤_}
+use Prim.Native.Nat.{ℕ, suc, _+_, _*_, _≤_}
 use native.Mathlib.Omega.{arith}
-use native.Mathlib.Numerals.{add-one}
 use lib.Dec.{eqb}
-use lib.ListN.{length, drop, length-append}
+use lib.ListN.{length, length-append}
 use lib.Seq.{drop-at}
 use borrow.Author.Tests.{ne-eqb, eqb-true}
 use Rattle.part.specs.Outcome.Outcome.{accepted}
 use Rattle.part.proofs.Facts.{and-iff}
 use Rattle.jedec.specs.Characters.{stx, etx, star, isBlank, andThen, hexValue, digitsRead, sumIn}
-use Rattle.jedec.specs.Cut.{pieces, holdsMark, Tail, tailFrom, fieldsFrom}
+use Rattle.jedec.specs.Cut.{pieces, tailFrom, fieldsFrom}
 use Rattle.jedec.specs.Cut.Tail.{given}
 use Rattle.jedec.specs.Rules.{Known, nothing, allFields}
 use Rattle.jedec.specs.Rules.Fields.{known}
 use Rattle.jedec.specs.Meaning.{longest, meaning}
-use Rattle.jedec.specs.Form.{all, notStar, Part, partsText, fieldsOf, endOf, headOf, assembled, RightForm, firstAt, etxAt, Concluded}
+use Rattle.jedec.specs.Form.{all, notStar, Part, partsText, fieldsOf, headOf, assembled, RightForm, firstAt, etxAt, Concluded}
 use Rattle.jedec.proofs.Conditions.{accepted-iff}
 use Rattle.jedec.proofs.Cutting.{star-pieces, all-append, blank-no-star, parts-cut, end-of}
 

@@ -1,25 +1,23 @@
 -- What the writer writes in a field is judged as meant: the count, the start state, a line of states, the fuse sum.
 -- Assumes nothing.
 use mathlib.Core.Path.{_≡_, refl, sym, _∙_, ap}
-use mathlib.Core.Bool.{Bool, true, false, cond, not, _&&_, _||_}
-use mathlib.Core.List.{List, [], _∷_, _++_, append-assoc}
-use mathlib.Core.Option.{Option}
-use mathlib.Core.Option.Option.{none, some}
-use Prim.Native.Nat.{ℕ, zero, suc, _+_, _*_, _-_, _/_, _%_, _^_, _<_, _≤_}
+use mathlib.Core.Bool.{Bool, true, false, not, _&&_, _||_}
+use mathlib.Core.List.{List, [], _∷_, _++_}
+use mathlib.Core.Option.Option.{some}
+use Prim.Native.Nat.{ℕ, zero, suc, _+_, _-_, _/_, _%_, _^_, _<_}
 use native.Mathlib.Omega.{arith}
 use native.Mathlib.Nat.{mod-lt}
-use native.Mathlib.Numerals.{add-one}
 use lib.Dec.{eqb, leb}
-use lib.ListN.{length, take, drop, length-append}
+use lib.ListN.{length}
 use lib.Seq.{take-at, drop-at}
-use borrow.Author.Tests.{le-leb, leb-true, ne-eqb, not-true}
+use borrow.Author.Tests.{leb-true, ne-eqb, not-true}
 use Rattle.part.specs.Device.{decimalDigits}
 use Rattle.part.proofs.Facts.{and-iff}
 use Rattle.part.proofs.Tables.{each-below}
 use Rattle.cells.specs.Cells.{total}
 use Rattle.image.specs.Image.{state}
 use Rattle.image.proofs.Counts.{state-bit}
-use Rattle.jedec.specs.Characters.{space, star, letterC, letterF, letterL, letterQ, isBlank, isMark, andThen, decimalDigit, hexDigit, decimalValue, digitsOf, countDigits, sevenDigits, fourHex}
+use Rattle.jedec.specs.Characters.{letterC, letterF, letterL, letterQ, isBlank, isMark, decimalDigit, hexDigit, decimalValue, digitsOf, countDigits, sevenDigits, fourHex}
 use Rattle.jedec.specs.Cut.{holdsMark}
 use Rattle.jedec.specs.Judge.{Judged, byLetters, unbroken, statesIn, listFrom, listIn, judge}
 use Rattle.jedec.specs.Judge.Judged.{count, start, list, sum}

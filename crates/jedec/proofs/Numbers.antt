@@ -1,16 +1,14 @@
 -- What is written in digits is read back: seven digits, a plain count, four hex digits.
 -- One law over the base and the digits.
 use mathlib.Core.Path.{_≡_, refl, _∙_, ap}
-use mathlib.Core.Bool.{true, cond}
 use mathlib.Core.List.{List, [], _∷_, _++_}
 use mathlib.Core.Option.{Option}
 use mathlib.Core.Option.Option.{none, some}
 use Prim.Native.Nat.{ℕ, zero, suc, _+_, _*_, _/_, _%_, _^_, _<_, _≤_}
 use native.Mathlib.Omega.{arith}
 use native.Mathlib.Nat.{pow-zero, pow-suc, div-add-mod', div-lt-iff-lt-mul, mod-lt}
-use lib.Dec.{leb, ltb}
 use lib.ListN.{length, length-append}
-use borrow.Author.Tests.{le-leb, eq-eqb}
+use borrow.Author.Tests.{le-leb}
 use Rattle.part.specs.Device.{decimalDigits}
 use Rattle.part.proofs.Facts.{by-cases}
 use Rattle.part.proofs.Tables.{each-below}

@@ -2,33 +2,31 @@
 -- Assumes nothing.
 use mathlib.Core.Path.{_≡_, refl, sym, _∙_, ap}
 use mathlib.Core.Logic.{inr}
-use mathlib.Core.Bool.{Bool, true, false, cond, _&&_, _||_}
+use mathlib.Core.Bool.{true}
 use mathlib.Core.List.{List, [], _∷_, _++_, append-assoc, append-nil}
-use mathlib.Core.Option.{Option}
 use mathlib.Core.Option.Option.{none, some}
 use Prim.Native.Nat.{ℕ, zero, suc, _+_, _*_, _-_, _/_, _%_, _^_, _<_, _≤_}
 use native.Mathlib.Omega.{arith}
 use native.Mathlib.Nat.{mod-lt, mod-eq-of-lt}
-use lib.Dec.{eqb, leb, ltb}
-use lib.ListN.{length, take, getD, length-append}
+use lib.ListN.{length, getD}
 use lib.Seq.{append-snoc, take-at, ext-getD}
-use borrow.Author.Tests.{lt-ltb, le-ltb, le-leb, lt-leb, eq-eqb}
+use borrow.Author.Tests.{lt-ltb, le-ltb, le-leb}
 use Rattle.part.specs.Outcome.Outcome.{accepted}
 use Rattle.part.proofs.Facts.{compared}
 use Rattle.cells.specs.Cells.{total}
-use Rattle.image.specs.Bits.{bitOf, bitAt, gathered, tabulate}
+use Rattle.image.specs.Bits.{bitOf, bitAt, tabulate}
 use Rattle.image.specs.Image.{state, sum16}
 use Rattle.image.proofs.Bits.{gathered-same, gathered-own, tabulate-length, tabulate-at}
-use Rattle.jedec.specs.Characters.{stx, etx, lf, star, letterC, letterF, letterQ, isBlank, decimalDigit, countDigits, fourHex}
+use Rattle.jedec.specs.Characters.{stx, etx, lf, star, letterC, letterF, letterQ, decimalDigit, countDigits, fourHex}
 use Rattle.jedec.specs.Cut.{Field, holdsMark}
 use Rattle.jedec.specs.Judge.{Judged, judge}
 use Rattle.jedec.specs.Judge.Judged.{count, start, sum}
-use Rattle.jedec.specs.Rules.{At, Listed, Known, nothing, inOrder, after, Fields, allFields, endOf, misplaced, stateGiven, within, imageWith}
+use Rattle.jedec.specs.Rules.{At, Listed, Known, nothing, inOrder, after, allFields, endOf, misplaced, stateGiven, within, imageWith}
 use Rattle.jedec.specs.Rules.Fields.{known}
 use Rattle.jedec.specs.Meaning.{longest, meaning}
 use Rattle.jedec.specs.Written.{lineEnd, linesText, patternFuses, NoneEmpty, footText, upToEtx, textWith}
 use Rattle.jedec.specs.Form as form
-use Rattle.jedec.specs.Form.{all, notStar, Part, RightPart, RightParts, partsText, next, fieldsOf, headOf, assembled, RightForm, firstAt, etxAt, Concluded, Image}
+use Rattle.jedec.specs.Form.{all, Part, RightPart, RightParts, partsText, next, fieldsOf, headOf, assembled, RightForm, firstAt, etxAt, Concluded, Image}
 use Rattle.jedec.proofs.Numbers.{sum-back}
 use Rattle.jedec.proofs.Forms.{head-length, assembled-accepted}
 use Rattle.jedec.proofs.Judging.{plain, plain-no-star, decimal-digits-plain, hex-digits-plain, statesOf, count-judged, start-judged, sum-judged, lineBytes, line-plain, line-judged}

@@ -10,7 +10,7 @@ use lib.Dec.{eqb}
 use lib.ListN.{length, take, drop, getD}
 use Rattle.image.specs.Image.{state, sum16}
 use Rattle.jedec.specs.Characters.{stx, etx, star, isBlank, sumIn}
-use Rattle.jedec.specs.Cut.{pieces, Field, Cut, startsWith, fieldsFrom, holdsMark, tailFrom}
+use Rattle.jedec.specs.Cut.{pieces, Field, startsWith, fieldsFrom, holdsMark, tailFrom}
 use Rattle.jedec.specs.Cut.Tail.{given}
 use Rattle.jedec.specs.Rules.{At, Known, nothing, allFields, misplaced, finished}
 use Rattle.jedec.specs.Rules.Fields.{known}

@@ -11,7 +11,7 @@ use Rattle.part.specs.Outcome.{Outcome}
 use Rattle.part.specs.Outcome.Outcome.{accepted, refused}
 use Rattle.image.specs.Image.{sum16}
 use Rattle.jedec.specs.Characters.{stx}
-use Rattle.jedec.specs.Cut.{Pieces, pieces, Cut, startsWith, fieldsFrom, holdsMark, Tail, tailFrom}
+use Rattle.jedec.specs.Cut.{pieces, Cut, startsWith, fieldsFrom, holdsMark, Tail, tailFrom}
 use Rattle.jedec.specs.Cut.Tail.{given, wrong}
 use Rattle.jedec.specs.Rules.{At, Known, nothing, Fields, allFields, wrongCount, misplaced, finished}
 use Rattle.jedec.specs.Rules.Fields.{known, badAt}

@@ -5,7 +5,7 @@
 --   each-filled                each line of the pattern has a fuse
 --   main-fuses, wire-and-fuses "per main row 40, 38 and 30 bits, per wire-AND row 36"
 --   written-read               the text of any image of a known device is accepted for that device, and means that image
-use mathlib.Core.Path.{_≡_, refl, _∙_}
+use mathlib.Core.Path.{_≡_, refl}
 use mathlib.Core.Bool.{true, false}
 use mathlib.Core.List.{List, [], _∷_, _++_, map}
 use Prim.Native.Nat.{ℕ, zero, suc, _*_, _/_, _%_, _^_, _<_, _≤_}

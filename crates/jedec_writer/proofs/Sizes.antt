@@ -1,15 +1,14 @@
 -- The fuses and the bytes of rows, blocks and devices, and where the parts of a text stand.
 -- Assumes nothing.
-use mathlib.Core.Path.{_≡_, refl, sym, _∙_, ap, ap₂}
+use mathlib.Core.Path.{_≡_, refl, _∙_, ap}
 use mathlib.Core.Bool.{Bool, true, false}
-use mathlib.Core.List.{List, [], _∷_, _++_, append-nil}
-use Prim.Native.Nat.{ℕ, zero, suc, _+_, _*_, _-_, _/_, _^_, _≤_, _<_}
+use mathlib.Core.List.{List, [], _∷_, append-nil}
+use Prim.Native.Nat.{ℕ, _+_, _*_, _-_, _/_, _^_, _≤_, _<_}
 use native.Mathlib.Omega.{arith}
-use lib.Dec.{ltb}
-use lib.ListN.{length, replicate, length-append}
+use lib.ListN.{length, replicate}
 use lib.Seq.{sets}
 use Rattle.cells.specs.Cells.{cut, join, total, repeat, number}
-use Rattle.part.specs.Device.{isBlockCount, known, blocksOf, inDevice, mainRows, mainRowText, wireAndRows, wireAndRowText, fuseCount, imageBytes, textBytes, decimalDigits}
+use Rattle.part.specs.Device.{known, inDevice, mainRows, mainRowText, wireAndRows, wireAndRowText, fuseCount, imageBytes, textBytes, decimalDigits}
 use Rattle.part.specs.declared.Device.{Device}
 use Rattle.part.proofs.Devices.{by-count, known-count, blocks-small, fuses-small, image-whole}
 use Rattle.image.specs.Bits.{tabulate}

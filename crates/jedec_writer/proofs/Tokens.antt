@@ -4,7 +4,7 @@ use mathlib.Core.Path.{_≡_, refl, sym, _∙_, ap, ap₂, subst}
 use mathlib.Core.List.{List, [], _∷_, _++_, map, append-assoc}
 use Prim.Native.Nat.{ℕ, zero, suc, _+_, _*_, _-_, _/_, _%_, _^_, _≤_, _<_}
 use native.Mathlib.Omega.{arith}
-use native.Mathlib.Numerals.{add-one, one-add}
+use native.Mathlib.Numerals.{one-add}
 use native.Mathlib.Nat.{div-one, zero-add, suc-add, mul-one, mod-lt, mod-eq-of-lt, le-of-suc-le-suc, not-suc-le-zero}
 use lib.ListN.{length, drop, replicate, set, length-append, length-map, length-replicate, replicate-append-replicate}
 use lib.Pow.{pow-pos, shr-shr, high, low}
@@ -13,11 +13,10 @@ use mir.Syntax.{w8}
 use mir.Val.{Fits}
 use Rattle.cells.specs.Cells.{cut, join, total, number}
 use Rattle.cells.proofs.Laws.{cut-length, cut-low, total-replicate, sets-append, cut-sets, piece}
-use Rattle.image.specs.Image.{state}
 use Rattle.readout.proofs.Passages.{number-bit}
 use Rattle.jedec.specs.Characters.{space, decimalDigit}
 use Rattle.jedec.specs.Written.{statesText, columnsText}
-use Rattle.jedec_writer.specs.Tokens.{bitsText, columnText, columnsOf, Stored}
+use Rattle.jedec_writer.specs.Tokens.{bitsText, columnsOf, Stored}
 
 -- every number of a list is a byte
 abbrev pub Bytes : List ℕ → Type 0

@@ -1,14 +1,14 @@
 -- The words that the code makes of bits and of numbers: each is the number of the characters that are meant.
 -- The characters of bits are proved by one computed test over all of them.
-use mathlib.Core.Path.{_≡_, refl, sym, _∙_, ap, ap₂, subst}
-use mathlib.Core.Bool.{Bool, true, cond}
+use mathlib.Core.Path.{_≡_, refl, sym, _∙_, ap, ap₂}
+use mathlib.Core.Bool.{Bool, true}
 use mathlib.Core.List.{List, [], _∷_, _++_}
-use Prim.Native.Nat.{ℕ, suc, _+_, _*_, _-_, _/_, _%_, _^_, _≤_, _<_}
+use Prim.Native.Nat.{ℕ, _+_, _*_, _-_, _/_, _%_, _^_, _≤_, _<_}
 use native.Mathlib.Omega.{arith}
 use native.Mathlib.Numerals.{add-one}
 use native.Mathlib.Nat.{mod-lt}
 use lib.Bits.{bitAnd, and-le-r}
-use lib.Dec.{eqb, leb}
+use lib.Dec.{eqb}
 use lib.ListN.{length, replicate}
 use lib.Pow.{pow-pos, field, mod-mod-pow}
 use lib.Seq.{sets}
@@ -17,7 +17,7 @@ use Rattle.cells.specs.Cells.{cut, join, total, number}
 use Rattle.cells.proofs.Laws.{join-small}
 use Rattle.part.proofs.Facts.{compared}
 use Rattle.part.proofs.Tables.{allBelow, below-all}
-use Rattle.jedec.specs.Characters.{space, letterL, decimalDigit, hexDigit, digitsOf, sevenDigits, fourHex}
+use Rattle.jedec.specs.Characters.{space, letterL, hexDigit, digitsOf, sevenDigits, fourHex}
 use Rattle.jedec_writer.specs.Tokens.{bitsText, columnText, Stored}
 use Rattle.jedec_writer.proofs.Tokens.{Bytes, placed, number-placed, cut-number, bits-length, bits-bytes, bits-append, bits-low}
 

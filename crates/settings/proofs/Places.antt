@@ -9,7 +9,6 @@ use borrow.Author.Tests.{lt-ltb, le-ltb, eqb-true, ltb-true}
 use Rattle.part.specs.Device.{known, blocksOf}
 use Rattle.part.specs.Place.{hasPlace}
 use Rattle.part.specs.declared.Device.{Device}
-use Rattle.part.specs.declared.Place.{Place}
 use Rattle.part.proofs.Facts.{and-iff, by-cases, tests}
 use Rattle.part.proofs.Devices.{by-count, known-count}
 use Rattle.settings.specs.Fields.{foes, macrocellFields, macrocellIndex, globalFields, globalIndex}

@@ -2,9 +2,7 @@
 -- Assumes nothing.
 use mathlib.Core.Path.{_≡_, sym, _∙_, ap}
 use mathlib.Core.Bool.{true}
-use mathlib.Core.Option.Option.{some}
 use Prim.Native.Nat.{ℕ, _+_, _*_, _-_, _^_}
-use Rattle.part.specs.Outcome.Outcome.{accepted}
 use Rattle.part.specs.Device.{known}
 use Rattle.part.specs.Answer.{number, value}
 use Rattle.part.specs.declared.Device.{Device}

@@ -1,6 +1,6 @@
 -- `xc9500_setting_fuse` meets its contract: the setting of the number, and then the fuse of its bit.
 -- Assumes nothing.
-use mathlib.Core.Path.{_≡_, sym, _∙_, ap}
+use mathlib.Core.Path.{_≡_}
 use Prim.Native.Nat.{ℕ}
 use Rattle.part.specs.Answer.{number, value}
 use Rattle.part.specs.declared.Device.{Device}

@@ -2,7 +2,7 @@
 -- Assumes nothing.
 use mathlib.Core.Path.{_≡_}
 use Prim.Native.Nat.{_-_}
-use lib.ListN.{length, length-set}
+use lib.ListN.{length}
 use borrow.Author.Needs.{needs}
 use Rattle.text_vectors.proofs.fill_with.Statement.{statement}
 use Rattle.text_vectors.proofs.fill_with.Tie as tie

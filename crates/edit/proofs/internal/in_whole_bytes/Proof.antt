@@ -1,6 +1,5 @@
 -- `in_whole_bytes` meets its contract: by the setting's group.
 -- Assumes nothing.
-use mathlib.Core.Path.{_≡_}
 use Rattle.settings.specs.Settings.{bitsOf}
 use Rattle.edit.proofs.Strays.{of-macrocell, of-block, of-global}
 use borrow.Author.Needs.{needs}

@@ -13,7 +13,6 @@ use Rattle.part.specs.declared.Device.{Device}
 use Rattle.part.proofs.Devices.{is-known, is-unknown}
 use Rattle.settings.specs.Order.{countOf, settingOf}
 use Rattle.settings.specs.declared.Setting.{Setting}
-use mathlib.Core.Option.{Option}
 use mathlib.Core.Option.Option.{some}
 use Rattle.part.specs.Answer.{number, value}
 use Rattle.part.specs.declared.Refusal.{Refusal}
