@@ -4,7 +4,7 @@
 --   totals                     the lines of the pattern have the device's fuses
 --   each-filled                each line of the pattern has a fuse
 --   main-fuses, wire-and-fuses "per main row 40, 38 and 30 bits, per wire-AND row 36"
-use mathlib.Core.Path.{_≡_, refl, _∙_}
+use mathlib.Core.Path.{_≡_, refl}
 use mathlib.Core.Bool.{true, false}
 use mathlib.Core.List.{List, [], _∷_, _++_, map}
 use Prim.Native.Nat.{ℕ, zero, suc, _*_}

@@ -1,7 +1,6 @@
 -- Laws of lines: a line made column by column, lines one after another, their fuses and bytes, and the loops over rows and blocks.
 -- Assumes nothing.
 use mathlib.Core.Path.{_≡_, refl, sym, _∙_, ap, ap₂, subst}
-use mathlib.Core.Bool.{Bool, true, false}
 use mathlib.Core.List.{List, [], _∷_, _++_, append-assoc, append-nil}
 use Prim.Native.Nat.{ℕ, zero, suc, _+_, _*_, _-_, _/_, _^_, _≤_, _<_}
 use native.Mathlib.Omega.{arith}
@@ -49,7 +48,7 @@ line-length image fuse widths =
     length-append (start ++ columns) lineEnd ∙ ap (λ (n : ℕ). n + 2) inner ∙ omega arith
 
 -- lines in two parts
-pub lines-append : (image : List ℕ) (lines more : List (List ℕ)) (fuse : ℕ)
+lines-append : (image : List ℕ) (lines more : List (List ℕ)) (fuse : ℕ)
     → linesText image fuse (lines ++ more) ≡ linesText image fuse lines ++ linesText image (fuse + fusesIn lines) more
 unfolding linesText fusesIn
 lines-append image [] more fuse = ap (λ (f : ℕ). linesText image f more) (sym (add-zero fuse))

@@ -1,12 +1,11 @@
 -- The frame of a text: its head, its foot, and the whole; what a call answers and leaves in the room.
 -- Assumes nothing.
-use mathlib.Core.Path.{_≡_, refl, sym, _∙_, ap, ap₂}
+use mathlib.Core.Path.{_≡_, refl, sym, _∙_, ap}
 use mathlib.Core.Bool.{true, false}
 use mathlib.Core.List.{List, [], _∷_, _++_, append-assoc}
-use Prim.Native.Nat.{ℕ, suc, _+_, _*_, _-_, _/_, _^_, _≤_, _<_}
+use Prim.Native.Nat.{ℕ, _+_, _*_, _-_, _/_, _^_, _≤_, _<_}
 use native.Mathlib.Omega.{arith}
 use native.Mathlib.Nat.{zero-add}
-use lib.Dec.{ltb}
 use lib.ListN.{length, take, drop, replicate, length-append}
 use lib.Seq.{sets, sets-eq, take-at}
 use borrow.Author.Tests.{lt-ltb, le-ltb}
@@ -24,7 +23,6 @@ use Rattle.readout.proofs.Targets.{says}
 use Rattle.jedec.specs.Characters.{stx, etx, letterC, letterF, letterL, letterQ, decimalDigit, hexDigit, sevenDigits, countDigits, fourHex}
 use Rattle.jedec.specs.Written.{lineEnd, linesText, headText, footText, upToEtx, textWith}
 use Rattle.jedec_writer.specs.Pattern.{pattern, textOf, toText, withText}
-use Rattle.jedec_writer.specs.Tokens.{bytesIn}
 use Rattle.jedec_writer.proofs.Tokens.{three-parts}
 use Rattle.jedec_writer.proofs.Words.{hex-cut}
 use Rattle.jedec_writer.proofs.Lines.{digits-length, lines-length}
@@ -71,13 +69,13 @@ foot-of out one two three at sum four e1 ef e2 e3 =
     ∙ ap (sets out at) (sym (append-assoc (letterC ∷ fourHex sum) lineEnd (etx ∷ [])))
 
 -- how long each part is
-pub head-length : (x : ℕ) → length (headText x) ≡ 11 + decimalDigits x
+head-length : (x : ℕ) → length (headText x) ≡ 11 + decimalDigits x
 head-length x =
     let a = stx ∷ lineEnd ++ letterQ ∷ letterF ∷ countDigits x in
     let inner : length (a ++ lineEnd) ≡ length (countDigits x) + 5 + 2 = length-append a lineEnd ∙ omega arith in
     length-append (a ++ lineEnd) (letterF ∷ decimalDigit 0 ∷ lineEnd) ∙ rw (inner, count-length x) (omega arith)
 
-pub foot-length : (sum : ℕ) → length (footText sum) ≡ 8
+foot-length : (sum : ℕ) → length (footText sum) ≡ 8
 foot-length sum =
     length-append (letterC ∷ fourHex sum ++ lineEnd) (etx ∷ []) ∙ rw (length-append (letterC ∷ fourHex sum) lineEnd, hex-length sum)
 

@@ -1,8 +1,8 @@
 // The writer's walk: characters of a column, lines, rows, blocks, and the frame around the lines.
 // Nothing here is part of the public interface.
 ghost use mathlib.Core.Path.{_≡_};
-ghost use mathlib.Core.Bool.{Bool, true};
-ghost use mathlib.Core.List.{List, [], _∷_, _++_};
+ghost use mathlib.Core.Bool.{true};
+ghost use mathlib.Core.List.{List, [], _∷_};
 ghost use Prim.Native.Nat.{ℕ, _+_, _*_, _/_, _%_, _^_, _<_, _≤_};
 ghost use lib.ListN.{length, replicate, set};
 ghost use lib.Seq.{sets};

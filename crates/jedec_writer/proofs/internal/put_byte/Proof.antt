@@ -1,6 +1,5 @@
 -- `put_byte` meets its contract: a byte of the word, stored.
 -- Assumes nothing.
-use Rattle.jedec_writer.proofs.Tokens.{byte-fits}
 use borrow.Author.Needs.{needs}
 use Rattle.jedec_writer.proofs.internal.put_byte.Statement.{statement}
 use Rattle.jedec_writer.proofs.internal.put_byte.Tie as tie
