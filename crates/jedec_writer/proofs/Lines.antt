@@ -48,7 +48,7 @@ line-length image fuse widths =
     length-append (start ++ columns) lineEnd ∙ ap (λ (n : ℕ). n + 2) inner ∙ omega arith
 
 -- lines in two parts
-pub lines-append : (image : List ℕ) (lines more : List (List ℕ)) (fuse : ℕ)
+lines-append : (image : List ℕ) (lines more : List (List ℕ)) (fuse : ℕ)
     → linesText image fuse (lines ++ more) ≡ linesText image fuse lines ++ linesText image (fuse + patternFuses lines) more
 unfolding linesText patternFuses
 lines-append image [] more fuse = ap (λ (f : ℕ). linesText image f more) (sym (add-zero fuse))

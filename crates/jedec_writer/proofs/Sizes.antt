@@ -18,11 +18,11 @@ use Rattle.jedec_writer.specs.Pattern.{rowLines, blockLines, pattern}
 use Rattle.jedec_writer.specs.Tokens.{bytesIn}
 use Rattle.jedec_writer.proofs.Lines.{fuses-append, bytes-append, fuses-repeat, bytes-repeat, lines-sets, Left, begun, ended}
 
-pub main-lines : rowLines true ≡ (8 ∷ 8 ∷ 8 ∷ 8 ∷ 8 ∷ []) ∷ (8 ∷ 8 ∷ 8 ∷ 8 ∷ 6 ∷ []) ∷ (6 ∷ 6 ∷ 6 ∷ 6 ∷ 6 ∷ []) ∷ []
+main-lines : rowLines true ≡ (8 ∷ 8 ∷ 8 ∷ 8 ∷ 8 ∷ []) ∷ (8 ∷ 8 ∷ 8 ∷ 8 ∷ 6 ∷ []) ∷ (6 ∷ 6 ∷ 6 ∷ 6 ∷ 6 ∷ []) ∷ []
 unfolding rowLines tabulate
 main-lines = refl
 
-pub wire-and-lines : rowLines false ≡ (8 ∷ 7 ∷ 7 ∷ 7 ∷ 7 ∷ []) ∷ []
+wire-and-lines : rowLines false ≡ (8 ∷ 7 ∷ 7 ∷ 7 ∷ 7 ∷ []) ∷ []
 unfolding rowLines tabulate
 wire-and-lines = refl
 
@@ -35,7 +35,7 @@ unfolding rowLines tabulate patternFuses bytesIn total
 wire-and-size main e = rw e (refl, refl)
 
 -- the main rows of a block, and a block
-pub main-rows : (patternFuses (repeat 72 (rowLines true)) ≡ 7776) × (bytesIn (repeat 72 (rowLines true)) ≡ 11016)
+main-rows : (patternFuses (repeat 72 (rowLines true)) ≡ 7776) × (bytesIn (repeat 72 (rowLines true)) ≡ 11016)
 main-rows =
     (fuses-repeat 72 (rowLines true) ∙ ap (λ (k : ℕ). 72 * k) (main-size true refl .0), bytes-repeat 72 (rowLines true) ∙ ap (λ (k : ℕ). 72 * k) (main-size true refl .1))
 
@@ -53,18 +53,18 @@ pub block-small : (d : Device) → known d ≡ true → (7776 + d .blocks * 648 
 block-small d k = omega (arith, blocks-small d k)
 
 -- a device: its fuses, and the bytes of its lines
-pub device-fuses : (d : Device) → d .blocks * patternFuses (blockLines d) ≡ fuseCount d
+device-fuses : (d : Device) → d .blocks * patternFuses (blockLines d) ≡ fuseCount d
 unfolding fuseCount
 device-fuses d = ap (λ (x : ℕ). d .blocks * x) (block-size d .0)
 
-pub device-bytes : (d : Device) → d .blocks * bytesIn (blockLines d) ≡ inDevice d (mainRows * mainRowText) (wireAndRows * wireAndRowText)
+device-bytes : (d : Device) → d .blocks * bytesIn (blockLines d) ≡ inDevice d (mainRows * mainRowText) (wireAndRows * wireAndRowText)
 device-bytes d = ap (λ (x : ℕ). d .blocks * x) (block-size d .1)
 
 pub pattern-fuses : (d : Device) → patternFuses (pattern d) ≡ fuseCount d
 unfolding pattern
 pattern-fuses d = fuses-repeat (d .blocks) (blockLines d) ∙ device-fuses d
 
-pub pattern-bytes : (d : Device) → bytesIn (pattern d) ≡ d .blocks * bytesIn (blockLines d)
+pattern-bytes : (d : Device) → bytesIn (pattern d) ≡ d .blocks * bytesIn (blockLines d)
 unfolding pattern
 pattern-bytes d = bytes-repeat (d .blocks) (blockLines d)
 

@@ -69,13 +69,13 @@ foot-of out one two three at sum four e1 ef e2 e3 =
     ∙ ap (sets out at) (sym (append-assoc (letterC ∷ fourHex sum) lineEnd (etx ∷ [])))
 
 -- how long each part is
-pub head-length : (x : ℕ) → length (headText x) ≡ 11 + decimalDigits x
+head-length : (x : ℕ) → length (headText x) ≡ 11 + decimalDigits x
 head-length x =
     let a = stx ∷ lineEnd ++ letterQ ∷ letterF ∷ countDigits x in
     let inner : length (a ++ lineEnd) ≡ length (countDigits x) + 5 + 2 = length-append a lineEnd ∙ omega arith in
     length-append (a ++ lineEnd) (letterF ∷ decimalDigit 0 ∷ lineEnd) ∙ rw (inner, count-length x) (omega arith)
 
-pub foot-length : (sum : ℕ) → length (footText sum) ≡ 8
+foot-length : (sum : ℕ) → length (footText sum) ≡ 8
 foot-length sum =
     length-append (letterC ∷ fourHex sum ++ lineEnd) (etx ∷ []) ∙ rw (length-append (letterC ∷ fourHex sum) lineEnd, hex-length sum)
 

@@ -9,8 +9,6 @@ use native.Mathlib.Nat.{div-one, zero-add, suc-add, mul-one, mod-lt, mod-eq-of-l
 use lib.ListN.{length, drop, replicate, set, length-append, length-map, length-replicate, replicate-append-replicate}
 use lib.Pow.{pow-pos, shr-shr, high, low}
 use lib.Seq.{sets, set-set, set-comm}
-use mir.Syntax.{w8}
-use mir.Val.{Fits}
 use Rattle.cells.specs.Cells.{cut, join, total, number}
 use Rattle.cells.proofs.Laws.{cut-length, cut-low, total-replicate, sets-append, cut-sets, piece}
 use Rattle.readout.proofs.Passages.{number-bit}
@@ -68,7 +66,7 @@ bits-own : (width x : ℕ) → bitsText width (x % 2 ^ width) ≡ bitsText width
 bits-own width x = subst (λ (t : ℕ). bitsText width (x % 2 ^ t) ≡ bitsText width x) (zero-add width) (bits-low width 0 x)
 
 -- the states of an image's fuses are the bits of its number
-pub states-bits : (image : List ℕ) (width fuse : ℕ) → fuse + width ≤ length image * 8 → statesText image fuse width ≡ bitsText width (number image / 2 ^ fuse)
+states-bits : (image : List ℕ) (width fuse : ℕ) → fuse + width ≤ length image * 8 → statesText image fuse width ≡ bitsText width (number image / 2 ^ fuse)
 unfolding statesText bitsText cut
 states-bits image zero fuse h = refl
 states-bits image (suc width) fuse h =
@@ -92,7 +90,7 @@ columns-same (w ∷ widths) x y e =
     ap₂ (λ (l m : List ℕ). space ∷ l ++ m) (sym (bits-own w x) ∙ ap (bitsText w) first ∙ bits-own w y) (columns-same widths (x / 2 ^ w) (y / 2 ^ w) rest)
 
 -- the bits of an image from a fuse on, in the eight bytes from an index on
-pub bits-at : (image : List ℕ) (fuse p s w : ℕ) → w ≡ join (replicate 8 8) (drop p image) → p + 8 ≤ length image → p * 8 + s ≡ fuse
+bits-at : (image : List ℕ) (fuse p s w : ℕ) → w ≡ join (replicate 8 8) (drop p image) → p + 8 ≤ length image → p * 8 + s ≡ fuse
     → (widths : List ℕ) → s + total widths ≤ 64 → cut widths (w / 2 ^ s) ≡ cut widths (number image / 2 ^ fuse)
 bits-at image fuse p s w e h f widths g =
     rw e (piece image widths p s 8 h g ∙ ap (λ (t : ℕ). cut widths (number image / 2 ^ t)) f)
@@ -127,9 +125,6 @@ over l bytes old new at here e h =
     rw (e, sets-append l at bytes old, sets-append l at bytes new) (stored-over (sets l at bytes) old new (at + length bytes) h)
 
 -- the bytes of a word, stored one by one
-pub byte-fits : (x low : ℕ) → low ≡ x % 2 ^ 8 → Fits w8 low
-byte-fits x low e = rw e (record { fits = mod-lt x (pow-pos 8) })
-
 none-stored : (out : List ℕ) (at word : ℕ) → out ≡ sets out at (cut (replicate 0 8) word)
 unfolding cut
 none-stored out at word = refl

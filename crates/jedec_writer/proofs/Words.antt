@@ -86,7 +86,7 @@ pub narrow-column : (out one two : List ℕ) (at width word r : ℕ) → 6 ≤ w
 narrow-column out one two at width word r h g n = column-of out one two at width 7 word r h (omega arith) (omega arith)
 
 -- the digits of a fuse
-pub start-bytes : (fuse : ℕ) → Bytes (letterL ∷ sevenDigits fuse)
+start-bytes : (fuse : ℕ) → Bytes (letterL ∷ sevenDigits fuse)
 unfolding digitsOf
 start-bytes fuse = (omega arith, (omega arith, (omega arith, (omega arith, (omega arith, (omega arith, (omega arith, (omega arith, tt))))))))
 
@@ -148,13 +148,13 @@ hex-low x h = rw (le-leb x 9 h)
 pub hex-high : (x : ℕ) → 9 < x → 55 + x ≡ hexDigit x
 hex-high x h = rw (lt-leb x 9 h)
 
-pub hex-small : (x : ℕ) → x < 16 → hexDigit x < 128
+hex-small : (x : ℕ) → x < 16 → hexDigit x < 128
 hex-small x h = by-cases-le (λ l. rw (le-leb x 9 l) (omega arith)) (λ g. rw (lt-leb x 9 g) (omega arith))
   where
     by-cases-le : (x ≤ 9 → hexDigit x < 128) → (9 < x → hexDigit x < 128) → hexDigit x < 128
     by-cases-le p q = compared 9 x q p
 
-pub hex-bytes : (x : ℕ) → Bytes (fourHex x)
+hex-bytes : (x : ℕ) → Bytes (fourHex x)
 unfolding digitsOf
 hex-bytes x =
     let digit : (y : ℕ) → y < 16 → hexDigit y < 2 ^ 8 = λ y h. omega (arith, hex-small y h) in

@@ -35,7 +35,7 @@ same-length : tie.Need-same-length
 same-length c = search needs
 
 returns : tie.Need-returns
-returns c = search (needs, main-row-of)
+returns c = main-row-of (c .before .before .before .before .before .before .before .before .before .before .before .before .before .before .before .args .main) _ _ _ _ _ _ _ (c .before .before .before .before .before .before .before .before .before .before .before .before .if1 .taken) (c .before .before .before .before .before .before .before .before .before .before .put-line .ensures) (c .before .before .before .before .before .before .put-line2 .ensures) (c .before .before .put-line3 .ensures)
 
 same-length-2 : tie.Need-same-length-2
 same-length-2 c = search needs
