@@ -2,8 +2,8 @@
 // A function here may require that the device is known or has the place; nothing here is part of the public interface.
 ghost use mathlib.Core.Path.{_≡_};
 ghost use mathlib.Core.Bool.{true};
-ghost use Prim.Native.Nat.{_/_, _+_, _*_, _^_, _<_, _≤_};
-ghost use Rattle.part.specs.Device.{known, blocksOf, isLarge, columnWidth, columnStart, inBlock, inDevice, blockFuses, fuseCount, imageBytes, readoutBytes, textBytes, decimalDigits};
+ghost use Prim.Native.Nat.{_+_, _*_, _^_, _<_, _≤_};
+ghost use Rattle.part.specs.Device.{known, blocksOf, isLarge, columnWidth, columnStart, inBlock, inDevice, fuseCount, imageBytes, readoutBytes, textBytes, decimalDigits};
 ghost use Rattle.part.specs.Place.{hasByte, widthOf, columnOf, bitOf, firstFuse, placeOfFuse, field, addressOfByte, byteOfAddress, indexOfByte};
 use super::BytePlace;
 use super::Device;
@@ -26,19 +26,6 @@ const WIRE_AND_ROW_FUSES: u32 = 8 + 4 * 7;
 const MAIN_FUSES: u32 = 72 * 108;
 
 const SUBAREA_FUSES: u32 = 18 * 36;
-
-// The fuses of a block, for each number of blocks.
-const BLOCK_FUSES_2: u32 = 72 * 108 + 2 * 18 * 36;
-
-const BLOCK_FUSES_4: u32 = 72 * 108 + 4 * 18 * 36;
-
-const BLOCK_FUSES_6: u32 = 72 * 108 + 6 * 18 * 36;
-
-const BLOCK_FUSES_8: u32 = 72 * 108 + 8 * 18 * 36;
-
-const BLOCK_FUSES_12: u32 = 72 * 108 + 12 * 18 * 36;
-
-const BLOCK_FUSES_16: u32 = 72 * 108 + 16 * 18 * 36;
 
 const MAIN_BYTES: u32 = 72 * 15;
 
@@ -258,30 +245,6 @@ fn column_and_bit(wide: u32, narrow: u32, rest: u32) -> ColumnBit
     }
 }
 
-// The block of a fuse: the quotient by a constant for each device, which needs no division.
-fn block_of_fuse(d: Device, fuse: u32) -> u32
-    requires { ⌜ known d ≡ true ⌝ }
-    ensures { λ r. ⌜ r ≡ fuse / blockFuses d ⌝ }
-{
-    let n = d.blocks;
-    if n == 2 {
-        return fuse / BLOCK_FUSES_2;
-    }
-    if n == 4 {
-        return fuse / BLOCK_FUSES_4;
-    }
-    if n == 6 {
-        return fuse / BLOCK_FUSES_6;
-    }
-    if n == 8 {
-        return fuse / BLOCK_FUSES_8;
-    }
-    if n == 12 {
-        return fuse / BLOCK_FUSES_12;
-    }
-    fuse / BLOCK_FUSES_16
-}
-
 // The place of a fuse, by the steps of the forward routine of document 003.
 pub fn place_of_fuse(d: Device, fuse: FuseNumber) -> Place
     requires { ⌜ (known d ≡ true) × (fuse .0 < fuseCount d) ⌝ }
@@ -289,8 +252,8 @@ pub fn place_of_fuse(d: Device, fuse: FuseNumber) -> Place
 {
     let f = fuse.0;
     let per_block = in_block(d, MAIN_FUSES, SUBAREA_FUSES);
-    let block = block_of_fuse(d, f);
-    let rest = f - block * per_block;
+    let block = f / per_block;
+    let rest = f % per_block;
     if rest < MAIN_FUSES {
         let at = column_and_bit(9, 6, rest % MAIN_ROW_FUSES);
         return Place {

@@ -1,33 +1,19 @@
 -- `place_of_fuse` meets its contract: the steps are the definition's.
 -- Assumes nothing.
-use mathlib.Core.Path.{_≡_}
-use Prim.Native.Nat.{ℕ, _*_, _-_, _/_, _%_, _≤_}
-use native.Mathlib.Omega.{arith}
-use native.Mathlib.Nat.{div-add-mod'}
 use borrow.Author.Needs.{needs}
 use borrow.Author.Tests.{lt-ltb, le-ltb}
 use Rattle.part.specs.Place.{placeOfFuse}
 use Rattle.part.proofs.internal.place_of_fuse.Statement.{statement}
 use Rattle.part.proofs.internal.place_of_fuse.Tie as tie
 
--- the fuses before the block, and what is left in it
-before-block : (fuse each block whole : ℕ) → block ≡ fuse / whole → each ≡ whole → block * each ≤ fuse
-before-block fuse each block whole e same = rw (e, same) (omega (arith, div-add-mod' fuse whole))
-
-left-in-block : (fuse each block whole : ℕ) → block ≡ fuse / whole → each ≡ whole → fuse - block * each ≡ fuse % whole
-left-in-block fuse each block whole e same = rw (e, same) (omega (arith, div-add-mod' fuse whole))
-
 in-block-requires : tie.Need-in-block-requires
 in-block-requires c κs = search needs
 
-block-of-fuse-requires : tie.Need-block-of-fuse-requires
-block-of-fuse-requires c κs = search needs
+div-block : tie.Need-div-block
+div-block c = search needs
 
-mul-rest : tie.Need-mul-rest
-mul-rest c = record { fits = omega (arith, before-block _ _ _ _ (c .block-of-fuse .ensures) (c .before .in-block .ensures)) }
-
-sub-rest : tie.Need-sub-rest
-sub-rest c = before-block _ _ _ _ (c .block-of-fuse .ensures) (c .before .in-block .ensures)
+rem-rest : tie.Need-rem-rest
+rem-rest c = search needs
 
 column-and-bit-requires : tie.Need-column-and-bit-requires
 column-and-bit-requires c κs = search needs
@@ -35,8 +21,7 @@ column-and-bit-requires c κs = search needs
 returns : tie.Need-returns
 unfolding placeOfFuse
 returns c =
-    let left = left-in-block _ _ _ _ (c .before .before .block-of-fuse .ensures) (c .before .before .before .in-block .ensures) in
-    rw (c .column-and-bit .ensures .0, c .column-and-bit .ensures .1, left, c .before .before .block-of-fuse .ensures, lt-ltb _ _ (rw left at (c .before .if1 .taken)))
+    rw (c .column-and-bit .ensures .0, c .column-and-bit .ensures .1, ← c .before .before .in-block .ensures, lt-ltb _ _ (c .before .if1 .taken))
 
 column-and-bit-requires-2 : tie.Need-column-and-bit-requires-2
 column-and-bit-requires-2 c κs = search needs
@@ -44,17 +29,15 @@ column-and-bit-requires-2 c κs = search needs
 returns-2 : tie.Need-returns-2
 unfolding placeOfFuse
 returns-2 c =
-    let left = left-in-block _ _ _ _ (c .before .before .block-of-fuse .ensures) (c .before .before .before .in-block .ensures) in
-    rw (c .column-and-bit2 .ensures .0, c .column-and-bit2 .ensures .1, left, c .before .before .block-of-fuse .ensures, le-ltb _ _ (rw left at (c .before .if1 .left)))
+    rw (c .column-and-bit2 .ensures .0, c .column-and-bit2 .ensures .1, ← c .before .before .in-block .ensures, le-ltb _ _ (c .before .if1 .left))
 
 pub place-of-fuse-spec : {M : Type 1} → statement M
 place-of-fuse-spec =
     tie.close
     (tie.spec
     in-block-requires
-    block-of-fuse-requires
-    mul-rest
-    sub-rest
+    div-block
+    rem-rest
     column-and-bit-requires
     returns
     column-and-bit-requires-2
