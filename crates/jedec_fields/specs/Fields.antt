@@ -64,6 +64,7 @@ pub record ListFits (after : List ℕ) (skip number : ℕ) : Type 0 where
   pub found : statesIn (drop skip after) ≡ some (statesOf (drop skip after))
   pub many : length (statesOf (drop skip after)) ≡ number
   pub few : number ≤ length after
+  pub any : 0 < number
 
 abbrev pub Fits : (after : List ℕ) → FieldSays → Type 0
 Fits after (says.Count n) = Unit {0}

@@ -75,6 +75,7 @@ module _ (bytes : List ℕ) (u : ℕ) (e : u ≡ unbroken bytes) (l : u ≤ leng
                   found = found .0;
                   many = found .1;
                   few = omega (arith, found .1, states-few (drop u bytes), length-drop u bytes);
+                  any = omega arith;
                 };
           }
 
