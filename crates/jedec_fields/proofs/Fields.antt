@@ -23,11 +23,11 @@ pub rest-whole : (k : ℕ) (l : List ℕ) → take (length l - k) (drop k l) ≡
 rest-whole k l = take-all (length l - k) (drop k l) (rw (length-drop k l) (le-refl (length l - k)))
 
 -- the first `*`
-record Cuts (bytes : List ℕ) (u : ℕ) : Type 0 where
-  ended : pieces bytes .ended ≡ take u bytes ∷ pieces (drop (suc u) bytes) .ended
-  rest : pieces bytes .rest ≡ pieces (drop (suc u) bytes) .rest
+pub record Cuts (bytes : List ℕ) (u : ℕ) : Type 0 where
+  pub ended : pieces bytes .ended ≡ take u bytes ∷ pieces (drop (suc u) bytes) .ended
+  pub rest : pieces bytes .rest ≡ pieces (drop (suc u) bytes) .rest
 
-pieces-star : (bytes : List ℕ) → untilStar bytes < length bytes → Cuts bytes (untilStar bytes)
+pub pieces-star : (bytes : List ℕ) → untilStar bytes < length bytes → Cuts bytes (untilStar bytes)
 unfolding pieces untilStar
 pieces-star [] h = absurd (not-suc-le-zero h)
 pieces-star (b ∷ bytes) h = go (eqb b star) refl (pieces-star bytes)
@@ -39,11 +39,11 @@ pieces-star (b ∷ bytes) h = go (eqb b star) refl (pieces-star bytes)
         let ih : Cuts bytes (untilStar bytes) = shorter (omega arith) in
         record { ended = rw (e, ih .ended); rest = rw (e, ih .ended, ih .rest) }
 
-record Uncut (bytes : List ℕ) : Type 0 where
-  ended : pieces bytes .ended ≡ []
-  rest : pieces bytes .rest ≡ bytes
+pub record Uncut (bytes : List ℕ) : Type 0 where
+  pub ended : pieces bytes .ended ≡ []
+  pub rest : pieces bytes .rest ≡ bytes
 
-pieces-none : (bytes : List ℕ) → length bytes ≤ untilStar bytes → Uncut bytes
+pub pieces-none : (bytes : List ℕ) → length bytes ≤ untilStar bytes → Uncut bytes
 unfolding pieces untilStar
 pieces-none [] h = record { ended = refl; rest = refl }
 pieces-none (b ∷ bytes) h = go (eqb b star) refl (pieces-none bytes)

@@ -22,7 +22,7 @@ use Rattle.part.proofs.Facts.{compared}
 use Rattle.image.specs.Bits.{bitOf, putBit, withBit, gathered, tabulate}
 use Rattle.image.proofs.Bits.{put-same, put-other, put-small, gathered-small, gathered-bit, gathered-same, gathered-own, tabulate-length, tabulate-at}
 use Rattle.jedec.specs.Rules.{Listed, endOf, misplaced, stateGiven, within, imageWith}
-use Rattle.jedec_image.specs.States.{withState, withStates}
+use Rattle.jedec_image.specs.States.{withState, withStates, lastEnd}
 
 pub image-length : (fuses : ℕ) (f : ℕ → ℕ) → length (imageWith fuses f) ≡ (fuses + 7) / 8
 unfolding imageWith
@@ -172,11 +172,6 @@ put-states fuses (s ∷ states) f first small bits l =
     ap (λ (image : List ℕ). withStates image (first + 1) states) (put-state fuses f small first s (omega arith) (bits 0))
     ∙ put-states fuses states (changed f first s) (first + 1) (changed-small f first s small (bits 0)) (λ k. bits (suc k)) (omega arith)
     ∙ image-same fuses _ _ (λ k h. over-more f first s states k)
-
--- L fields in their places: where the last one ends
-unfoldable pub lastEnd : (end : ℕ) → List Listed → ℕ
-lastEnd end [] = end
-lastEnd end (l ∷ lists) = lastEnd (endOf l) lists
 
 -- one L field more, where those before are in place, and where one is not
 module _ (fuses : ℕ) (l : Listed) where
