@@ -46,6 +46,14 @@ uint64_t xc9500_readout_to_image(uint32_t blocks, uint32_t class_, const uint8_t
 uint64_t xc9500_image_to_text(uint32_t blocks, uint32_t class_, const uint8_t *image, size_t image_len, uint8_t *text,
                               size_t text_len);
 
+/* The image that a JEDEC text describes, put into `image`: 0. Texts of up to 1,048,576 bytes; any bytes whatever. Refused: 1; 2 an image that has
+   not the exact length; then the lowest of 7 to 11 at its first place: 7 the text is too long (1048576) or of bad form (where: the start of the
+   first bad field, 0 for no STX, the length of a text that ends early, after ETX the first wrong byte); 8 QF is not the device's count (its
+   field) or absent (ETX); 9 an L starts before the end of the L before it or runs past the count (its field); 10 C differs (its field);
+   11 the transmission sum differs and is not 0000 (ETX). A refusal changes no byte. The two do not overlap. */
+uint64_t xc9500_text_to_image(uint32_t blocks, uint32_t class_, const uint8_t *text, size_t text_len, uint8_t *image,
+                              size_t image_len);
+
 /* Settings are numbered from 0 in the listing order: term literals by block, macrocell, term, input, P before N; wire-AND by block, input,
    source block, macrocell; macrocell fields by block, macrocell, field; block fields by block, field; global fields; the last index
    fastest, fields in the order of the papers (ALLOC[0] to [4], INV, .., IOB_SLEW, HP[0] to [4]; ENABLE, EXPORT_ENABLE, PULLUP_DISABLE,

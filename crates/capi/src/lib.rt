@@ -9,6 +9,7 @@ ghost use Rattle.readout.specs.Readout.{doneOutcome, written, toReadout, readou
 ghost use Rattle.settings.specs.Answer.{bitOutcome};
 ghost use Rattle.settings.specs.Operations.{countOfSettings, settingOfNumber, fuseOfBit, settingAtFuse};
 ghost use Rattle.jedec_writer.specs.Pattern.{toText, withText};
+ghost use Rattle.jedec_reader.specs.Reader.{toImageFromText, imageIn};
 ghost use Rattle.edit.specs.Edit.{inImage, inReadout, readPattern, setPattern, withNumbered};
 ghost use Rattle.capi.specs.Packed.{packed, refusalWord, device, addressAndBit, itself, nothing, orNone, settingAndBit, through};
 use part::AddressAnswer;
@@ -154,6 +155,20 @@ pub extern "C" fn xc9500_image_to_text(
     ensures { λ _. ⌜ now (text .exit) ≡ written (toText (device blocks class) (now (image .entry)) (length (now (text .entry)))) (withText (device blocks class) (now (image .entry)) (now (text .entry))) (now (text .entry)) ⌝ }
 {
     number_word(jedec_writer::image_to_text(Device { blocks, class }, image, text))
+}
+
+// The image that a JEDEC text describes, put into `image`.
+#[no_mangle]
+pub extern "C" fn xc9500_text_to_image(
+    blocks: u32,
+    class: u32,
+    text: &[u8],
+    image: &mut [u8],
+) -> u64
+    ensures { λ w. ⌜ w ≡ packed nothing (toImageFromText (device blocks class) (now (text .entry)) (now (image .entry))) ⌝ }
+    ensures { λ _. ⌜ now (image .exit) ≡ written (toImageFromText (device blocks class) (now (text .entry)) (now (image .entry))) (imageIn (device blocks class) (now (text .entry))) (now (image .entry)) ⌝ }
+{
+    done_word(jedec_reader::text_to_image(Device { blocks, class }, text, image))
 }
 
 // How many settings a device has.

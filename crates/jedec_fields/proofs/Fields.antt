@@ -1,0 +1,143 @@
+-- Laws of fields by position:
+--   rest-whole                  what a slice from an offset on holds
+--   pieces-star, pieces-none    a text cut at its first `*`, or holding none
+--   blanks-skipped              blanks before a field do not change the fields
+--   at-etx, at-field, at-none   what stands at the first byte that is no blank
+use mathlib.Core.Path.{_≡_, refl, sym, _∙_, ap}
+use mathlib.Core.Bool.{Bool, true, false, cond, true≢false}
+use mathlib.Core.List.{List, [], _∷_}
+use mathlib.Core.Option.Option.{none, some}
+use Prim.Native.Nat.{ℕ, zero, suc, _+_, _-_, _≤_, _<_}
+use native.Mathlib.Omega.{arith}
+use native.Mathlib.Nat.{add-zero, le-refl, not-suc-le-zero, le-of-suc-le-suc}
+use lib.Dec.{eqb}
+use lib.ListN.{length, take, drop, length-drop}
+use lib.Seq.{take-all, length-take-le}
+use borrow.Author.Tests.{eqb-true, ne-eqb}
+use Rattle.jedec.specs.Characters.{etx, star, isBlank}
+use Rattle.jedec.specs.Cut.{Pieces, onFirst, pieces, blanksBefore, Cut, startsWith, orEnd, fieldsFrom}
+use Rattle.jedec_fields.specs.Fields.{untilStar, fieldsAt}
+
+-- what a slice from an offset on holds
+pub rest-whole : (k : ℕ) (l : List ℕ) → take (length l - k) (drop k l) ≡ drop k l
+rest-whole k l = take-all (length l - k) (drop k l) (rw (length-drop k l) (le-refl (length l - k)))
+
+-- the first `*`
+pub record Cuts (bytes : List ℕ) (u : ℕ) : Type 0 where
+  pub ended : pieces bytes .ended ≡ take u bytes ∷ pieces (drop (suc u) bytes) .ended
+  pub rest : pieces bytes .rest ≡ pieces (drop (suc u) bytes) .rest
+
+pub pieces-star : (bytes : List ℕ) → untilStar bytes < length bytes → Cuts bytes (untilStar bytes)
+unfolding pieces untilStar
+pieces-star [] h = absurd (not-suc-le-zero h)
+pieces-star (b ∷ bytes) h = go (eqb b star) refl (pieces-star bytes)
+  where
+    go : (t : Bool) → eqb b star ≡ t → (untilStar bytes < length bytes → Cuts bytes (untilStar bytes)) → Cuts (b ∷ bytes) (untilStar (b ∷ bytes))
+    go true e shorter = record { ended = rw e; rest = rw e }
+    go false e shorter =
+        let less : suc (untilStar bytes) < suc (length bytes) = rw e at h in
+        let ih : Cuts bytes (untilStar bytes) = shorter (omega arith) in
+        record { ended = rw (e, ih .ended); rest = rw (e, ih .ended, ih .rest) }
+
+pub record Uncut (bytes : List ℕ) : Type 0 where
+  pub ended : pieces bytes .ended ≡ []
+  pub rest : pieces bytes .rest ≡ bytes
+
+pub pieces-none : (bytes : List ℕ) → length bytes ≤ untilStar bytes → Uncut bytes
+unfolding pieces untilStar
+pieces-none [] h = record { ended = refl; rest = refl }
+pieces-none (b ∷ bytes) h = go (eqb b star) refl (pieces-none bytes)
+  where
+    go : (t : Bool) → eqb b star ≡ t → (length bytes ≤ untilStar bytes → Uncut bytes) → Uncut (b ∷ bytes)
+    go true e shorter = let none-left : suc (length bytes) ≤ 0 = rw e at h in absurd (not-suc-le-zero none-left)
+    go false e shorter =
+        let less : suc (length bytes) ≤ suc (untilStar bytes) = rw e at h in
+        let ih : Uncut bytes = shorter (omega arith) in
+        record { ended = rw (e, ih .ended); rest = rw (e, ih .ended, ih .rest) }
+
+-- neither a blank nor ETX is a `*`
+solid : (b k : ℕ) → isBlank k ≡ false → isBlank b ≡ true → b ≡ k → ⊥
+solid b k n h e = true≢false (sym h ∙ ap isBlank e ∙ n)
+
+blank-on-first : (at b : ℕ) (ended : List (List ℕ)) (rest : List ℕ) → isBlank b ≡ true
+    → fieldsFrom at (onFirst b ended rest .ended) (onFirst b ended rest .rest) ≡ fieldsFrom (at + 1) ended rest
+unfolding fieldsFrom blanksBefore
+blank-on-first at b [] rest h =
+    let e : at + suc (blanksBefore rest) ≡ at + 1 + blanksBefore rest = omega arith in
+    rw (h, e)
+blank-on-first at b (p ∷ ps) rest h =
+    let e : at + suc (blanksBefore p) ≡ at + 1 + blanksBefore p = omega arith in
+    let f : at + suc (length p) + 1 ≡ at + 1 + length p + 1 = omega arith in
+    rw (h, e, f)
+
+blank-skipped : (at b : ℕ) (bytes : List ℕ) → isBlank b ≡ true → fieldsAt at (b ∷ bytes) ≡ fieldsAt (at + 1) bytes
+unfolding fieldsAt pieces
+blank-skipped at b bytes h =
+    rw (ne-eqb b star (solid b star refl h)) (blank-on-first at b (pieces bytes .ended) (pieces bytes .rest) h)
+
+pub blanks-skipped : (at : ℕ) (bytes : List ℕ) → fieldsAt at bytes ≡ fieldsAt (at + blanksBefore bytes) (drop (blanksBefore bytes) bytes)
+unfolding blanksBefore
+blanks-skipped at [] = rw (add-zero at)
+blanks-skipped at (b ∷ bytes) = go (isBlank b) refl (blanks-skipped (at + 1) bytes)
+  where
+    go : (t : Bool) → isBlank b ≡ t → fieldsAt (at + 1) bytes ≡ fieldsAt (at + 1 + blanksBefore bytes) (drop (blanksBefore bytes) bytes)
+        → fieldsAt at (b ∷ bytes) ≡ fieldsAt (at + blanksBefore (b ∷ bytes)) (drop (blanksBefore (b ∷ bytes)) (b ∷ bytes))
+    go true e shorter =
+        let f : at + suc (blanksBefore bytes) ≡ at + 1 + blanksBefore bytes = omega arith in
+        rw (e, f) (blank-skipped at b bytes e ∙ shorter)
+    go false e shorter = rw (e, add-zero at)
+
+-- what the blanks stop at is no blank
+pub after-blanks : (bytes : List ℕ) (b : ℕ) (rest : List ℕ) → drop (blanksBefore bytes) bytes ≡ b ∷ rest → isBlank b ≡ false
+unfolding blanksBefore
+after-blanks [] b rest e = let z : _≡_ {A = ℕ} 0 1 = cc in absurd (omega arith)
+after-blanks (a ∷ bytes) b rest e = go (isBlank a) refl (after-blanks bytes b rest)
+  where
+    go : (t : Bool) → isBlank a ≡ t → (drop (blanksBefore bytes) bytes ≡ b ∷ rest → isBlank b ≡ false) → isBlank b ≡ false
+    go true f shorter = shorter (rw f at e)
+    go false f shorter = let g : a ∷ bytes ≡ b ∷ rest = rw f at e in let h : a ≡ b = cc in rw (← h) f
+
+-- a piece whose first byte is neither a blank nor ETX
+abbrev Plain : List ℕ → Type 0
+Plain p = (blanksBefore p ≡ 0) × (startsWith etx p ≡ false)
+
+plain-first : (b : ℕ) (bytes : List ℕ) → isBlank b ≡ false → (b ≡ 3 → ⊥) → Plain (b ∷ bytes)
+unfolding blanksBefore
+plain-first b bytes h n = (rw h, ne-eqb b 3 n)
+
+plain-take : (u b : ℕ) (bytes : List ℕ) → isBlank b ≡ false → (b ≡ 3 → ⊥) → Plain (take u (b ∷ bytes))
+unfolding blanksBefore
+plain-take zero b bytes h n = (refl, refl)
+plain-take (suc u) b bytes h n = plain-first b (take u bytes) h n
+
+plain-or-end : (at : ℕ) (p : List ℕ) (other : Cut) → Plain p → orEnd at p other ≡ other
+plain-or-end at p other e = rw (e .0, e .1)
+
+pub at-etx : (at : ℕ) (bytes : List ℕ) → fieldsAt at (3 ∷ bytes) ≡ record { fields = []; end = some at }
+unfolding fieldsAt pieces fieldsFrom blanksBefore
+at-etx at bytes = go (pieces bytes .ended) (pieces bytes .rest)
+  where
+    go : (ended : List (List ℕ)) (rest : List ℕ) → fieldsFrom at (onFirst 3 ended rest .ended) (onFirst 3 ended rest .rest) ≡ record { fields = []; end = some at }
+    go [] rest = rw (add-zero at)
+    go (p ∷ ps) rest = rw (add-zero at)
+
+module _ (at b : ℕ) (bytes : List ℕ) (h : isBlank b ≡ false) (n : b ≡ 3 → ⊥) where
+  pub at-none : length (b ∷ bytes) ≤ untilStar (b ∷ bytes) → fieldsAt at (b ∷ bytes) ≡ record { fields = []; end = none }
+  unfolding fieldsAt fieldsFrom
+  at-none l =
+      let u : Uncut (b ∷ bytes) = pieces-none (b ∷ bytes) l in
+      rw (u .ended, u .rest) (plain-or-end at (b ∷ bytes) _ (plain-first b bytes h n))
+
+  pub at-field : (u : ℕ) → u ≡ untilStar (b ∷ bytes) → u < length (b ∷ bytes)
+      → fieldsAt at (b ∷ bytes)
+      ≡ record {
+        fields = (record { start = at; bytes = take u (b ∷ bytes) }) ∷ fieldsAt (at + u + 1) (drop (u + 1) (b ∷ bytes)) .fields;
+        end = fieldsAt (at + u + 1) (drop (u + 1) (b ∷ bytes)) .end;
+      }
+  unfolding fieldsAt fieldsFrom
+  at-field u e l =
+      let c : Cuts (b ∷ bytes) u = rw e (pieces-star (b ∷ bytes) (rw e at l)) in
+      let p : Plain (take u (b ∷ bytes)) = plain-take u b bytes h n in
+      let k : length (take u (b ∷ bytes)) ≡ u = length-take-le u (b ∷ bytes) (omega arith) in
+      let s : u + 1 ≡ suc u = omega arith in
+      rw (s, c .ended, c .rest, p .0, p .1, k, add-zero at)

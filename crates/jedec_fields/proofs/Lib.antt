@@ -1,0 +1,4 @@
+-- The laws about fields of a text.
+-- Assumes nothing.
+pub mod Runs
+pub mod Fields

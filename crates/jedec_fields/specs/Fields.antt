@@ -1,0 +1,121 @@
+-- What the answers about fields say, in the terms of crate `jedec`: numbers, a judged field, where the next field stands, what follows ETX.
+-- A field is judged without a list of its states: they are read off its bytes.
+use Prim.Native.Nat.{ℕ, suc, _+_, _-_, _^_, _≤_, _<_}
+use mathlib.Core.Path.{_≡_}
+use mathlib.Core.Bool.{cond}
+use mathlib.Core.List.{List, [], _∷_}
+use mathlib.Core.Option.{Option}
+use mathlib.Core.Option.Option.{none, some}
+use lib.Dec.{eqb}
+use lib.ListN.{length, take, drop}
+use Rattle.jedec.specs.Characters.{star}
+use Rattle.jedec.specs.Cut.{Pieces, pieces, Cut, fieldsFrom, Tail}
+use Rattle.jedec.specs.Cut.Tail.{given, wrong}
+use Rattle.jedec.specs.Judge.{Judged, statesIn}
+use Rattle.jedec.specs.Judge.Judged.{count, start, list, sum, skipped, bad}
+use Rattle.jedec_fields.specs.declared.Digits.{Digits}
+use Rattle.jedec_fields.specs.declared.Digits.the-variants as digits
+use Rattle.jedec_fields.specs.declared.Counted.{Counted}
+use Rattle.jedec_fields.specs.declared.Counted.the-variants as counted
+use Rattle.jedec_fields.specs.declared.FieldSays.{FieldSays}
+use Rattle.jedec_fields.specs.declared.FieldSays.the-variants as says
+use Rattle.jedec_fields.specs.declared.Next.{Next}
+use Rattle.jedec_fields.specs.declared.Next.the-variants as next
+use Rattle.jedec_fields.specs.declared.TailSays.{TailSays}
+use Rattle.jedec_fields.specs.declared.TailSays.the-variants as tail
+
+-- a number, or another where there is none
+abbrev pub valueOr : ℕ → Option ℕ → ℕ
+valueOr other none = other
+valueOr other (some x) = x
+
+abbrev pub numberOf : Digits → Option ℕ
+numberOf (digits.Number x) = some x
+numberOf digits.Wrong = none
+
+-- how many states there are, if there are any; the states, or none
+abbrev pub countOf : Option (List ℕ) → Option ℕ
+countOf none = none
+countOf (some states) = some (length states)
+
+abbrev pub countIn : Counted → Option ℕ
+countIn (counted.States n) = some n
+countIn counted.Wrong = none
+
+abbrev pub orEmpty : Option (List ℕ) → List ℕ
+orEmpty none = []
+orEmpty (some states) = states
+
+unfoldable pub statesOf : List ℕ → List ℕ
+statesOf bytes = orEmpty (statesIn bytes)
+
+-- what an answer about a field says, with what follows the field's first letter
+abbrev pub judgedAfter : (after : List ℕ) → FieldSays → Judged
+judgedAfter after (says.Count n) = count n
+judgedAfter after (says.Start s) = start s
+judgedAfter after (says.List first skip many) = list first (statesOf (drop skip after))
+judgedAfter after (says.Sum x) = sum x
+judgedAfter after says.Skipped = skipped
+judgedAfter after says.Bad = bad
+
+-- the states that an answer speaks of are there, and so many
+pub record ListFits (after : List ℕ) (skip number : ℕ) : Type 0 where
+  pub inside : skip ≤ length after
+  pub found : statesIn (drop skip after) ≡ some (statesOf (drop skip after))
+  pub many : length (statesOf (drop skip after)) ≡ number
+  pub few : number ≤ length after
+  pub any : 0 < number
+
+abbrev pub Fits : (after : List ℕ) → FieldSays → Type 0
+Fits after (says.Count n) = Unit {0}
+Fits after (says.Start s) = s < 2
+Fits after (says.List first skip many) = ListFits after skip many
+Fits after (says.Sum x) = Unit {0}
+Fits after says.Skipped = Unit {0}
+Fits after says.Bad = Unit {0}
+
+pub record Says (after : List ℕ) (j : Judged) (r : FieldSays) : Type 0 where
+  pub is : judgedAfter after r ≡ j
+  pub fits : Fits after r
+
+-- how many bytes stand before the first `*`, or all
+unfoldable pub untilStar : List ℕ → ℕ
+untilStar [] = 0
+untilStar (b ∷ bytes) = cond (eqb b star) 0 (suc (untilStar bytes))
+
+-- the fields of some bytes that stand at an offset of the text
+unfoldable pub fieldsAt : (at : ℕ) → List ℕ → Cut
+fieldsAt at bytes = fieldsFrom at (pieces bytes .ended) (pieces bytes .rest)
+
+-- the fields of a text from an offset on, by what stands next
+abbrev pub cutOf : (text : List ℕ) → Next → Cut
+cutOf text (next.Field from to) =
+    record {
+      fields = (record { start = from; bytes = take (to - from) (drop from text) }) ∷ fieldsAt (to + 1) (drop (to + 1) text) .fields;
+      end = fieldsAt (to + 1) (drop (to + 1) text) .end;
+    }
+cutOf text (next.End etx) = record { fields = []; end = some etx }
+cutOf text next.Early = record { fields = []; end = none }
+
+-- the offsets that an answer speaks of are in the text
+abbrev pub Inside : (text : List ℕ) → (at : ℕ) → Next → Type 0
+Inside text at (next.Field from to) = (at ≤ from) × (from ≤ to) × (to < length text)
+Inside text at (next.End etx) = etx < length text
+Inside text at next.Early = Unit {0}
+
+pub record Stands (text : List ℕ) (at : ℕ) (r : Next) : Type 0 where
+  pub cut : cutOf text r ≡ fieldsAt at (drop at text)
+  pub inside : Inside text at r
+
+abbrev pub tailOf : TailSays → Tail
+tailOf (tail.Given x) = given x
+tailOf (tail.Wrong at) = wrong at
+
+-- a wrong byte is in the text or right behind it
+abbrev pub TailFits : (text : List ℕ) → TailSays → Type 0
+TailFits text (tail.Given x) = Unit {0}
+TailFits text (tail.Wrong at) = at ≤ length text
+
+pub record TailStands (text : List ℕ) (at : ℕ) (t : Tail) (r : TailSays) : Type 0 where
+  pub is : tailOf r ≡ t
+  pub fits : TailFits text r

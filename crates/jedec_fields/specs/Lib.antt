@@ -1,0 +1,3 @@
+-- The definitions that the contracts of `jedec_fields` cite.
+-- Assumes nothing.
+pub mod Fields

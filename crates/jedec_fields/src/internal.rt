@@ -1,0 +1,112 @@
+// Positions in a text, and a field judged: for the reader.
+// A function here may require that a position is in the text, or that a field is no longer than a text.
+ghost use mathlib.Core.Path.{_≡_};
+ghost use Prim.Native.Nat.{_+_, _≤_};
+ghost use lib.ListN.{length, drop};
+ghost use Rattle.jedec.specs.Cut.{blanksBefore, tailFrom};
+ghost use Rattle.jedec.specs.Judge.{judge};
+ghost use Rattle.jedec_fields.specs.Fields.{untilStar, Says, Stands, TailStands};
+use super::FieldSays;
+use super::Next;
+use super::TailSays;
+use super::by_letters;
+use super::hex_value;
+use super::holds_mark;
+use jedec::is_blank;
+
+// The offset of the next `*` from an offset on, or the length.
+pub fn next_star(text: &[u8], at: usize) -> usize
+    requires { ⌜ at ≤ length (now text) ⌝ }
+    ensures { λ r. ⌜ (r ≡ at + untilStar (drop at (now (text .entry)))) × (r ≤ length (now (text .entry))) ⌝ }
+{
+    let mut i = at;
+    while i < text.len() {
+        if text[i] == 42 {
+            return i;
+        }
+        i += 1;
+    }
+    i
+}
+
+// The offset of the next byte from an offset on that is no blank, or the length.
+fn skip_blanks(text: &[u8], at: usize) -> usize
+    requires { ⌜ at ≤ length (now text) ⌝ }
+    ensures { λ r. ⌜ (r ≡ at + blanksBefore (drop at (now (text .entry)))) × (r ≤ length (now (text .entry))) ⌝ }
+{
+    let mut i = at;
+    while i < text.len() {
+        if !is_blank(text[i]) {
+            return i;
+        }
+        i += 1;
+    }
+    i
+}
+
+// What stands next from an offset on.
+pub fn next_field(text: &[u8], at: usize) -> Next
+    requires { ⌜ at ≤ length (now text) ⌝ }
+    ensures { λ r. ⌜ Stands (now (text .entry)) at r ⌝ }
+{
+    let start = skip_blanks(text, at);
+    if start == text.len() {
+        return Next::Early;
+    }
+    if text[start] == 3 {
+        return Next::End(start);
+    }
+    let star = next_star(text, start);
+    if star == text.len() {
+        return Next::Early;
+    }
+    Next::Field { start, star }
+}
+
+// What a field says.
+pub fn judge_field(field: &[u8]) -> FieldSays
+    ensures { λ r. ⌜ Says (drop 1 (now (field .entry))) (judge (now (field .entry))) r ⌝ }
+{
+    if holds_mark(field) {
+        return FieldSays::Bad;
+    }
+    by_letters(field)
+}
+
+// After the four digits only blanks may stand.
+fn tail_blanks(text: &[u8], at: usize, sum: u32) -> TailSays
+    requires { ⌜ at ≤ length (now text) ⌝ }
+    ensures { λ r. ⌜ TailStands (now (text .entry)) at (tailFrom at 0 sum (drop at (now (text .entry)))) r ⌝ }
+{
+    let mut i = at;
+    while i < text.len() {
+        if !is_blank(text[i]) {
+            return TailSays::Wrong(i);
+        }
+        i += 1;
+    }
+    TailSays::Given(sum)
+}
+
+// What stands after an ETX, from an offset on.
+pub fn tail_from(text: &[u8], at: usize) -> TailSays
+    requires { ⌜ at ≤ length (now text) ⌝ }
+    ensures { λ r. ⌜ TailStands (now (text .entry)) at (tailFrom at 4 0 (drop at (now (text .entry)))) r ⌝ }
+{
+    let mut sum: u32 = 0;
+    let mut i = at;
+    let mut left: u32 = 4;
+    while 0 < left {
+        if i == text.len() {
+            return TailSays::Wrong(i);
+        }
+        let x = hex_value(text[i]);
+        if x == 16 {
+            return TailSays::Wrong(i);
+        }
+        sum = sum * 16 + x;
+        i += 1;
+        left -= 1;
+    }
+    tail_blanks(text, i, sum)
+}

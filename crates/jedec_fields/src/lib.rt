@@ -1,0 +1,289 @@
+// Fields of a JEDEC text: where the next one stands, what its bytes say, and what follows ETX.
+// What a field may say is defined in crate `jedec`, and how the answers here say it in specs/.
+ghost use mathlib.Core.Path.{_≡_};
+ghost use mathlib.Core.Bool.{cond, _&&_};
+ghost use Prim.Native.Nat.{_+_, _-_, _≤_};
+ghost use lib.Dec.{leb};
+ghost use lib.ListN.{length, drop};
+ghost use Rattle.jedec.specs.Characters.{isMark, decimalValue, hexValue, numberIn, sumIn};
+ghost use Rattle.jedec.specs.Cut.{holdsMark};
+ghost use Rattle.jedec.specs.Judge.Judged.{sum};
+ghost use Rattle.jedec.specs.Judge.{orBad, unbroken, statesIn, startIn, listIn, afterQ, byLetters};
+ghost use Rattle.jedec_fields.specs.Fields.{valueOr, numberOf, countOf, countIn, judgedAfter, Says};
+use jedec::is_blank;
+
+pub mod internal;
+
+// A number, or bytes that write none.
+pub enum Digits {
+    Number(u32),
+    Wrong,
+}
+
+// How many states some bytes write, or that they write none.
+pub enum Counted {
+    States(usize),
+    Wrong,
+}
+
+// What a field says. Of an L field: its first fuse, how many bytes after the L stand before the states, and how many states there are.
+pub enum FieldSays {
+    Count(u32),
+    Start(u32),
+    List {
+        first: u32,
+        skip: usize,
+        count: usize,
+    },
+    Sum(u32),
+    Skipped,
+    Bad,
+}
+
+// What stands next in a text: a field up to its `*`, the ETX after the fields, or neither, where the text ends early.
+pub enum Next {
+    Field { start: usize, star: usize },
+    End(usize),
+    Early,
+}
+
+// What follows ETX: a transmission sum, or the offset of the first wrong byte.
+pub enum TailSays {
+    Given(u32),
+    Wrong(usize),
+}
+
+// Whether a byte is STX or ETX.
+fn is_mark(b: u8) -> bool
+    ensures { λ r. ⌜ r ≡ isMark b ⌝ }
+{
+    (b == 2) | (b == 3)
+}
+
+// What a byte between two others stands for, or another number.
+fn value_between(b: u8, low: u8, high: u8, base: u32, other: u32) -> u32
+    requires { ⌜ base ≤ 10 ⌝ }
+    ensures { λ r. ⌜ r ≡ cond (leb low b && leb b high) (b - low + base) other ⌝ }
+{
+    if (low <= b) & (b <= high) {
+        return (b - low) as u32 + base;
+    }
+    other
+}
+
+// What a decimal digit stands for, or 16.
+fn decimal_value(b: u8) -> u32
+    ensures { λ r. ⌜ r ≡ valueOr 16 (decimalValue b) ⌝ }
+{
+    value_between(b, 48, 57, 0, 16)
+}
+
+// What a hex digit stands for, or 16.
+fn hex_value(b: u8) -> u32
+    ensures { λ r. ⌜ r ≡ valueOr 16 (hexValue b) ⌝ }
+{
+    let lower = value_between(b, 97, 102, 10, 16);
+    let upper = value_between(b, 65, 70, 10, lower);
+    value_between(b, 48, 57, 0, upper)
+}
+
+// Whether some bytes hold STX or ETX. Every byte is looked at, so that several are at a time.
+pub fn holds_mark(bytes: &[u8]) -> bool
+    ensures { λ r. ⌜ r ≡ holdsMark (now (bytes .entry)) ⌝ }
+{
+    let mut found = false;
+    let mut i: usize = 0;
+    while i < bytes.len() {
+        found = found | is_mark(bytes[i]);
+        i += 1;
+    }
+    found
+}
+
+// The number that 1 to 7 decimal digits write.
+fn number_in(bytes: &[u8]) -> Digits
+    ensures { λ r. ⌜ numberOf r ≡ numberIn (now (bytes .entry)) ⌝ }
+{
+    if bytes.len() == 0 {
+        return Digits::Wrong;
+    }
+    if 7 < bytes.len() {
+        return Digits::Wrong;
+    }
+    let mut x: u32 = 0;
+    let mut i: usize = 0;
+    while i < bytes.len() {
+        let y = decimal_value(bytes[i]);
+        if y == 16 {
+            return Digits::Wrong;
+        }
+        x = x * 10 + y;
+        i += 1;
+    }
+    Digits::Number(x)
+}
+
+// The number that four hex digits write.
+fn sum_in(bytes: &[u8]) -> Digits
+    ensures { λ r. ⌜ numberOf r ≡ sumIn (now (bytes .entry)) ⌝ }
+{
+    if bytes.len() != 4 {
+        return Digits::Wrong;
+    }
+    let mut x: u32 = 0;
+    let mut i: usize = 0;
+    while i < bytes.len() {
+        let y = hex_value(bytes[i]);
+        if y == 16 {
+            return Digits::Wrong;
+        }
+        x = x * 16 + y;
+        i += 1;
+    }
+    Digits::Number(x)
+}
+
+// How many bytes stand before the first blank.
+fn unbroken(bytes: &[u8]) -> usize
+    ensures { λ r. ⌜ (r ≡ unbroken (now (bytes .entry))) × (r ≤ length (now (bytes .entry))) ⌝ }
+{
+    let mut i: usize = 0;
+    while i < bytes.len() {
+        if is_blank(bytes[i]) {
+            return i;
+        }
+        i += 1;
+    }
+    i
+}
+
+// 1 for what holds.
+fn one_if(t: bool) -> usize
+    ensures { λ r. ⌜ (r ≡ cond t 1 0) × (r ≤ 1) ⌝ }
+{
+    if t {
+        return 1;
+    }
+    0
+}
+
+// How many states some bytes write, if they hold nothing but 0, 1 and blanks.
+fn states_in(bytes: &[u8]) -> Counted
+    ensures { λ r. ⌜ countIn r ≡ countOf (statesIn (now (bytes .entry))) ⌝ }
+{
+    let mut good = true;
+    let mut n: usize = 0;
+    let mut i: usize = 0;
+    while i < bytes.len() {
+        let b = bytes[i];
+        let state = (b == 48) | (b == 49);
+        n += one_if(state);
+        good = good & (state | is_blank(b));
+        i += 1;
+    }
+    if good {
+        return Counted::States(n);
+    }
+    Counted::Wrong
+}
+
+// What follows an F.
+fn start_in(bytes: &[u8]) -> FieldSays
+    ensures { λ r. ⌜ Says (now (bytes .entry)) (startIn (now (bytes .entry))) r ⌝ }
+{
+    if bytes.len() != 1 {
+        return FieldSays::Bad;
+    }
+    if bytes[0] == 48 {
+        return FieldSays::Start(0);
+    }
+    if bytes[0] == 49 {
+        return FieldSays::Start(1);
+    }
+    FieldSays::Bad
+}
+
+// What follows an L.
+fn list_in(bytes: &[u8]) -> FieldSays
+    ensures { λ r. ⌜ Says (now (bytes .entry)) (listIn (now (bytes .entry))) r ⌝ }
+{
+    let digits = unbroken(bytes);
+    let number = number_in(&bytes[..digits]);
+    match number {
+        Digits::Wrong => FieldSays::Bad,
+        Digits::Number(first) => {
+            let counted = states_in(&bytes[digits..]);
+            match counted {
+                Counted::Wrong => FieldSays::Bad,
+                Counted::States(n) => {
+                    if n == 0 {
+                        return FieldSays::Bad;
+                    }
+                    FieldSays::List {
+                        first,
+                        skip: digits,
+                        count: n,
+                    }
+                }
+            }
+        }
+    }
+}
+
+// What follows a Q.
+fn after_q(bytes: &[u8]) -> FieldSays
+    ensures { λ r. ⌜ Says (now (bytes .entry)) (afterQ (now (bytes .entry))) r ⌝ }
+{
+    if bytes.len() == 0 {
+        return FieldSays::Bad;
+    }
+    let b = bytes[0];
+    if b == 70 {
+        let number = number_in(&bytes[1..]);
+        return match number {
+            Digits::Number(n) => FieldSays::Count(n),
+            Digits::Wrong => FieldSays::Bad,
+        };
+    }
+    if (b == 80) | (b == 86) {
+        return FieldSays::Skipped;
+    }
+    FieldSays::Bad
+}
+
+// What follows a C.
+fn after_c(bytes: &[u8]) -> FieldSays
+    ensures { λ r. ⌜ Says (now (bytes .entry)) (orBad (sumIn (now (bytes .entry))) sum) r ⌝ }
+{
+    let number = sum_in(bytes);
+    match number {
+        Digits::Number(x) => FieldSays::Sum(x),
+        Digits::Wrong => FieldSays::Bad,
+    }
+}
+
+// What a field without STX and ETX says, by the letters that it starts with.
+fn by_letters(field: &[u8]) -> FieldSays
+    ensures { λ r. ⌜ Says (drop 1 (now (field .entry))) (byLetters (now (field .entry))) r ⌝ }
+{
+    if field.len() == 0 {
+        return FieldSays::Bad;
+    }
+    let b = field[0];
+    if (b == 78) | (b == 74) | (b == 88) {
+        return FieldSays::Skipped;
+    }
+    if b == 81 {
+        return after_q(&field[1..]);
+    }
+    if b == 70 {
+        return start_in(&field[1..]);
+    }
+    if b == 76 {
+        return list_in(&field[1..]);
+    }
+    if b == 67 {
+        return after_c(&field[1..]);
+    }
+    FieldSays::Bad
+}

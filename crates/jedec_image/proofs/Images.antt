@@ -1,0 +1,272 @@
+-- Laws of the image of so many fuses:
+--   image-same, image-length       only the states below the count matter; its length
+--   start-byte                     a byte of the image of a start state
+--   put-states                     states put in place change the states of those fuses alone
+--   put-listed                     an L field after the L fields before it
+use mathlib.Core.Path.{_≡_, refl, sym, _∙_, ap, ap₂}
+use mathlib.Core.Logic.{_≢_}
+use mathlib.Core.Bool.{Bool, true, false, cond, _&&_, _||_}
+use mathlib.Core.List.{List, [], _∷_, _++_}
+use mathlib.Core.Option.{Option}
+use mathlib.Core.Option.Option.{none, some}
+use Prim.Native.Nat.{ℕ, zero, suc, _+_, _*_, _-_, _/_, _%_, _^_, _≤_, _<_}
+use native.Mathlib.Omega.{arith}
+use native.Mathlib.Nat.{mod-eq-of-lt, mul-add, mul-zero, zero-mul, add-zero, two-pow-succ, not-suc-le-zero}
+use native.Mathlib.Decide.{ℕ-discrete}
+use lib.Dec.{eqb, ltb, leb}
+use lib.ListN.{length, getD, set, length-set}
+use lib.Pow.{pow-pos}
+use lib.Seq.{ext-getD, getD-set-same, getD-set-other}
+use borrow.Author.Tests.{lt-ltb, le-ltb, le-leb, lt-leb, eq-eqb, ne-eqb}
+use Rattle.part.proofs.Facts.{compared}
+use Rattle.image.specs.Bits.{bitOf, putBit, withBit, gathered, tabulate}
+use Rattle.image.proofs.Bits.{put-same, put-other, put-small, gathered-small, gathered-bit, gathered-same, gathered-own, tabulate-length, tabulate-at}
+use Rattle.jedec.specs.Rules.{Listed, endOf, misplaced, stateGiven, within, imageWith}
+use Rattle.jedec_image.specs.States.{withState, withStates, lastEnd}
+
+pub image-length : (fuses : ℕ) (f : ℕ → ℕ) → length (imageWith fuses f) ≡ (fuses + 7) / 8
+unfolding imageWith
+image-length fuses f = tabulate-length ((fuses + 7) / 8) _
+
+image-at : (fuses : ℕ) (f : ℕ → ℕ) (i : ℕ) → i < (fuses + 7) / 8 → getD (imageWith fuses f) i 0 ≡ gathered (λ bit. within fuses f (i * 8 + bit)) 8
+unfolding imageWith
+image-at fuses f i h = tabulate-at ((fuses + 7) / 8) _ i h
+
+-- two images are one where each byte is gathered from like bits
+image-is : (fuses : ℕ) (f : ℕ → ℕ) (bytes : List ℕ) → length bytes ≡ (fuses + 7) / 8
+    → ((i : ℕ) → i < (fuses + 7) / 8 → getD bytes i 0 ≡ gathered (λ bit. within fuses f (i * 8 + bit)) 8) → bytes ≡ imageWith fuses f
+image-is fuses f bytes e h =
+    ext-getD 0 bytes (imageWith fuses f) (e ∙ sym (image-length fuses f))
+    (λ i l. let m : i < (fuses + 7) / 8 = omega arith in h i m ∙ sym (image-at fuses f i m))
+
+within-same : (fuses : ℕ) (f g : ℕ → ℕ) → ((k : ℕ) → k < fuses → f k ≡ g k) → (k : ℕ) → within fuses f k ≡ within fuses g k
+within-same fuses f g e k = compared k fuses (λ l. rw (lt-ltb k fuses l) (e k l)) (λ m. rw (le-ltb k fuses m))
+
+pub image-same : (fuses : ℕ) (f g : ℕ → ℕ) → ((k : ℕ) → k < fuses → f k ≡ g k) → imageWith fuses f ≡ imageWith fuses g
+image-same fuses f g e =
+    image-is fuses g (imageWith fuses f) (image-length fuses f)
+    (λ i l. image-at fuses f i l ∙ gathered-same _ _ 8 (λ b m. within-same fuses f g e (i * 8 + b)))
+
+-- a byte of which the lowest bits have a state
+below-bit : (s r b : ℕ) → b < r → cond (ltb b r) s 0 ≡ s
+below-bit s r b l = rw (lt-ltb b r l)
+
+gathered-below : (s r w : ℕ) → r ≤ w → gathered (λ b. cond (ltb b r) s 0) w ≡ s * (2 ^ r - 1)
+unfolding gathered
+gathered-below s r zero h = let z : r ≡ 0 = omega arith in rw z (sym (mul-zero s))
+gathered-below s r (suc w) h =
+    compared w r
+    (λ l.
+    let z : r ≡ suc w = omega arith in
+    let lower : gathered (λ b. cond (ltb b r) s 0) w ≡ s * (2 ^ w - 1) =
+    gathered-same _ _ w (λ b m. below-bit s r b (omega arith) ∙ sym (below-bit s w b m)) ∙ gathered-below s w w (omega arith) in
+    let sums : 2 ^ suc w - 1 ≡ 2 ^ w - 1 + 2 ^ w = omega (arith, two-pow-succ w, pow-pos w) in
+    rw (below-bit s r w l, lower, z, sums) (sym (mul-add s (2 ^ w - 1) (2 ^ w))))
+    (λ m. rw (le-ltb w r m, zero-mul) (add-zero _ ∙ gathered-below s r w m))
+
+-- a byte of the image of a start state, which has so many fuses
+pub start-byte : (fuses s i r : ℕ) → i < (fuses + 7) / 8 → r ≤ 8 → (i * 8 + 8 ≤ fuses → r ≡ 8) → (fuses < i * 8 + 8 → r ≡ fuses - i * 8)
+    → s * (2 ^ r - 1) ≡ getD (imageWith fuses (stateGiven s [])) i 0
+unfolding stateGiven
+start-byte fuses s i r l m e f =
+    sym (image-at fuses (stateGiven s []) i l ∙ gathered-same _ _ 8 same ∙ gathered-below s r 8 m)
+  where
+    same : (b : ℕ) → b < 8 → within fuses (stateGiven s []) (i * 8 + b) ≡ cond (ltb b r) s 0
+    same b h =
+        compared (i * 8 + b) fuses
+        (λ less. rw (lt-ltb (i * 8 + b) fuses less) (sym (below-bit s r b (compared fuses (i * 8 + 8) (λ p. omega (arith, f p)) (λ p. omega (arith, e p))))))
+        (λ more. let past : r ≤ b = compared fuses (i * 8 + 8) (λ p. omega (arith, f p)) (λ p. omega arith) in rw (le-ltb (i * 8 + b) fuses more, le-ltb b r past))
+
+-- a byte gathered from bits, with one of them put in place
+module _ (h : ℕ → ℕ) (small : (b : ℕ) → h b < 2) (bit s : ℕ) (l : bit < 8) (m : s < 2) where
+  gathered-put : putBit (gathered h 8) bit s ≡ gathered (λ b. cond (eqb b bit) s (h b)) 8
+  gathered-put =
+      let x = putBit (gathered h 8) bit s in
+      let below : putBit (gathered h 8) bit s < 2 ^ 8 = put-small (gathered h 8) bit s m 8 (gathered-small h small 8) l in
+      sym (gathered-own (putBit (gathered h 8) bit s) 8 ∙ mod-eq-of-lt below) ∙ gathered-same _ _ 8 same
+    where
+      same : (b : ℕ) → b < 8 → bitOf (putBit (gathered h 8) bit s) b ≡ cond (eqb b bit) s (h b)
+      same b lb = either-way (ℕ-discrete b bit)
+        where
+          either-way : Dec (b ≡ bit) → bitOf (putBit (gathered h 8) bit s) b ≡ cond (eqb b bit) s (h b)
+          either-way (yes e) = rw (eq-eqb b bit e, e) (put-same (gathered h 8) bit s m)
+          either-way (no n) = rw (ne-eqb b bit n) (put-other (gathered h 8) bit s m b n ∙ gathered-bit h small 8 b lb)
+
+-- the states with one changed, and with a list of states put in place
+abbrev changed : (ℕ → ℕ) → (fuse state : ℕ) → ℕ → ℕ
+changed f fuse s k = cond (eqb k fuse) s (f k)
+
+module _ (fuses : ℕ) (f : ℕ → ℕ) (small : (k : ℕ) → f k < 2) where
+  within-small : (k : ℕ) → within fuses f k < 2
+  within-small k = compared k fuses (λ l. rw (lt-ltb k fuses l) (small k)) (λ m. rw (le-ltb k fuses m) (omega arith))
+
+  put-state : (fuse s : ℕ) → fuse < fuses → s < 2 → withState (imageWith fuses f) fuse s ≡ imageWith fuses (changed f fuse s)
+  unfolding withState withBit
+  put-state fuse s l m =
+      image-is fuses (changed f fuse s) _ (length-set (imageWith fuses f) (fuse / 8) _ ∙ image-length fuses f) (λ i h. byte i h (ℕ-discrete i (fuse / 8)))
+    where
+      inside : fuse / 8 < (fuses + 7) / 8
+      inside = omega arith
+
+      byte : (i : ℕ) → i < (fuses + 7) / 8 → Dec (i ≡ fuse / 8)
+          → getD (set (imageWith fuses f) (fuse / 8) (putBit (getD (imageWith fuses f) (fuse / 8) 0) (fuse % 8) s)) i 0
+          ≡ gathered (λ b. within fuses (changed f fuse s) (i * 8 + b)) 8
+      byte i h (yes e) =
+          rw (e, getD-set-same (imageWith fuses f) (fuse / 8) (putBit (getD (imageWith fuses f) (fuse / 8) 0) (fuse % 8) s) 0 (rw (image-length fuses f) inside), image-at fuses f (fuse / 8) inside)
+          (gathered-put (λ b. within fuses f (fuse / 8 * 8 + b)) (λ b. within-small (fuse / 8 * 8 + b)) (fuse % 8) s (omega arith) m
+          ∙ gathered-same _ _ 8 (λ b lb. here b (ℕ-discrete b (fuse % 8))))
+        where
+          here : (b : ℕ) → Dec (b ≡ fuse % 8) → cond (eqb b (fuse % 8)) s (within fuses f (fuse / 8 * 8 + b)) ≡ within fuses (changed f fuse s) (fuse / 8 * 8 + b)
+          here b (yes q) =
+              let this : fuse / 8 * 8 + b ≡ fuse = omega arith in
+              rw (eq-eqb b (fuse % 8) q, this, lt-ltb fuse fuses l, eq-eqb fuse fuse refl)
+          here b (no n) =
+              let other : fuse / 8 * 8 + b ≡ fuse → ⊥ = λ z. n (omega arith) in
+              rw (ne-eqb b (fuse % 8) n, ne-eqb (fuse / 8 * 8 + b) fuse other)
+      byte i h (no n) =
+          getD-set-other (imageWith fuses f) (fuse / 8) i _ 0 n ∙ image-at fuses f i h
+          ∙ gathered-same _ _ 8
+          (λ b lb.
+          let other : i * 8 + b ≡ fuse → ⊥ = λ z. n (omega arith) in
+          rw (ne-eqb (i * 8 + b) fuse other))
+
+-- the state of a fuse with a list of states put in place
+abbrev pub over : (ℕ → ℕ) → (first : ℕ) → (states : List ℕ) → ℕ → ℕ
+over f first states k = cond (leb first k && ltb k (first + length states)) (getD states (k - first) 0) (f k)
+
+abbrev pub Bits : List ℕ → Type 0
+Bits states = (k : ℕ) → getD states k 0 < 2
+
+changed-small : (f : ℕ → ℕ) (fuse s : ℕ) → ((k : ℕ) → f k < 2) → s < 2 → (k : ℕ) → changed f fuse s k < 2
+changed-small f fuse s small m k = go (eqb k fuse)
+  where
+    go : (t : Bool) → cond t s (f k) < 2
+    go true = m
+    go false = small k
+
+over-more : (f : ℕ → ℕ) (first s : ℕ) (states : List ℕ) (k : ℕ) → over (changed f first s) (first + 1) states k ≡ over f first (s ∷ states) k
+over-more f first s states k =
+    compared k first
+    (λ l.
+    let ne : k ≡ first → ⊥ = λ e. omega arith in
+    rw (lt-leb first k l, lt-leb (first + 1) k (omega arith), ne-eqb k first ne))
+    (λ g. at-or-past g (ℕ-discrete k first))
+  where
+    at-or-past : first ≤ k → Dec (k ≡ first) → over (changed f first s) (first + 1) states k ≡ over f first (s ∷ states) k
+    at-or-past g (yes e) =
+        let z : k - first ≡ 0 = omega arith in
+        rw (le-leb first k g, lt-leb (first + 1) k (omega arith), eq-eqb k first e, lt-ltb k (first + suc (length states)) (omega arith), z)
+    at-or-past g (no n) =
+        let more : first + 1 ≤ k = omega arith in
+        let back : k - first ≡ suc (k - (first + 1)) = omega arith in
+        let same : first + 1 + length states ≡ first + suc (length states) = omega arith in
+        rw (le-leb first k g, le-leb (first + 1) k more, ne-eqb k first n, back, same)
+
+pub put-states : (fuses : ℕ) (states : List ℕ) (f : ℕ → ℕ) (first : ℕ) → ((k : ℕ) → f k < 2) → Bits states → first + length states ≤ fuses
+    → withStates (imageWith fuses f) first states ≡ imageWith fuses (over f first states)
+unfolding withStates
+put-states fuses [] f first small bits l =
+    image-same fuses f (over f first [])
+    (λ k h. compared k first (λ m. rw (lt-leb first k m)) (λ g. rw (le-leb first k g, le-ltb k (first + 0) (omega arith))))
+put-states fuses (s ∷ states) f first small bits l =
+    ap (λ (image : List ℕ). withStates image (first + 1) states) (put-state fuses f small first s (omega arith) (bits 0))
+    ∙ put-states fuses states (changed f first s) (first + 1) (changed-small f first s small (bits 0)) (λ k. bits (suc k)) (omega arith)
+    ∙ image-same fuses _ _ (λ k h. over-more f first s states k)
+
+-- one L field more, where those before are in place, and where one is not
+module _ (fuses : ℕ) (l : Listed) where
+  pub last-more : (end : ℕ) (lists : List Listed) → lastEnd end (lists ++ (l ∷ [])) ≡ endOf l
+  unfolding lastEnd
+  last-more end [] = refl
+  last-more end (a ∷ lists) = last-more (endOf a) lists
+
+  pub still-misplaced : (end : ℕ) (lists : List Listed) (at : ℕ) → misplaced fuses end lists ≡ some at → misplaced fuses end (lists ++ (l ∷ [])) ≡ some at
+  unfolding misplaced
+  still-misplaced end [] at e = let z : _≡_ {A = ℕ} 0 1 = cc in absurd (omega arith)
+  still-misplaced end (a ∷ lists) at e = go (ltb (a .first) end || ltb fuses (endOf a)) (still-misplaced (endOf a) lists at) e
+    where
+      go : (t : Bool) → (misplaced fuses (endOf a) lists ≡ some at → misplaced fuses (endOf a) (lists ++ (l ∷ [])) ≡ some at)
+          → cond t (some (a .at)) (misplaced fuses (endOf a) lists) ≡ some at → cond t (some (a .at)) (misplaced fuses (endOf a) (lists ++ (l ∷ []))) ≡ some at
+      go true ih h = h
+      go false ih h = ih h
+
+  pub now-misplaced : (end : ℕ) (lists : List Listed) → misplaced fuses end lists ≡ none
+      → misplaced fuses end (lists ++ (l ∷ [])) ≡ cond (ltb (l .first) (lastEnd end lists) || ltb fuses (endOf l)) (some (l .at)) none
+  unfolding misplaced lastEnd
+  now-misplaced end [] e = refl
+  now-misplaced end (a ∷ lists) e = go (ltb (a .first) end || ltb fuses (endOf a)) (now-misplaced (endOf a) lists) e
+    where
+      go : (t : Bool)
+          → (misplaced fuses (endOf a) lists ≡ none → misplaced fuses (endOf a) (lists ++ (l ∷ [])) ≡ cond (ltb (l .first) (lastEnd (endOf a) lists) || ltb fuses (endOf l)) (some (l .at)) none)
+          → cond t (some (a .at)) (misplaced fuses (endOf a) lists) ≡ none
+          → cond t (some (a .at)) (misplaced fuses (endOf a) (lists ++ (l ∷ []))) ≡ cond (ltb (l .first) (lastEnd (endOf a) lists) || ltb fuses (endOf l)) (some (l .at)) none
+      go true ih h = let z : _≡_ {A = ℕ} 0 1 = cc in absurd (omega arith)
+      go false ih h = ih h
+
+-- what is known of the first of several L fields in their places
+pub placed : (fuses end : ℕ) (a : Listed) (lists : List Listed) → misplaced fuses end (a ∷ lists) ≡ none
+    → (end ≤ a .first) × (endOf a ≤ fuses) × (misplaced fuses (endOf a) lists ≡ none)
+unfolding misplaced
+placed fuses end a lists e =
+    compared (a .first) end
+    (λ l. let bad : some (a .at) ≡ none = rw (lt-ltb (a .first) end l) at e in let z : _≡_ {A = ℕ} 0 1 = cc in absurd (omega arith))
+    (λ g.
+    compared fuses (endOf a)
+    (λ l. let bad : some (a .at) ≡ none = rw (le-ltb (a .first) end g, lt-ltb fuses (endOf a) l) at e in let z : _≡_ {A = ℕ} 0 1 = cc in absurd (omega arith))
+    (λ h. (g, h, rw (le-ltb (a .first) end g, le-ltb fuses (endOf a) h) at e)))
+
+ends-rise : (fuses end : ℕ) (lists : List Listed) → misplaced fuses end lists ≡ none → end ≤ lastEnd end lists
+unfolding lastEnd
+ends-rise fuses end [] e = omega arith
+ends-rise fuses end (a ∷ lists) e =
+    let p = placed fuses end a lists e in
+    omega (arith, p .0, ends-rise fuses (endOf a) lists (p .2))
+
+given-more : (fuses from end : ℕ) (l : Listed) (lists : List Listed) → misplaced fuses end lists ≡ none → lastEnd end lists ≤ l .first → (k : ℕ)
+    → over (stateGiven from lists) (l .first) (l .states) k ≡ stateGiven from (lists ++ (l ∷ [])) k
+unfolding stateGiven lastEnd
+given-more fuses from end l [] e h k = refl
+given-more fuses from end l (a ∷ lists) e h k = go (given-more fuses from (endOf a) l lists (placed fuses end a lists e .2) h k)
+  where
+    go : over (stateGiven from lists) (l .first) (l .states) k ≡ stateGiven from (lists ++ (l ∷ [])) k
+        → over (stateGiven from (a ∷ lists)) (l .first) (l .states) k ≡ stateGiven from ((a ∷ lists) ++ (l ∷ [])) k
+    go ih =
+        compared k (a .first) (λ m. rw (lt-leb (a .first) k m) ih)
+        (λ g. compared k (endOf a)
+        (λ m.
+        let before : k < l .first = omega (arith, ends-rise fuses (endOf a) lists (placed fuses end a lists e .2)) in
+        rw (le-leb (a .first) k g, lt-ltb k (endOf a) m, lt-leb (l .first) k before))
+        (λ m. rw (le-leb (a .first) k g, le-ltb k (endOf a) m) ih))
+
+over-small : (f : ℕ → ℕ) (first : ℕ) (states : List ℕ) → ((k : ℕ) → f k < 2) → Bits states → (k : ℕ) → over f first states k < 2
+over-small f first states small bits k = go (leb first k && ltb k (first + length states))
+  where
+    go : (t : Bool) → cond t (getD states (k - first) 0) (f k) < 2
+    go true = bits (k - first)
+    go false = small k
+
+-- an image that holds what the fields gave
+pub record Holds (fuses from : ℕ) (lists : List Listed) (image : List ℕ) : Type 0 where
+  pub is : image ≡ imageWith fuses (stateGiven from lists)
+  pub bits : (k : ℕ) → stateGiven from lists k < 2
+
+pub start-holds : (fuses from : ℕ) → from < 2 → Holds fuses from [] (imageWith fuses (stateGiven from []))
+unfolding stateGiven
+start-holds fuses from h = record { is = refl; bits = λ k. h }
+
+pub put-listed : (fuses from : ℕ) (lists : List Listed) (l : Listed) (image : List ℕ) → Holds fuses from lists image → Bits (l .states)
+    → misplaced fuses 0 (lists ++ (l ∷ [])) ≡ none → misplaced fuses 0 lists ≡ none
+    → Holds fuses from (lists ++ (l ∷ [])) (withStates image (l .first) (l .states))
+put-listed fuses from lists l image h bits e f =
+    let rule : misplaced fuses 0 (lists ++ (l ∷ [])) ≡ cond (ltb (l .first) (lastEnd 0 lists) || ltb fuses (endOf l)) (some (l .at)) none = now-misplaced fuses l 0 lists f in
+    compared (l .first) (lastEnd 0 lists)
+    (λ m. let bad : none ≡ some (l .at) = sym e ∙ rule ∙ rw (lt-ltb (l .first) (lastEnd 0 lists) m) in let z : _≡_ {A = ℕ} 0 1 = cc in absurd (omega arith))
+    (λ g. compared fuses (endOf l)
+    (λ m. let bad : none ≡ some (l .at) = sym e ∙ rule ∙ rw (le-ltb (l .first) (lastEnd 0 lists) g, lt-ltb fuses (endOf l) m) in let z : _≡_ {A = ℕ} 0 1 = cc in absurd (omega arith))
+    (λ m.
+    let same : (k : ℕ) → over (stateGiven from lists) (l .first) (l .states) k ≡ stateGiven from (lists ++ (l ∷ [])) k = given-more fuses from 0 l lists f g in
+    record {
+      is = ap (λ (x : List ℕ). withStates x (l .first) (l .states)) (h .is) ∙ put-states fuses (l .states) (stateGiven from lists) (l .first) (h .bits) bits m
+          ∙ image-same fuses _ _ (λ k p. same k);
+      bits = λ k. rw (← same k) (over-small (stateGiven from lists) (l .first) (l .states) (h .bits) bits k);
+    }))

@@ -1,0 +1,148 @@
+-- Laws of one field more:
+--   in-order       what the reader knows says which field may stand
+--   put-fits       what a field puts into the image has room
+--   given-after    what is known after a field, and the image it is put into, are what the fields gave
+use mathlib.Core.Path.{_≡_, refl, sym, _∙_, ap}
+use mathlib.Core.Bool.{Bool, true, false, cond, not, _&&_, _||_, or-true}
+use mathlib.Core.List.{List, [], _∷_, _++_}
+use mathlib.Core.Option.{Option}
+use mathlib.Core.Option.Option.{none, some}
+use Prim.Native.Nat.{ℕ, _+_, _/_, _≤_, _<_}
+use native.Mathlib.Omega.{arith}
+use lib.Dec.{ltb}
+use lib.ListN.{length, drop, length-set}
+use borrow.Author.Tests.{lt-ltb, not-true}
+use Rattle.part.proofs.Facts.{compared, and-iff}
+use Rattle.image.specs.Bits.{withBit}
+use Rattle.jedec.specs.Rules.{Listed, Known, has, hasAny, inOrder, after, endOf, misplaced, startState, stateGiven, imageWith}
+use Rattle.jedec_fields.specs.Fields.{statesOf, judgedAfter, ListFits, Fits}
+use Rattle.jedec_fields.specs.declared.FieldSays.{FieldSays}
+use Rattle.jedec_fields.specs.declared.FieldSays.the-variants as says
+use Rattle.jedec_image.specs.States.{withState, withStates, lastEnd}
+use Rattle.jedec_image.proofs.Puts.{written-bits}
+use Rattle.jedec_image.proofs.Images.{image-length, Holds, start-holds, put-listed, last-more, still-misplaced, now-misplaced}
+use Rattle.jedec_reader.specs.Progress.{notedOf, seenOf, mayStand, misplacedAfter, afterField, putList, putField, ListGoes, PutFits, Given}
+use Rattle.jedec_reader.specs.declared.internal.Seen.{Seen}
+use Rattle.jedec_reader.specs.declared.internal.Seen.the-variants as seen
+use Rattle.jedec_reader.specs.declared.internal.Progress.{Progress}
+
+pub in-order : (fuses : ℕ) (p : Progress) (k : Known) (image rest : List ℕ) (s : FieldSays) → Given fuses p k image
+    → mayStand p s ≡ inOrder k (judgedAfter rest s)
+in-order fuses p k image rest (says.Count n) g = rw (g .count)
+in-order fuses p k image rest (says.Start x) g = rw (g .count, g .start, g .listed)
+in-order fuses p k image rest (says.List first skip number) g = rw (g .count, g .sum)
+in-order fuses p k image rest (says.Sum x) g = rw (g .count, g .sum)
+in-order fuses p k image rest says.Skipped g = refl
+in-order fuses p k image rest says.Bad g = refl
+
+list-room : (fuses end at first number : ℕ) (before : Seen) → misplacedAfter fuses before end at first number ≡ seen.Nothing → first + number ≤ fuses
+list-room fuses end at first number (seen.Number x) e = let z : _≡_ {A = ℕ} 0 1 = cc in absurd (omega arith)
+list-room fuses end at first number seen.Nothing e =
+    compared fuses (first + number)
+    (λ l. let bad : seen.Number at ≡ seen.Nothing = rw (lt-ltb fuses (first + number) l, or-true) at e in let z : _≡_ {A = ℕ} 0 1 = cc in absurd (omega arith))
+    (λ m. m)
+
+pub put-fits : (fuses : ℕ) (p : Progress) (at : ℕ) (rest : List ℕ) (s : FieldSays) → Fits rest s → PutFits fuses rest s (afterField fuses p at s .misplaced)
+put-fits fuses p at rest (says.Count n) f = tt
+put-fits fuses p at rest (says.Start x) f = f
+put-fits fuses p at rest (says.List first skip number) f =
+    λ m. record { list = f; room = list-room fuses (p .end) at first number (p .misplaced) m }
+put-fits fuses p at rest (says.Sum x) f = tt
+put-fits fuses p at rest says.Skipped f = tt
+put-fits fuses p at rest says.Bad f = tt
+
+none-listed : (lists : List Listed) → hasAny lists ≡ false → lists ≡ []
+none-listed [] e = refl
+none-listed (l ∷ lists) e = let z : _≡_ {A = ℕ} 0 1 = cc in absurd (omega arith)
+
+any-listed : (lists : List Listed) (l : Listed) → true ≡ hasAny (lists ++ (l ∷ []))
+any-listed [] l = refl
+any-listed (a ∷ lists) l = refl
+
+nothing-seen : (s : Seen) → seenOf s ≡ none → s ≡ seen.Nothing
+nothing-seen seen.Nothing e = refl
+nothing-seen (seen.Number x) e = let z : _≡_ {A = ℕ} 0 1 = cc in absurd (omega arith)
+
+-- one L field more
+module _ (fuses : ℕ) (lists : List Listed) (l : Listed) where
+  faulty-after : (s : Seen) (end : ℕ) → end ≡ lastEnd 0 lists → seenOf s ≡ misplaced fuses 0 lists
+      → seenOf (misplacedAfter fuses s end (l .at) (l .first) (length (l .states))) ≡ misplaced fuses 0 (lists ++ (l ∷ []))
+  faulty-after (seen.Number x) end e f = sym (still-misplaced fuses l 0 lists x (sym f))
+  faulty-after seen.Nothing end e f = rw e (go (ltb (l .first) (lastEnd 0 lists) || ltb fuses (endOf l))) ∙ sym (now-misplaced fuses l 0 lists (sym f))
+    where
+      go : (t : Bool) → seenOf (cond t (seen.Number (l .at)) seen.Nothing) ≡ cond t (some (l .at)) none
+      go true = refl
+      go false = refl
+
+  none-before : misplaced fuses 0 (lists ++ (l ∷ [])) ≡ none → misplaced fuses 0 lists ≡ none
+  none-before e = go (misplaced fuses 0 lists) refl
+    where
+      go : (o : Option ℕ) → misplaced fuses 0 lists ≡ o → o ≡ none
+      go none f = refl
+      go (some x) f = let bad : some x ≡ none = sym (still-misplaced fuses l 0 lists x f) ∙ e in let z : _≡_ {A = ℕ} 0 1 = cc in absurd (omega arith)
+
+module _ (fuses : ℕ) (p : Progress) (k : Known) (image rest : List ℕ) (at : ℕ) (g : Given fuses p k image) where
+  abbrev After : FieldSays → Type 0
+  After s = Given fuses (afterField fuses p at s) (after k at (judgedAfter rest s)) (putField fuses rest s (afterField fuses p at s .misplaced) image)
+
+  start-after : (x : ℕ) → x < 2 → inOrder k (judgedAfter rest (says.Start x)) ≡ true → After (says.Start x)
+  start-after x f e =
+      let last : not (hasAny (k .lists)) ≡ true = and-iff (has (k .count) && not (has (k .start))) (not (hasAny (k .lists))) .0 e .1 in
+      let empty : k .lists ≡ [] = none-listed (k .lists) (not-true (hasAny (k .lists)) last) in
+      record {
+        count = g .count;
+        start = refl;
+        listed = g .listed;
+        end = g .end;
+        faulty = g .faulty;
+        sum = g .sum;
+        bits = λ m. rw empty (start-holds fuses x f .bits);
+        holds = λ m. rw empty;
+      }
+
+  list-after : (first skip number : ℕ) → ListFits rest skip number → After (says.List first skip number)
+  list-after first skip number f =
+      let l : Listed = record { at = at; first = first; states = statesOf (drop skip rest) } in
+      let faulty : seenOf (misplacedAfter fuses (p .misplaced) (p .end) at first number) ≡ misplaced fuses 0 (k .lists ++ (l ∷ [])) =
+      rw (← f .many) (faulty-after fuses (k .lists) l (p .misplaced) (p .end) (g .end) (g .faulty)) in
+      let held : misplaced fuses 0 (k .lists ++ (l ∷ [])) ≡ none → Holds fuses (startState (k .start)) (k .lists ++ (l ∷ [])) (withStates image first (statesOf (drop skip rest))) =
+      λ m.
+      let before : misplaced fuses 0 (k .lists) ≡ none = none-before fuses (k .lists) l m in
+      put-listed fuses (startState (k .start)) (k .lists) l image (record { is = g .holds before; bits = g .bits before }) (written-bits (drop skip rest) (f .found)) m before in
+      record {
+        count = g .count;
+        start = g .start;
+        listed = any-listed (k .lists) l;
+        end = rw (← f .many) (sym (last-more fuses l 0 (k .lists)));
+        faulty = faulty;
+        sum = g .sum;
+        bits = λ m. held m .bits;
+        holds = λ m. rw (nothing-seen (misplacedAfter fuses (p .misplaced) (p .end) at first number) (faulty ∙ m)) (held m .is);
+      }
+
+  pub given-after : (s : FieldSays) → Fits rest s → inOrder k (judgedAfter rest s) ≡ true → After s
+  given-after (says.Count n) f e =
+      record { count = refl; start = g .start; listed = g .listed; end = g .end; faulty = g .faulty; sum = g .sum; bits = g .bits; holds = g .holds }
+  given-after (says.Start x) f e = start-after x f e
+  given-after (says.List first skip number) f e = list-after first skip number f
+  given-after (says.Sum x) f e =
+      record { count = g .count; start = g .start; listed = g .listed; end = g .end; faulty = g .faulty; sum = refl; bits = g .bits; holds = g .holds }
+  given-after says.Skipped f e = g
+  given-after says.Bad f e = g
+
+-- the image keeps its length
+put-states-length : (states image : List ℕ) (fuse : ℕ) → length (withStates image fuse states) ≡ length image
+unfolding withStates withState withBit
+put-states-length [] image fuse = refl
+put-states-length (s ∷ states) image fuse =
+    put-states-length states (withState image fuse s) (fuse + 1) ∙ length-set image (fuse / 8) _
+
+pub put-length : (fuses : ℕ) (rest : List ℕ) (s : FieldSays) (m : Seen) (image : List ℕ) → length image ≡ (fuses + 7) / 8
+    → length (putField fuses rest s m image) ≡ length image
+put-length fuses rest (says.Count n) m image e = refl
+put-length fuses rest (says.Start x) m image e = image-length fuses (stateGiven x []) ∙ sym e
+put-length fuses rest (says.List first skip number) seen.Nothing image e = put-states-length (statesOf (drop skip rest)) image first
+put-length fuses rest (says.List first skip number) (seen.Number x) image e = refl
+put-length fuses rest (says.Sum x) m image e = refl
+put-length fuses rest says.Skipped m image e = refl
+put-length fuses rest says.Bad m image e = refl

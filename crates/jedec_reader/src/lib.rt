@@ -1,0 +1,26 @@
+// Text to image: the JEDEC reader.
+// The definition stands in specs/Reader.antt, on top of what a text means in crate `jedec`.
+ghost use Rattle.readout.specs.Readout.{doneOutcome, Written};
+ghost use Rattle.jedec_reader.specs.Reader.{toImageFromText, imageIn};
+use part::Device;
+use part::Refusal;
+use readout::DoneAnswer;
+
+pub mod internal;
+
+// The image that a text describes, put into `image`. Refused: 1, 2, 7 to 11. The image is made beside, in room for the largest, since a
+// refusal changes no byte.
+pub fn text_to_image(d: Device, text: &[u8], image: &mut [u8]) -> DoneAnswer
+    ensures { λ r. ⌜ Written (toImageFromText d (now (text .entry)) (now (image .entry))) (doneOutcome r) (imageIn d (now (text .entry))) (now (image .entry)) (now (image .exit)) ⌝ }
+{
+    if !part::is_known(d) {
+        return DoneAnswer::Refused(Refusal::UnknownDevice);
+    }
+    let bytes = part::internal::image_bytes(d) as usize;
+    if image.len() != bytes {
+        return DoneAnswer::Refused(Refusal::WrongLength);
+    }
+    let fuses = part::internal::fuse_count(d);
+    let mut made = internal::largest_image();
+    internal::read_beside(fuses, text, &mut made[..bytes], image)
+}
