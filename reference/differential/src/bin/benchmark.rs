@@ -59,6 +59,7 @@ fn rows() -> Vec<Row> {
     rows.extend(of_two_and_sixteen(read_usercode_in_readout));
     rows.extend(of_two_and_sixteen(set_usercode_in_readout));
     rows.extend(of_two_and_sixteen(image_to_text));
+    rows.extend(of_two_and_sixteen(text_to_image));
     rows
 }
 
@@ -142,6 +143,18 @@ fn image_to_text(device: Device) -> Row {
     )
 }
 
+fn text_to_image(device: Device) -> Row {
+    whole_part(
+        "text to image",
+        device,
+        random_text(device),
+        random_image(device).len(),
+        library::xc9500_text_to_image,
+        |device, text, image| reference::text_to_image(device, text, image).map(|()| 0),
+        |device, text, image| optimised_text::text_to_image(device, text, image).map(|()| 0),
+    )
+}
+
 fn random_image(device: Device) -> Vec<u8> {
     let length = reference::image_bytes(device).expect("the device is known");
     Random::new(0x9500_1000).bytes(length)
@@ -153,6 +166,14 @@ fn random_readout(device: Device) -> Vec<u8> {
     reference::image_to_readout(device, &random_image(device), &mut readout)
         .expect("the lengths are right");
     readout
+}
+
+/// The text of that image.
+fn random_text(device: Device) -> Vec<u8> {
+    let mut text = vec![0; reference::text_bytes(device).expect("the device is known")];
+    reference::image_to_text(device, &random_image(device), &mut text)
+        .expect("the lengths are right");
+    text
 }
 
 const READ_IN_IMAGE: [Edit; 3] = [
