@@ -2,3 +2,4 @@
 -- Assumes nothing.
 pub mod Steps
 pub mod Ends
+pub mod Laws
