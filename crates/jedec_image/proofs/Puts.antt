@@ -1,5 +1,5 @@
 -- Laws of putting states into an image a byte at a time:
---   states-blank, states-solid   the first byte of some that write states; low-blank, high-solid: which of the two it is
+--   states-blank, states-solid   the first byte of some that write states
 --   pending                      an image whose byte has new low bits that are not stored yet; put-next, put-stored: one state more
 use mathlib.Core.Path.{_≡_, refl, sym, _∙_, ap, ap₂}
 use mathlib.Core.Bool.{Bool, true, false, cond, _||_}
@@ -53,30 +53,6 @@ states-solid b bytes w e = go (eqb b 48 || eqb b 49) refl (statesIn bytes) refl 
         (λ q. let v : b ≡ 48 = eqb-true b 48 q in (omega arith, omega arith))
         (λ q. let v : b ≡ 49 = eqb-true b 49 q in (omega arith, omega arith)) in
         record { low = is .0; bit = is .1; first = rw (e, s, f); rest = rw f }
-
--- of bytes that write states, those below 48 are the blanks
-blank-low : (b : ℕ) → isBlank b ≡ true → b < 48
-blank-low b h =
-    either (eqb b 32 || eqb b 9 || eqb b 13) (eqb b 10) h
-    (λ h3. either (eqb b 32 || eqb b 9) (eqb b 13) h3 (λ h2. either (eqb b 32) (eqb b 9) h2 (is 32 (omega arith)) (is 9 (omega arith))) (is 13 (omega arith)))
-    (is 10 (omega arith))
-  where
-    is : (k : ℕ) → k < 48 → eqb b k ≡ true → b < 48
-    is k l e = omega (arith, eqb-true b k e)
-
-pub low-blank : (b : ℕ) (bytes : List ℕ) → Written (b ∷ bytes) → b < 48 → isBlank b ≡ true
-low-blank b bytes w l = go (isBlank b) refl
-  where
-    go : (t : Bool) → isBlank b ≡ t → t ≡ true
-    go true e = refl
-    go false e = absurd (omega (arith, states-solid b bytes w e .low))
-
-pub high-solid : (b : ℕ) → 48 ≤ b → isBlank b ≡ false
-high-solid b l = go (isBlank b) refl
-  where
-    go : (t : Bool) → isBlank b ≡ t → t ≡ false
-    go true e = absurd (omega (arith, blank-low b e))
-    go false e = refl
 
 -- an image whose byte has new low bits that are not stored yet
 unfoldable pub pending : (image : List ℕ) → (index bit low : ℕ) → List ℕ

@@ -10,6 +10,7 @@ ghost use Rattle.jedec.specs.Rules.{stateGiven, imageWith};
 ghost use Rattle.jedec_fields.specs.Fields.{statesOf};
 ghost use Rattle.jedec_image.specs.States.{withStates};
 use cells::internal::low_bits;
+use jedec::is_blank;
 
 // A byte of which the lowest bits have a state, and the others are 0.
 fn byte_of(state: u32, bits: u32) -> u8
@@ -37,7 +38,7 @@ pub fn fill(image: &mut [u8], fuses: u32, state: u32)
 }
 
 // The states that some bytes write, put in place from a fuse on. A byte of the image is stored when its last bit is known, and at the
-// end; until then its new low bits stand in `low`. Of bytes that write states, those below 48 are the blanks.
+// end; until then its new low bits stand in `low`.
 pub fn put_states(bytes: &[u8], image: &mut [u8], fuse: usize)
     requires { ⌜ (statesIn (now bytes) ≡ some (statesOf (now bytes))) × (0 < length (statesOf (now bytes))) × (fuse + length (statesOf (now bytes)) ≤ length (now image) * 8) ⌝ }
     ensures { λ _. ⌜ now (image .exit) ≡ withStates (now (image .entry)) fuse (statesOf (now (bytes .entry))) ⌝ }
@@ -49,7 +50,7 @@ pub fn put_states(bytes: &[u8], image: &mut [u8], fuse: usize)
     while i < bytes.len() {
         let b = bytes[i];
         i += 1;
-        if b < 48 {
+        if is_blank(b) {
             continue;
         }
         low += ((b - 48) as u64) << bit;

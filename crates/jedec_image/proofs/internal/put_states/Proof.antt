@@ -1,6 +1,7 @@
 -- `put_states` meets its contract: what is stored, with the new low bits of one byte, and the states still to come.
 -- Assumes nothing.
 use mathlib.Core.Path.{_≡_, refl, sym, _∙_, ap}
+use mathlib.Core.Bool.{Bool, true, false}
 use mathlib.Core.List.{List, [], _∷_}
 use mathlib.Core.Option.Option.{some}
 use Prim.Native.Nat.{ℕ, zero, suc, _+_, _*_, _-_, _/_, _%_, _^_, _≤_, _<_}
@@ -13,10 +14,11 @@ use lib.Pow.{pow-pos, pow-add, pow-mono, shl-exact, shr-lt}
 use lib.Seq.{drop-cons}
 use mir.Syntax.{w8}
 use mir.Val.{Fits}
+use Rattle.jedec.specs.Characters.{isBlank}
 use Rattle.jedec.specs.Judge.{statesIn}
 use Rattle.jedec_fields.specs.Fields.{statesOf}
 use Rattle.jedec_image.specs.States.{withState, withStates}
-use Rattle.jedec_image.proofs.Puts.{Written, states-blank, Solid, states-solid, low-blank, high-solid, none-written, pending, pending-none, pending-own, put-next, under-next, put-stored}
+use Rattle.jedec_image.proofs.Puts.{Written, states-blank, Solid, states-solid, none-written, pending, pending-none, pending-own, put-next, under-next, put-stored}
 use borrow.Author.Needs.{needs}
 use Rattle.jedec_image.proofs.internal.put_states.Statement.{statement}
 use Rattle.jedec_image.proofs.internal.put_states.Tie as tie
@@ -67,16 +69,16 @@ module _ (bytes image₀ : List ℕ) (fuse : ℕ) (image : List ℕ) (index bit 
   octet-wide : getD image index 0 < 2 ^ 64
   octet-wide = byte-wide image index (r .octets)
 
-  module _ (l : i < length bytes) where
+  module _ (l : i < length bytes) (t : Bool) (e : t ≡ isBlank (getD bytes i 0)) where
     here : Written (getD bytes i 0 ∷ drop (i + 1) bytes)
     here = rw (add-one i) (rw (drop-cons bytes i 0 l) at (r .left))
 
     cut : drop i bytes ≡ getD bytes i 0 ∷ drop (i + 1) bytes
     cut = rw (add-one i) (drop-cons bytes i 0 l)
 
-    blank-passed : getD bytes i 0 < 48 → Puts bytes image₀ fuse image index bit low (i + 1)
+    blank-passed : t ≡ true → Puts bytes image₀ fuse image index bit low (i + 1)
     blank-passed h =
-        let p = states-blank (getD bytes i 0) (drop (i + 1) bytes) here (low-blank (getD bytes i 0) (drop (i + 1) bytes) here h) in
+        let p = states-blank (getD bytes i 0) (drop (i + 1) bytes) here (sym e ∙ h) in
         let gone : statesOf (drop i bytes) ≡ statesOf (drop (i + 1) bytes) = ap statesOf cut ∙ p .0 in
         record {
           upto = omega arith;
@@ -89,9 +91,12 @@ module _ (bytes image₀ : List ℕ) (fuse : ℕ) (image : List ℕ) (index bit 
           so-far = rw (← gone) (r .so-far);
         }
 
-    module _ (h : 48 ≤ getD bytes i 0) where
+    module _ (h : t ≡ false) where
       solid : Solid (getD bytes i 0) (drop (i + 1) bytes) here
-      solid = states-solid (getD bytes i 0) (drop (i + 1) bytes) here (high-solid (getD bytes i 0) h)
+      solid = states-solid (getD bytes i 0) (drop (i + 1) bytes) here (sym e ∙ h)
+
+      digit : 48 ≤ getD bytes i 0
+      digit = solid .low
 
       digit-wide : getD bytes i 0 - 48 < 2 ^ 64
       digit-wide = omega (arith, solid .bit)
@@ -221,11 +226,17 @@ shared-slice-read-b c = search needs
 add-i : tie.Need-add-i Inv-loop μ-loop
 add-i c = search needs
 
+is-blank-requires : tie.Need-is-blank-requires Inv-loop μ-loop
+is-blank-requires c κs = search needs
+
 loop-less : tie.Need-loop-less Inv-loop μ-loop
 loop-less c = search needs
 
 loop-again : tie.Need-loop-again Inv-loop μ-loop
 loop-again c = search (needs, blank-passed)
+
+sub-low : tie.Need-sub-low Inv-loop μ-loop
+sub-low c = search (needs, digit)
 
 cast-low : tie.Need-cast-low Inv-loop μ-loop
 cast-low c = record { fits = search (needs, digit-wide) }
@@ -315,8 +326,10 @@ put-states-spec =
     loop-holds
     shared-slice-read-b
     add-i
+    is-blank-requires
     loop-less
     loop-again
+    sub-low
     cast-low
     cast-low-2
     shl-low
