@@ -4,18 +4,18 @@
 --   blanks-skipped              blanks before a field do not change the fields
 --   at-etx, at-field, at-none   what stands at the first byte that is no blank
 use mathlib.Core.Path.{_≡_, refl, sym, _∙_, ap}
-use mathlib.Core.Bool.{Bool, true, false, cond, true≢false}
+use mathlib.Core.Bool.{Bool, true, false, true≢false}
 use mathlib.Core.List.{List, [], _∷_}
 use mathlib.Core.Option.Option.{none, some}
 use Prim.Native.Nat.{ℕ, zero, suc, _+_, _-_, _≤_, _<_}
 use native.Mathlib.Omega.{arith}
-use native.Mathlib.Nat.{add-zero, le-refl, not-suc-le-zero, le-of-suc-le-suc}
+use native.Mathlib.Nat.{add-zero, le-refl, not-suc-le-zero}
 use lib.Dec.{eqb}
 use lib.ListN.{length, take, drop, length-drop}
 use lib.Seq.{take-all, length-take-le}
-use borrow.Author.Tests.{eqb-true, ne-eqb}
+use borrow.Author.Tests.{ne-eqb}
 use Rattle.jedec.specs.Characters.{etx, star, isBlank}
-use Rattle.jedec.specs.Cut.{Pieces, onFirst, pieces, blanksBefore, Cut, startsWith, orEnd, fieldsFrom}
+use Rattle.jedec.specs.Cut.{onFirst, pieces, blanksBefore, Cut, startsWith, orEnd, fieldsFrom}
 use Rattle.jedec_fields.specs.Fields.{untilStar, fieldsAt}
 
 -- what a slice from an offset on holds

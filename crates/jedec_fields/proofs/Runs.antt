@@ -9,7 +9,7 @@ use mathlib.Core.Bool.{Bool, true, false, cond, not, _&&_, _||_, or-assoc, or-fa
 use mathlib.Core.List.{List, [], _∷_}
 use mathlib.Core.Option.{Option}
 use mathlib.Core.Option.Option.{none, some}
-use Prim.Native.Nat.{ℕ, zero, suc, _+_, _*_, _-_, _^_, _≤_, _<_}
+use Prim.Native.Nat.{ℕ, suc, _+_, _*_, _-_, _^_, _≤_, _<_}
 use native.Mathlib.Omega.{arith}
 use native.Mathlib.Nat.{pow-zero, pow-suc, pow-le-pow-right, add-zero, zero-add, lt-of-lt-of-le}
 use native.Mathlib.Numerals.{add-one}
@@ -19,7 +19,7 @@ use lib.ListN.{length, getD, drop, drop-of-length-le}
 use lib.Seq.{drop-cons}
 use borrow.Author.Tests.{eqb-true, eq-eqb, ne-eqb, leb-true, not-true, not-false}
 use Rattle.part.proofs.Facts.{either}
-use Rattle.jedec.specs.Characters.{isBlank, isMark, between, decimalValue, hexValue, andThen, digitsRead, numberIn, sumIn}
+use Rattle.jedec.specs.Characters.{isBlank, isMark, between, decimalValue, hexValue, andThen, digitsRead}
 use Rattle.jedec.specs.Cut.{holdsMark, blanksBefore, Tail, tailFrom}
 use Rattle.jedec.specs.Cut.Tail.{given, wrong}
 use Rattle.jedec.specs.Judge.{unbroken, before, statesIn}

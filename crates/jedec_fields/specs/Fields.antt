@@ -1,6 +1,6 @@
 -- What the answers about fields say, in the terms of crate `jedec`: numbers, a judged field, where the next field stands, what follows ETX.
 -- A field is judged without a list of its states: they are read off its bytes.
-use Prim.Native.Nat.{ℕ, suc, _+_, _-_, _^_, _≤_, _<_}
+use Prim.Native.Nat.{ℕ, suc, _+_, _-_, _≤_, _<_}
 use mathlib.Core.Path.{_≡_}
 use mathlib.Core.Bool.{cond}
 use mathlib.Core.List.{List, [], _∷_}
@@ -9,7 +9,7 @@ use mathlib.Core.Option.Option.{none, some}
 use lib.Dec.{eqb}
 use lib.ListN.{length, take, drop}
 use Rattle.jedec.specs.Characters.{star}
-use Rattle.jedec.specs.Cut.{Pieces, pieces, Cut, fieldsFrom, Tail}
+use Rattle.jedec.specs.Cut.{pieces, Cut, fieldsFrom, Tail}
 use Rattle.jedec.specs.Cut.Tail.{given, wrong}
 use Rattle.jedec.specs.Judge.{Judged, statesIn}
 use Rattle.jedec.specs.Judge.Judged.{count, start, list, sum, skipped, bad}

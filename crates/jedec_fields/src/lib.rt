@@ -9,7 +9,7 @@ ghost use Rattle.jedec.specs.Characters.{isMark, decimalValue, hexValue, number
 ghost use Rattle.jedec.specs.Cut.{holdsMark};
 ghost use Rattle.jedec.specs.Judge.Judged.{sum};
 ghost use Rattle.jedec.specs.Judge.{orBad, unbroken, statesIn, startIn, listIn, afterQ, byLetters};
-ghost use Rattle.jedec_fields.specs.Fields.{valueOr, numberOf, countOf, countIn, judgedAfter, Says};
+ghost use Rattle.jedec_fields.specs.Fields.{valueOr, numberOf, countOf, countIn, Says};
 use jedec::is_blank;
 
 pub mod internal;

@@ -3,15 +3,13 @@
 --   start-byte                     a byte of the image of a start state
 --   put-states                     states put in place change the states of those fuses alone
 --   put-listed                     an L field after the L fields before it
-use mathlib.Core.Path.{_≡_, refl, sym, _∙_, ap, ap₂}
-use mathlib.Core.Logic.{_≢_}
+use mathlib.Core.Path.{_≡_, refl, sym, _∙_, ap}
 use mathlib.Core.Bool.{Bool, true, false, cond, _&&_, _||_}
 use mathlib.Core.List.{List, [], _∷_, _++_}
-use mathlib.Core.Option.{Option}
 use mathlib.Core.Option.Option.{none, some}
 use Prim.Native.Nat.{ℕ, zero, suc, _+_, _*_, _-_, _/_, _%_, _^_, _≤_, _<_}
 use native.Mathlib.Omega.{arith}
-use native.Mathlib.Nat.{mod-eq-of-lt, mul-add, mul-zero, zero-mul, add-zero, two-pow-succ, not-suc-le-zero}
+use native.Mathlib.Nat.{mod-eq-of-lt, mul-add, mul-zero, zero-mul, add-zero, two-pow-succ}
 use native.Mathlib.Decide.{ℕ-discrete}
 use lib.Dec.{eqb, ltb, leb}
 use lib.ListN.{length, getD, set, length-set}
@@ -19,7 +17,7 @@ use lib.Pow.{pow-pos}
 use lib.Seq.{ext-getD, getD-set-same, getD-set-other}
 use borrow.Author.Tests.{lt-ltb, le-ltb, le-leb, lt-leb, eq-eqb, ne-eqb}
 use Rattle.part.proofs.Facts.{compared}
-use Rattle.image.specs.Bits.{bitOf, putBit, withBit, gathered, tabulate}
+use Rattle.image.specs.Bits.{bitOf, putBit, withBit, gathered}
 use Rattle.image.proofs.Bits.{put-same, put-other, put-small, gathered-small, gathered-bit, gathered-same, gathered-own, tabulate-length, tabulate-at}
 use Rattle.jedec.specs.Rules.{Listed, endOf, misplaced, stateGiven, within, imageWith}
 use Rattle.jedec_image.specs.States.{withState, withStates, lastEnd}

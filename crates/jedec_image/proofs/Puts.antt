@@ -1,19 +1,19 @@
 -- Laws of putting states into an image a byte at a time:
 --   states-blank, states-solid   the first byte of some that write states
 --   pending                      an image whose byte has new low bits that are not stored yet; put-next, put-stored: one state more
-use mathlib.Core.Path.{_≡_, refl, sym, _∙_, ap, ap₂}
+use mathlib.Core.Path.{_≡_, refl, sym, _∙_, ap}
 use mathlib.Core.Bool.{Bool, true, false, cond, _||_}
 use mathlib.Core.List.{List, [], _∷_}
 use mathlib.Core.Option.{Option}
 use mathlib.Core.Option.Option.{none, some}
 use Prim.Native.Nat.{ℕ, zero, suc, _+_, _*_, _-_, _/_, _%_, _^_, _≤_, _<_}
 use native.Mathlib.Omega.{arith}
-use native.Mathlib.Nat.{add-mul, mul-assoc, mul-comm, pow-suc, add-assoc, add-comm, add-zero, div-one, mul-one, div-eq-of-lt, zero-mul, zero-add}
+use native.Mathlib.Nat.{add-mul, mul-assoc, mul-comm, pow-suc, add-comm, add-zero, div-one, mul-one, div-eq-of-lt, zero-add}
 use native.Mathlib.Numerals.{add-one}
 use lib.Arith.{digits-div, digits-mod, digits-lt}
 use lib.Dec.{eqb}
-use lib.ListN.{length, getD, set, drop}
-use lib.Pow.{split, high, low, shr-shr, shl-lt}
+use lib.ListN.{length, getD, set}
+use lib.Pow.{split, high, low, shr-shr}
 use lib.Seq.{set-getD, set-set, getD-set-same}
 use borrow.Author.Tests.{eqb-true}
 use Rattle.part.proofs.Facts.{either}
@@ -21,7 +21,7 @@ use Rattle.image.specs.Bits.{putBit, withBit}
 use Rattle.jedec.specs.Characters.{isBlank, andThen}
 use Rattle.jedec.specs.Judge.{before, statesIn}
 use Rattle.jedec_fields.specs.Fields.{orEmpty, statesOf}
-use Rattle.jedec_image.specs.States.{withState, withStates}
+use Rattle.jedec_image.specs.States.{withState}
 
 -- bytes that write states, all of them
 abbrev pub Written : List ℕ → Type 0

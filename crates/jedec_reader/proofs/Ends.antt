@@ -1,17 +1,15 @@
 -- Laws of the end of a text: what the reader answers is what the text means.
 --   refused-reads       a refusal; no image is asked for
 --   eight, nine, ten, eleven, nothing-wrong     a text of good form
-use mathlib.Core.Path.{_≡_, refl, sym, _∙_, ap}
+use mathlib.Core.Path.{_≡_, sym, _∙_, ap}
 use mathlib.Core.List.{List}
-use mathlib.Core.Option.{Option}
 use mathlib.Core.Option.Option.{none, some}
 use Prim.Native.Nat.{ℕ}
 use native.Mathlib.Omega.{arith}
 use Rattle.part.specs.Outcome.{Outcome}
 use Rattle.part.specs.Outcome.Outcome.{accepted, refused}
 use Rattle.jedec.specs.Rules.{Known, wrongCount, misplaced, finished}
-use Rattle.jedec.specs.Meaning.{unless, wrongSum, wrongTransmission, concluded}
-use Rattle.jedec_reader.specs.Reader.{verdict, resultOf}
+use Rattle.jedec.specs.Meaning.{wrongSum, wrongTransmission, concluded}
 use Rattle.jedec_reader.specs.Progress.{notedOf, seenOf, Given, Reads}
 use Rattle.jedec_reader.specs.declared.internal.Seen.{Seen}
 use Rattle.jedec_reader.specs.declared.internal.Seen.the-variants as seen

@@ -2,7 +2,7 @@
 --   in-order       what the reader knows says which field may stand
 --   put-fits       what a field puts into the image has room
 --   given-after    what is known after a field, and the image it is put into, are what the fields gave
-use mathlib.Core.Path.{_≡_, refl, sym, _∙_, ap}
+use mathlib.Core.Path.{_≡_, refl, sym, _∙_}
 use mathlib.Core.Bool.{Bool, true, false, cond, not, _&&_, _||_, or-true}
 use mathlib.Core.List.{List, [], _∷_, _++_}
 use mathlib.Core.Option.{Option}
@@ -14,14 +14,14 @@ use lib.ListN.{length, drop, length-set}
 use borrow.Author.Tests.{lt-ltb, not-true}
 use Rattle.part.proofs.Facts.{compared, and-iff}
 use Rattle.image.specs.Bits.{withBit}
-use Rattle.jedec.specs.Rules.{Listed, Known, has, hasAny, inOrder, after, endOf, misplaced, startState, stateGiven, imageWith}
+use Rattle.jedec.specs.Rules.{Listed, Known, has, hasAny, inOrder, after, endOf, misplaced, startState, stateGiven}
 use Rattle.jedec_fields.specs.Fields.{statesOf, judgedAfter, ListFits, Fits}
 use Rattle.jedec_fields.specs.declared.FieldSays.{FieldSays}
 use Rattle.jedec_fields.specs.declared.FieldSays.the-variants as says
 use Rattle.jedec_image.specs.States.{withState, withStates, lastEnd}
 use Rattle.jedec_image.proofs.Puts.{written-bits}
 use Rattle.jedec_image.proofs.Images.{image-length, Holds, start-holds, put-listed, last-more, still-misplaced, now-misplaced}
-use Rattle.jedec_reader.specs.Progress.{notedOf, seenOf, mayStand, misplacedAfter, afterField, putList, putField, ListGoes, PutFits, Given}
+use Rattle.jedec_reader.specs.Progress.{seenOf, mayStand, misplacedAfter, afterField, putField, PutFits, Given}
 use Rattle.jedec_reader.specs.declared.internal.Seen.{Seen}
 use Rattle.jedec_reader.specs.declared.internal.Seen.the-variants as seen
 use Rattle.jedec_reader.specs.declared.internal.Progress.{Progress}

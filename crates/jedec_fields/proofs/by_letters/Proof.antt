@@ -11,7 +11,7 @@ use borrow.Author.Tests.{eq-eqb, ne-eqb}
 use Rattle.jedec.specs.Characters.{sumIn}
 use Rattle.jedec.specs.Judge.{Judged, orBad, startIn, listIn, afterQ, byLetters}
 use Rattle.jedec.specs.Judge.Judged.{sum}
-use Rattle.jedec_fields.specs.Fields.{judgedAfter, Says}
+use Rattle.jedec_fields.specs.Fields.{Says}
 use Rattle.jedec_fields.specs.declared.FieldSays.{FieldSays}
 use Rattle.jedec_fields.specs.declared.FieldSays.the-variants.{Skipped, Bad}
 use Rattle.jedec_fields.proofs.Fields.{rest-whole}

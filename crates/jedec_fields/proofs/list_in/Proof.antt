@@ -5,13 +5,12 @@ use mathlib.Core.List.{List, [], _∷_}
 use mathlib.Core.Option.{Option}
 use mathlib.Core.Option.Option.{none, some}
 use Prim.Native.Nat.{ℕ, _-_, _≤_}
-use native.Mathlib.Nat.{le-trans}
 use native.Mathlib.Omega.{arith}
 use lib.ListN.{length, take, drop, length-drop}
 use lib.Seq.{length-take-le}
 use Rattle.jedec.specs.Characters.{numberIn}
 use Rattle.jedec.specs.Judge.{Judged, unbroken, statesIn, statesFrom, listIn}
-use Rattle.jedec_fields.specs.Fields.{numberOf, countOf, countIn, orEmpty, statesOf, judgedAfter, ListFits, Says}
+use Rattle.jedec_fields.specs.Fields.{numberOf, countOf, countIn, orEmpty, statesOf, Says}
 use Rattle.jedec_fields.specs.declared.FieldSays.the-variants.{List as ListAt, Bad}
 use Rattle.jedec_fields.specs.declared.Digits.{Digits}
 use Rattle.jedec_fields.specs.declared.Digits.the-variants.{Number, Wrong}

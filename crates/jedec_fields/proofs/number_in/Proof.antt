@@ -1,14 +1,12 @@
 -- `number_in` meets its contract: the number that the digits so far wrote, and the digits still to come.
 -- Assumes nothing.
-use mathlib.Core.Path.{_≡_, sym, _∙_}
-use mathlib.Core.Bool.{cond, _&&_}
+use mathlib.Core.Path.{_≡_, _∙_}
 use mathlib.Core.List.{List}
-use mathlib.Core.Option.{Option}
 use mathlib.Core.Option.Option.{none, some}
 use Prim.Native.Nat.{ℕ, _+_, _*_, _-_, _^_, _≤_, _<_}
 use native.Mathlib.Omega.{arith}
 use lib.ListN.{length, getD}
-use borrow.Author.Tests.{le-leb, lt-leb, eq-eqb, ne-eqb}
+use borrow.Author.Tests.{le-leb, lt-leb}
 use Rattle.jedec.specs.Characters.{decimalValue, digitsRead, numberIn}
 use Rattle.jedec_fields.specs.Fields.{valueOr}
 use Rattle.jedec_fields.proofs.Runs.{decimal-digit, Reading, reading-starts, reading-goes, reading-stops, reading-ends, reading-small}

@@ -1,9 +1,9 @@
 -- `states_in` meets its contract: the states counted so far, and those still to come.
 -- Assumes nothing.
-use mathlib.Core.Path.{_≡_, refl}
-use Prim.Native.Nat.{ℕ, _+_, _-_, _≤_, _<_}
+use mathlib.Core.Path.{_≡_}
+use Prim.Native.Nat.{_-_, _≤_}
 use native.Mathlib.Omega.{arith}
-use lib.ListN.{length, drop}
+use lib.ListN.{length}
 use Rattle.jedec.specs.Judge.{statesIn}
 use Rattle.jedec_fields.specs.Fields.{countOf}
 use Rattle.jedec_fields.proofs.Runs.{counted, states-start, states-again, states-end, states-wrong}

@@ -3,13 +3,13 @@
 use mathlib.Core.Path.{_≡_, refl, sym, _∙_, ap}
 use mathlib.Core.Bool.{false}
 use mathlib.Core.List.{List, [], _∷_}
-use mathlib.Core.Option.Option.{none, some}
-use Prim.Native.Nat.{ℕ, suc, _+_, _-_, _≤_, _<_}
+use mathlib.Core.Option.Option.{none}
+use Prim.Native.Nat.{ℕ, suc, _+_, _-_, _≤_}
 use native.Mathlib.Omega.{arith}
-use lib.ListN.{length, getD, take, drop, length-drop, drop-of-length-le}
+use lib.ListN.{length, getD, drop, length-drop, drop-of-length-le}
 use lib.Seq.{drop-cons, drop-drop}
 use Rattle.jedec.specs.Characters.{isBlank}
-use Rattle.jedec.specs.Cut.{pieces, blanksBefore, Cut, fieldsFrom}
+use Rattle.jedec.specs.Cut.{pieces, blanksBefore, fieldsFrom}
 use Rattle.jedec_fields.specs.Fields.{untilStar, fieldsAt, cutOf, Stands}
 use Rattle.jedec_fields.specs.declared.Next.the-variants.{Field, End, Early}
 use Rattle.jedec_fields.proofs.Fields.{blanks-skipped, after-blanks, at-etx, at-none, at-field}

@@ -1,7 +1,7 @@
 -- `skip_blanks` meets its contract: the bytes passed, and the count over those still to come.
 -- Assumes nothing.
 use mathlib.Core.Path.{_≡_, refl}
-use Prim.Native.Nat.{ℕ, _+_, _-_, _≤_, _<_}
+use Prim.Native.Nat.{_+_, _-_, _≤_}
 use native.Mathlib.Omega.{arith}
 use lib.ListN.{length, drop}
 use Rattle.jedec.specs.Cut.{blanksBefore}

@@ -1,6 +1,6 @@
 -- `tail_from` meets its contract: the digits so far, and what is left of the text.
 -- Assumes nothing.
-use mathlib.Core.Path.{_≡_, refl, sym, _∙_, ap}
+use mathlib.Core.Path.{_≡_, refl, _∙_}
 use mathlib.Core.List.{List}
 use Prim.Native.Nat.{ℕ, suc, _+_, _*_, _-_, _^_, _≤_, _<_}
 use native.Mathlib.Nat.{pow-suc, pow-le-pow-right, lt-of-lt-of-le}
@@ -12,7 +12,7 @@ use Rattle.jedec.specs.Cut.{tailFrom}
 use Rattle.jedec_fields.specs.Fields.{valueOr, TailStands}
 use Rattle.jedec_fields.specs.declared.TailSays.{TailSays}
 use Rattle.jedec_fields.specs.declared.TailSays.the-variants.{Wrong}
-use Rattle.jedec_fields.proofs.Runs.{IsDigit, hex-digit, tail-early, tail-wrong, tail-digit}
+use Rattle.jedec_fields.proofs.Runs.{hex-digit, tail-early, tail-wrong, tail-digit}
 use borrow.Author.Needs.{needs}
 use Rattle.jedec_fields.proofs.internal.tail_from.Statement.{statement}
 use Rattle.jedec_fields.proofs.internal.tail_from.Tie as tie

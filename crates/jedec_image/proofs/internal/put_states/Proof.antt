@@ -3,7 +3,6 @@
 use mathlib.Core.Path.{_≡_, refl, sym, _∙_, ap}
 use mathlib.Core.Bool.{Bool, true, false}
 use mathlib.Core.List.{List, [], _∷_}
-use mathlib.Core.Option.Option.{some}
 use Prim.Native.Nat.{ℕ, zero, suc, _+_, _*_, _-_, _/_, _%_, _^_, _≤_, _<_}
 use native.Mathlib.Omega.{arith}
 use native.Mathlib.Nat.{mod-lt, mod-eq-of-lt, div-add-mod'}
@@ -15,9 +14,8 @@ use lib.Seq.{drop-cons}
 use mir.Syntax.{w8}
 use mir.Val.{Fits}
 use Rattle.jedec.specs.Characters.{isBlank}
-use Rattle.jedec.specs.Judge.{statesIn}
 use Rattle.jedec_fields.specs.Fields.{statesOf}
-use Rattle.jedec_image.specs.States.{withState, withStates}
+use Rattle.jedec_image.specs.States.{withStates}
 use Rattle.jedec_image.proofs.Puts.{Written, states-blank, Solid, states-solid, none-written, pending, pending-none, pending-own, put-next, under-next, put-stored}
 use borrow.Author.Needs.{needs}
 use Rattle.jedec_image.proofs.internal.put_states.Statement.{statement}

@@ -8,8 +8,7 @@ use native.Mathlib.Omega.{arith}
 use lib.ListN.{length, drop}
 use Rattle.part.specs.Outcome.{Outcome}
 use Rattle.part.specs.Outcome.Outcome.{refused}
-use Rattle.jedec.specs.Cut.{Tail, tailFrom}
-use Rattle.jedec.specs.Cut.Tail.{given, wrong}
+use Rattle.jedec.specs.Cut.{tailFrom}
 use Rattle.jedec.specs.Rules.{Known}
 use Rattle.jedec.specs.Meaning.{concluded, withEnd}
 use Rattle.jedec_fields.specs.Fields.{tailOf, TailFits, TailStands}

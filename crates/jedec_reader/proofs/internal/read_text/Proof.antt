@@ -12,7 +12,7 @@ use lib.Seq.{take-nil, length-take-le}
 use borrow.Author.Tests.{lt-ltb, le-ltb, eq-eqb, ne-eqb}
 use Rattle.part.specs.Outcome.{Outcome}
 use Rattle.part.specs.Outcome.Outcome.{refused}
-use Rattle.jedec.specs.Cut.{pieces, fieldsFrom, holdsMark}
+use Rattle.jedec.specs.Cut.{pieces, holdsMark}
 use Rattle.jedec.specs.Meaning.{ofCut, ofPieces, meaning}
 use Rattle.jedec_fields.specs.Fields.{untilStar, fieldsAt}
 use Rattle.jedec_fields.proofs.Fields.{Cuts, pieces-star, Uncut, pieces-none}

@@ -2,8 +2,8 @@
 -- Assumes nothing.
 use mathlib.Core.Path.{_≡_, refl, sym, _∙_, ap}
 use mathlib.Core.Bool.{Bool, true, false, not}
-use mathlib.Core.List.{List, [], _∷_}
-use mathlib.Core.Option.Option.{none, some}
+use mathlib.Core.List.{List, []}
+use mathlib.Core.Option.Option.{some}
 use Prim.Native.Nat.{ℕ, _+_, _-_, _/_, _^_, _≤_, _<_}
 use native.Mathlib.Omega.{arith}
 use lib.ListN.{length, take, drop, length-take, length-drop}
@@ -19,10 +19,9 @@ use Rattle.jedec_fields.specs.declared.FieldSays.{FieldSays}
 use Rattle.jedec_fields.specs.declared.FieldSays.the-variants as says
 use Rattle.jedec_fields.specs.declared.Next.{Next}
 use Rattle.jedec_fields.specs.declared.Next.the-variants as next
-use Rattle.jedec_image.specs.States.{withStates, lastEnd}
+use Rattle.jedec_image.specs.States.{lastEnd}
 use Rattle.jedec_image.proofs.Images.{image-length, start-holds}
-use Rattle.jedec_reader.specs.Progress.{mayStand, Few, afterField, putList, putField, PutFits, Given, Reads}
-use Rattle.jedec_reader.specs.declared.internal.Seen.{Seen}
+use Rattle.jedec_reader.specs.Progress.{mayStand, Few, afterField, putField, PutFits, Given, Reads}
 use Rattle.jedec_reader.specs.declared.internal.Seen.the-variants as seen
 use Rattle.jedec_reader.specs.declared.internal.Noted.the-variants as noted
 use Rattle.jedec_reader.specs.declared.internal.Progress.{Progress}
