@@ -7,7 +7,7 @@ use Prim.Native.Nat.{ℕ, _+_, _*_, _-_, _/_, _%_, _^_, _≤_, _<_}
 use native.Mathlib.Omega.{arith}
 use native.Mathlib.Numerals.{add-one}
 use native.Mathlib.Nat.{mod-lt}
-use lib.Bits.{bitAnd, and-le-r}
+use lib.Bits.{bitAnd, and-le-r, and-block}
 use lib.Dec.{eqb}
 use lib.ListN.{length, replicate}
 use lib.Pow.{pow-pos, field, mod-mod-pow}
@@ -115,13 +115,13 @@ module _ (x : ℕ) (h : x < 1000000) where
   no-more : x / 10 / 10 / 10 / 10 / 10 / 10 % 10 ≡ 0
   no-more = omega arith
 
-pub line-start-of : (x : ℕ) → x < 1000000
+divided : (x : ℕ) → x < 1000000
     → (x / 10000 * 0x10000 + (x - x / 10000 * 10000) / 100 * 0x100000000 + (x - x / 10000 * 10000 - (x - x / 10000 * 10000) / 100 * 100) * 0x1000000000000) * 256
     - (x / 10000 / 10 * 0x10000 + (x - x / 10000 * 10000) / 100 / 10 * 0x100000000 + (x - x / 10000 * 10000 - (x - x / 10000 * 10000) / 100 * 100) / 10 * 0x1000000000000) * 2559
     + 0x303030303030304C
     ≡ number (letterL ∷ sevenDigits x)
 unfolding digitsOf
-line-start-of x h =
+divided x h =
     let a = x % 10 in
     let b = x / 10 % 10 in
     let c = x / 10 / 10 % 10 in
@@ -131,6 +131,42 @@ line-start-of x h =
     let tenth : (u v : ℕ) → v < 10 → (u * 10 + v) / 10 ≡ u = λ u v g. omega arith in
     rw (low-digits x h, middle-digits x h, high-digits x h, tenth b a (omega arith), tenth d c (omega arith), tenth f e (omega arith))
     (taken-apart a b c d e f ∙ seven-placed a b c d e f (x / 10 / 10 / 10 / 10 / 10 / 10 % 10) (no-more x h) ∙ sym (number-placed (letterL ∷ sevenDigits x) (start-bytes x)))
+
+-- a tenth of each two, by one product of all
+tenth-right : ℕ → Bool
+tenth-right i = eqb (bitAnd (i * 103) 0x3C00) (i / 10 * 1024)
+
+tenth-all : allBelow tenth-right 100 ≡ true
+unfolding tenth-right
+tenth-all = refl
+
+tenth-of : (x : ℕ) → x < 100 → bitAnd (x * 103) 0x3C00 ≡ x / 10 * 1024
+unfolding tenth-right
+tenth-of x h = eqb-true _ _ (below-all tenth-right 100 tenth-all x h)
+
+tenths : (h m l : ℕ) → h < 100 → m < 100 → l < 100
+    → bitAnd ((h * 0x10000 + m * 0x100000000 + l * 0x1000000000000) * 103) 0x3C003C003C000000 / 2 ^ 10 ≡ h / 10 * 0x10000 + m / 10 * 0x100000000 + l / 10 * 0x1000000000000
+tenths h m l lh lm ll =
+    let apart : (h * 0x10000 + m * 0x100000000 + l * 0x1000000000000) * 103 ≡ ((l * 103 * 2 ^ 16 + m * 103) * 2 ^ 16 + h * 103) * 2 ^ 16 + 0 = omega arith in
+    let each : bitAnd ((h * 0x10000 + m * 0x100000000 + l * 0x1000000000000) * 103) 0x3C003C003C000000 ≡ ((l / 10 * 1024 * 2 ^ 16 + m / 10 * 1024) * 2 ^ 16 + h / 10 * 1024) * 2 ^ 16 + 0 =
+    ap (λ (y : ℕ). bitAnd y 0x3C003C003C000000) apart
+    ∙ and-block 16 ((l * 103 * 2 ^ 16 + m * 103) * 2 ^ 16 + h * 103) 0x3C003C003C00 0 0 (omega arith) (omega arith)
+    ∙ ap (λ (y : ℕ). y * 2 ^ 16 + 0)
+    (and-block 16 (l * 103 * 2 ^ 16 + m * 103) 0x3C003C00 (h * 103) 0x3C00 (omega arith) (omega arith)
+    ∙ ap₂ (λ (y z : ℕ). y * 2 ^ 16 + z) (and-block 16 (l * 103) 0x3C00 (m * 103) 0x3C00 (omega arith) (omega arith) ∙ ap₂ (λ (y z : ℕ). y * 2 ^ 16 + z) (tenth-of l ll) (tenth-of m lm)) (tenth-of h lh)) in
+    rw each (omega arith)
+
+pub tens-of : (x : ℕ) → x < 1000000
+    → bitAnd ((x / 10000 * 0x10000 + (x - x / 10000 * 10000) / 100 * 0x100000000 + (x - x / 10000 * 10000 - (x - x / 10000 * 10000) / 100 * 100) * 0x1000000000000) * 103) 0x3C003C003C000000 / 2 ^ 10
+    ≡ x / 10000 / 10 * 0x10000 + (x - x / 10000 * 10000) / 100 / 10 * 0x100000000 + (x - x / 10000 * 10000 - (x - x / 10000 * 10000) / 100 * 100) / 10 * 0x1000000000000
+tens-of x h = tenths (x / 10000) ((x - x / 10000 * 10000) / 100) (x - x / 10000 * 10000 - (x - x / 10000 * 10000) / 100 * 100) (omega arith) (omega arith) (omega arith)
+
+pub line-start-of : (x : ℕ) → x < 1000000
+    → (x / 10000 * 0x10000 + (x - x / 10000 * 10000) / 100 * 0x100000000 + (x - x / 10000 * 10000 - (x - x / 10000 * 10000) / 100 * 100) * 0x1000000000000) * 256
+    - bitAnd ((x / 10000 * 0x10000 + (x - x / 10000 * 10000) / 100 * 0x100000000 + (x - x / 10000 * 10000 - (x - x / 10000 * 10000) / 100 * 100) * 0x1000000000000) * 103) 0x3C003C003C000000 / 2 ^ 10 * 2559
+    + 0x303030303030304C
+    ≡ number (letterL ∷ sevenDigits x)
+line-start-of x h = rw (tens-of x h) (divided x h)
 
 -- the number of some bytes fits in them
 number-small : (bytes : List ℕ) → number bytes < 2 ^ total (replicate (length bytes) 8)

@@ -82,7 +82,8 @@ fn put_column(word: u64, width: usize, out: &mut [u8], at: usize)
     }
 }
 
-// `L` and the seven digits of a fuse. The digits are taken in twos: t becomes t / 10 and t % 10 by 256 * t - 2559 * (t / 10).
+// `L` and the seven digits of a fuse. The digits are taken in twos: t / 10 is t * 103 / 1024, of all at once;
+// t becomes t / 10 and t % 10 by 256 * t - 2559 * (t / 10).
 fn line_start(fuse: u32) -> u64
     requires { ⌜ fuse < 1000000 ⌝ }
     ensures { λ r. ⌜ r ≡ number (letterL ∷ sevenDigits fuse) ⌝ }
@@ -94,9 +95,7 @@ fn line_start(fuse: u32) -> u64
     let twos = high as u64 * 0x0001_0000
         + middle as u64 * 0x0001_0000_0000
         + low as u64 * 0x0001_0000_0000_0000;
-    let tens = (high / 10) as u64 * 0x0001_0000
-        + (middle / 10) as u64 * 0x0001_0000_0000
-        + (low / 10) as u64 * 0x0001_0000_0000_0000;
+    let tens = ((twos * 103) & 0x3C00_3C00_3C00_0000) >> 10;
     (twos * 256 - tens * 2559) + 0x3030_3030_3030_304C
 }
 

@@ -1,6 +1,7 @@
 -- `line_start` meets its contract: six digits in twos, each two taken apart.
 -- Assumes nothing.
-use Rattle.jedec_writer.proofs.Words.{line-start-of, start-small}
+use native.Mathlib.Omega.{arith}
+use Rattle.jedec_writer.proofs.Words.{line-start-of, tens-of, start-small}
 use borrow.Author.Needs.{needs}
 use Rattle.jedec_writer.proofs.internal.line_start.Statement.{statement}
 use Rattle.jedec_writer.proofs.internal.line_start.Tie as tie
@@ -41,38 +42,17 @@ mul-twos-3 c = search needs
 add-twos-2 : tie.Need-add-twos-2
 add-twos-2 c = search needs
 
-cast-tens : tie.Need-cast-tens
-cast-tens c = search needs
-
 mul-tens : tie.Need-mul-tens
 mul-tens c = search needs
-
-cast-tens-2 : tie.Need-cast-tens-2
-cast-tens-2 c = search needs
-
-mul-tens-2 : tie.Need-mul-tens-2
-mul-tens-2 c = search needs
-
-add-tens : tie.Need-add-tens
-add-tens c = search needs
-
-cast-tens-3 : tie.Need-cast-tens-3
-cast-tens-3 c = search needs
-
-mul-tens-3 : tie.Need-mul-tens-3
-mul-tens-3 c = search needs
-
-add-tens-2 : tie.Need-add-tens-2
-add-tens-2 c = search needs
 
 mul-result : tie.Need-mul-result
 mul-result c = search needs
 
 mul-result-2 : tie.Need-mul-result-2
-mul-result-2 c = search needs
+mul-result-2 c = omega (arith, tens-of (c .args .fuse) (c .pre))
 
 sub-result : tie.Need-sub-result
-sub-result c = search needs
+sub-result c = omega (arith, tens-of (c .args .fuse) (c .pre))
 
 add-result : tie.Need-add-result
 add-result c = record { fits = rw (line-start-of (c .args .fuse) (c .pre)) (start-small (c .args .fuse)) }
@@ -96,14 +76,7 @@ line-start-spec =
     cast-twos-3
     mul-twos-3
     add-twos-2
-    cast-tens
     mul-tens
-    cast-tens-2
-    mul-tens-2
-    add-tens
-    cast-tens-3
-    mul-tens-3
-    add-tens-2
     mul-result
     mul-result-2
     sub-result
