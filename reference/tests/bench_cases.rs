@@ -1,5 +1,5 @@
 // The stored cases of the bench program, held to the one of this package.
-// The gate runs the same cases with the library's.
+// They are there for the bench program of the library, which is not built yet.
 
 use std::path::Path;
 use std::process::Command;
