@@ -1,4 +1,4 @@
--- The texts of specs/Cases.antt mean what stands there. The two images are computed once.
+-- The texts of specs/Cases.antt mean what stands there. The images are computed once.
 -- Assumes nothing.
 use mathlib.Core.Path.{_≡_, refl}
 use mathlib.Core.List.{[], _∷_}
@@ -19,6 +19,10 @@ only-first : imageWith 18144 (stateGiven 0 (record { at = 10; first = 0; states 
 unfolding imageWith tabulate gathered stateGiven
 only-first = refl
 
+first-of-three : imageWith 18144 (stateGiven 0 (record { at = 10; first = 0; states = 1 ∷ [] } ∷ record { at = 15; first = 1; states = 0 ∷ [] } ∷ record { at = 20; first = 5; states = 0 ∷ [] } ∷ [])) ≡ onlyFirst
+unfolding imageWith tabulate gathered stateGiven
+first-of-three = refl
+
 pub cases-hold : AllHold cases
 unfolding meaning concluded pieces blanksBefore fieldsFrom holdsMark tailFrom unbroken statesIn listIn judge allFields misplaced digitsRead numberIn sumIn byteSum sum16
-cases-hold = (rw all-ones, (rw all-ones, (rw all-ones, (rw all-ones, (rw all-ones, (rw all-ones, (rw only-first, (refl, (refl, (refl, (refl, (refl, (refl, (refl, (refl, (refl, (refl, (refl, (refl, (refl, (refl, (refl, (refl, (refl, (refl, (refl, (refl, (refl, (refl, (refl, (refl, (refl, (refl, (refl, (refl, tt)))))))))))))))))))))))))))))))))))
+cases-hold = (rw all-ones, (rw all-ones, (rw all-ones, (rw all-ones, (rw all-ones, (rw all-ones, (rw all-ones, (rw all-ones, (rw only-first, (rw first-of-three, (refl, (refl, (refl, (refl, (refl, (refl, (refl, (refl, (refl, (refl, (refl, (refl, (refl, (refl, (refl, (refl, (refl, (refl, (refl, (refl, (refl, (refl, (refl, (refl, (refl, (refl, (refl, (refl, (refl, (refl, (refl, (refl, (refl, (refl, (refl, (refl, tt))))))))))))))))))))))))))))))))))))))))))))))

@@ -1,5 +1,5 @@
 -- What holds of texts, each law once, for every fuse count and every line pattern:
---   cases-hold          texts of document 01's bench section and of the points that it leaves room for (specs/Cases.antt) mean what stands there
+--   cases-hold          texts of document 01's bench section and of points that it leaves room for (specs/Cases.antt) mean what stands there
 --   accepted-iff        a text is accepted with an image exactly if it is of the form, its C field gives the fuse sum of that image, and its
 --                       transmission sum is 0000 or the sum of its bytes from STX to ETX (`Accepted` in specs/Form.antt)
 --   assembled-accepted  a text put together in that form, with fields in order and right counts and sums, is accepted

@@ -1,4 +1,4 @@
--- Texts and what they mean for the part of 18144 fuses: document 01's bench section, and the points that its words leave room for.
+-- Texts and what they mean for the part of 18144 fuses: document 01's bench section, and points that its words leave room for.
 -- The independent program is held to the same texts (reference/tests/stated_texts.rs).
 use mathlib.Core.Path.{_≡_}
 use mathlib.Core.List.{List, [], _∷_, _++_}
@@ -42,17 +42,23 @@ cases =
     ∷ record { text = head ++ 70 ∷ 49 ∷ 42 ∷ 67 ∷ 68 ∷ 51 ∷ 50 ∷ 52 ∷ 42 ∷ 3 ∷ 48 ∷ 51 ∷ 68 ∷ 67 ∷ []; answer = refused 11 19 }
     -- with another fuse sum
     ∷ record { text = head ++ 70 ∷ 49 ∷ 42 ∷ 67 ∷ 68 ∷ 51 ∷ 50 ∷ 53 ∷ 42 ∷ tail; answer = refused 10 13 }
+    -- hex digits in lower case
+    ∷ record { text = head ++ 70 ∷ 49 ∷ 42 ∷ 67 ∷ 100 ∷ 51 ∷ 50 ∷ 52 ∷ 42 ∷ 3 ∷ 48 ∷ 51 ∷ 102 ∷ 100 ∷ []; answer = accepted allOnes }
     -- F after C: the sum is that of the finished image
     ∷ record { text = head ++ 67 ∷ 68 ∷ 51 ∷ 50 ∷ 52 ∷ 42 ∷ 70 ∷ 49 ∷ 42 ∷ tail; answer = accepted allOnes }
     -- C before any state is given, compared with the finished image
     ∷ record { text = head ++ 67 ∷ 48 ∷ 48 ∷ 48 ∷ 48 ∷ 42 ∷ 70 ∷ 49 ∷ 42 ∷ tail; answer = refused 10 10 }
+    -- skipped fields, anywhere and again
+    ∷ record { text = 2 ∷ 42 ∷ 78 ∷ 42 ∷ 81 ∷ 70 ∷ 49 ∷ 56 ∷ 49 ∷ 52 ∷ 52 ∷ 42 ∷ 74 ∷ 49 ∷ 42 ∷ 81 ∷ 80 ∷ 97 ∷ 42 ∷ 81 ∷ 86 ∷ 42 ∷ 70 ∷ 49 ∷ 42 ∷ 88 ∷ 42 ∷ 67 ∷ 68 ∷ 51 ∷ 50 ∷ 52 ∷ 42 ∷ 78 ∷ 32 ∷ 42 ∷ tail; answer = accepted allOnes }
     -- an L with blanks of every kind
     ∷ record { text = head ++ 76 ∷ 48 ∷ 32 ∷ 9 ∷ 13 ∷ 10 ∷ 49 ∷ 32 ∷ 42 ∷ 32 ∷ 3 ∷ 48 ∷ 48 ∷ 48 ∷ 48 ∷ 32 ∷ 10 ∷ []; answer = accepted onlyFirst }
+    -- L fields that touch, and a gap
+    ∷ record { text = head ++ 76 ∷ 48 ∷ 32 ∷ 49 ∷ 42 ∷ 76 ∷ 49 ∷ 32 ∷ 48 ∷ 42 ∷ 76 ∷ 53 ∷ 32 ∷ 48 ∷ 42 ∷ tail; answer = accepted onlyFirst }
     -- nothing
     ∷ record { text = []; answer = refused 7 0 }
     -- a blank before STX
     ∷ record { text = 32 ∷ 2 ∷ 42 ∷ 81 ∷ 70 ∷ 49 ∷ 56 ∷ 49 ∷ 52 ∷ 52 ∷ 42 ∷ tail; answer = refused 7 0 }
-    -- no design text
+    -- a design text without its star
     ∷ record { text = 2 ∷ tail; answer = refused 7 6 }
     -- ETX in the design text
     ∷ record { text = 2 ∷ 3 ∷ 42 ∷ tail; answer = refused 7 1 }
@@ -78,8 +84,16 @@ cases =
     ∷ record { text = head ++ 81 ∷ 70 ∷ 49 ∷ 56 ∷ 49 ∷ 52 ∷ 52 ∷ 42 ∷ tail; answer = refused 7 10 }
     -- eight digits
     ∷ record { text = 2 ∷ 42 ∷ 81 ∷ 70 ∷ 48 ∷ 48 ∷ 48 ∷ 49 ∷ 56 ∷ 49 ∷ 52 ∷ 52 ∷ 42 ∷ tail; answer = refused 7 2 }
+    -- a blank before the star of QF
+    ∷ record { text = 2 ∷ 42 ∷ 81 ∷ 70 ∷ 49 ∷ 56 ∷ 49 ∷ 52 ∷ 52 ∷ 32 ∷ 42 ∷ tail; answer = refused 7 2 }
+    -- of F
+    ∷ record { text = head ++ 70 ∷ 49 ∷ 32 ∷ 42 ∷ tail; answer = refused 7 10 }
+    -- of C
+    ∷ record { text = head ++ 67 ∷ 68 ∷ 51 ∷ 50 ∷ 52 ∷ 32 ∷ 42 ∷ tail; answer = refused 7 10 }
     -- another count
     ∷ record { text = 2 ∷ 42 ∷ 81 ∷ 70 ∷ 48 ∷ 48 ∷ 49 ∷ 56 ∷ 49 ∷ 52 ∷ 53 ∷ 42 ∷ tail; answer = refused 8 2 }
+    -- a count of 0
+    ∷ record { text = 2 ∷ 42 ∷ 81 ∷ 70 ∷ 48 ∷ 42 ∷ tail; answer = refused 8 2 }
     -- an L without a number
     ∷ record { text = head ++ 76 ∷ 32 ∷ 48 ∷ 32 ∷ 49 ∷ 42 ∷ tail; answer = refused 7 10 }
     -- an L without states
@@ -92,11 +106,19 @@ cases =
     ∷ record { text = head ++ 67 ∷ 48 ∷ 48 ∷ 48 ∷ 48 ∷ 42 ∷ 67 ∷ 48 ∷ 48 ∷ 48 ∷ 48 ∷ 42 ∷ tail; answer = refused 7 16 }
     -- an L over the one before it
     ∷ record { text = head ++ 76 ∷ 53 ∷ 32 ∷ 49 ∷ 49 ∷ 42 ∷ 76 ∷ 54 ∷ 32 ∷ 49 ∷ 42 ∷ tail; answer = refused 9 16 }
+    -- an L wholly below the one before it
+    ∷ record { text = head ++ 76 ∷ 53 ∷ 32 ∷ 49 ∷ 49 ∷ 42 ∷ 76 ∷ 48 ∷ 32 ∷ 49 ∷ 42 ∷ tail; answer = refused 9 16 }
     -- an L past the count
     ∷ record { text = head ++ 76 ∷ 49 ∷ 56 ∷ 49 ∷ 52 ∷ 51 ∷ 32 ∷ 49 ∷ 49 ∷ 42 ∷ tail; answer = refused 9 10 }
-    -- a letter that no field has
+    -- letters that no field has
     ∷ record { text = head ++ 86 ∷ 49 ∷ 42 ∷ tail; answer = refused 7 10 }
-    -- three digits after ETX and a blank
+    -- a Q alone
+    ∷ record { text = head ++ 81 ∷ 42 ∷ tail; answer = refused 7 10 }
+    -- a Q with another letter
+    ∷ record { text = head ++ 81 ∷ 88 ∷ 42 ∷ tail; answer = refused 7 10 }
+    -- a letter in lower case
+    ∷ record { text = head ++ 102 ∷ 49 ∷ 42 ∷ tail; answer = refused 7 10 }
+    -- two digits after ETX and a blank
     ∷ record { text = head ++ 3 ∷ 48 ∷ 48 ∷ 10 ∷ []; answer = refused 7 13 }
     -- two digits after ETX
     ∷ record { text = head ++ 3 ∷ 48 ∷ 48 ∷ []; answer = refused 7 13 }

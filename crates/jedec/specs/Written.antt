@@ -37,7 +37,7 @@ abbrev pub NoneEmpty : (pattern : List (List ℕ)) → Type 0
 NoneEmpty [] = Unit {0}
 NoneEmpty (widths ∷ pattern) = (0 < total widths) × NoneEmpty pattern
 
--- from STX to ETX
+-- what stands before the lines, and after them up to ETX
 abbrev pub headText : (fuses : ℕ) → List ℕ
 headText fuses = stx ∷ lineEnd ++ letterQ ∷ letterF ∷ countDigits fuses ++ lineEnd ++ letterF ∷ decimalDigit 0 ∷ lineEnd
 
