@@ -1,4 +1,4 @@
-// JEDEC texts, for any fuse count and any line pattern: bytes and digits of a text.
+// JEDEC texts, for any fuse count and any line pattern: the blanks of a text, which all that read one share.
 // What a text means and what the writer writes is defined in specs/.
 ghost use mathlib.Core.Path.{_≡_};
 ghost use Rattle.jedec.specs.Characters.{isBlank};
