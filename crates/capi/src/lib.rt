@@ -6,8 +6,9 @@ ghost use Rattle.part.specs.Answer.{number, value, addressOutcome, fuseOutcome,
 ghost use Rattle.part.specs.Convert.{addressOfFuse, fuseOfAddress};
 ghost use Rattle.image.specs.Image.{fuseSum, zeroCount};
 ghost use Rattle.readout.specs.Readout.{doneOutcome, written, toReadout, readoutOf, toImage, imageOf};
-ghost use Rattle.settings.specs.Answer.{bitOutcome};
-ghost use Rattle.settings.specs.Operations.{countOfSettings, settingOfNumber, fuseOfBit, settingAtFuse};
+ghost use Rattle.settings.specs.Operations.{countOfSettings, settingOfNumber};
+ghost use Rattle.setting_places.specs.Answer.{bitOutcome};
+ghost use Rattle.setting_places.specs.Operations.{fuseOfBit, settingAtFuse};
 ghost use Rattle.jedec_writer.specs.Pattern.{toText, withText};
 ghost use Rattle.jedec_reader.specs.Reader.{toImageFromText, imageIn};
 ghost use Rattle.edit.specs.Edit.{inImage, inReadout, readPattern, setPattern, withNumbered};
@@ -20,8 +21,8 @@ use part::FuseNumber;
 use part::NumberAnswer;
 use part::Refusal;
 use readout::DoneAnswer;
-use settings::BitAnswer;
-use settings::NamedAnswer;
+use setting_places::BitAnswer;
+use setting_places::NamedAnswer;
 use settings::SettingAnswer;
 use settings::SettingNumber;
 
@@ -187,7 +188,7 @@ pub extern "C" fn xc9500_setting_fuse(blocks: u32, class: u32, setting: u32, bit
     let d = Device { blocks, class };
     let answer = settings::setting_of_number(d, SettingNumber(setting));
     match answer {
-        SettingAnswer::Setting(s) => bit_word(settings::fuse_of_bit(d, s, bit)),
+        SettingAnswer::Setting(s) => bit_word(setting_places::fuse_of_bit(d, s, bit)),
         SettingAnswer::Refused(r) => refusal_word(r),
     }
 }
@@ -198,7 +199,7 @@ pub extern "C" fn xc9500_setting_at_fuse(blocks: u32, class: u32, fuse: u32) -> 
     ensures { λ w. ⌜ w ≡ packed (orNone (settingAndBit (device blocks class))) (settingAtFuse (device blocks class) fuse) ⌝ }
 {
     let d = Device { blocks, class };
-    let answer = settings::setting_at_fuse(d, FuseNumber(fuse));
+    let answer = setting_places::setting_at_fuse(d, FuseNumber(fuse));
     match answer {
         NamedAnswer::Bit(s, bit) => {
             let number = settings::internal::number_of(d, s);

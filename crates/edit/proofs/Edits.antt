@@ -21,9 +21,10 @@ use Rattle.image.proofs.Bits.{put-small, gathered-same}
 use Rattle.image.proofs.Counts.{state-bit}
 use Rattle.readout.specs.Readout.{widthAt, fuseAt, readoutOf, stateIn, strayAt}
 use Rattle.readout.proofs.Laws.{lying, readout-state, change-agrees}
-use Rattle.settings.specs.Settings.{hasSetting, bitsOf, fuseOf, lists}
+use Rattle.settings.specs.Settings.{hasSetting}
 use Rattle.settings.specs.declared.Setting.{Setting}
-use Rattle.settings.proofs.Laws as settings
+use Rattle.setting_places.specs.Places.{bitsOf, fuseOf, lists}
+use Rattle.setting_places.proofs.Laws as places
 use Rattle.values.specs.Values.{bitsIn}
 use Rattle.values.specs.declared.Kind.{Kind}
 use Rattle.values.specs.declared.Kind.the-variants as kind
@@ -47,7 +48,7 @@ listed : (d : Device) (t : Setting) → hasSetting d t ≡ true → (b : ℕ) �
 listed d t h b l = and-iff (hasSetting d t) (ltb b (bitsOf t)) .1 (h, lt-ltb b (bitsOf t) l)
 
 pub fuse-below : (d : Device) → known d ≡ true → (t : Setting) → hasSetting d t ≡ true → (b : ℕ) → b < bitsOf t → fuseOf d t b < fuseCount d
-fuse-below d k t h b l = settings.left-inverse d k .below t b (listed d t h b l)
+fuse-below d k t h b l = places.left-inverse d k .below t b (listed d t h b l)
 
 -- and each setting has one at least
 some-bit : (k : Kind) → 0 < bitsIn k
@@ -92,7 +93,7 @@ module _ (d : Device) (k : known d ≡ true) (form : Bool) (bytes : List ℕ) (e
   differ : (b c : ℕ) → b < bitsOf s → c < bitsOf s → at b ≡ at c → its b ≡ its c → b ≡ c
   unfolding at its
   differ b c lb lc x y =
-      settings.apart d k s s b c (listed d s h b lb) (listed d s h c lc)
+      places.apart d k s s b c (listed d s h b lb) (listed d s h c lc)
       (one-fuse d form (fuseOf d s b) (fuseOf d s c) (fuse-below d k s h b lb) (fuse-below d k s h c lc) x y) .1
 
   changed : List ℕ
@@ -136,7 +137,7 @@ module _ (d : Device) (k : known d ≡ true) (form : Bool) (bytes : List ℕ) (e
       gathered-same (λ b. stateOf d form (withPattern d form bytes s pattern) (fuseOf d t b)) (λ b. stateOf d form bytes (fuseOf d t b)) (bitsOf t)
       (λ b l.
       set-other-fuses (fuseOf d t b) (fuse-below d k t ht b l)
-      (λ c m x. ne (settings.apart d k t s b c (listed d t ht b l) (listed d s h c m) (sym x) .0)))
+      (λ c m x. ne (places.apart d k t s b c (listed d t ht b l) (listed d s h c m) (sym x) .0)))
 
 -- so many of the bits put: the length stays
 bits-length : (d : Device) → known d ≡ true → (form : Bool) (bytes : List ℕ) → length bytes ≡ bytesOf d form → (s : Setting) → hasSetting d s ≡ true

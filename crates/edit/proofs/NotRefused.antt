@@ -13,8 +13,9 @@ use Rattle.part.specs.Device.{known, readoutBytes}
 use Rattle.part.specs.declared.Device.{Device}
 use Rattle.readout.specs.Readout.{readoutOf}
 use Rattle.readout.proofs.Laws.{from-length, readout-accepted}
-use Rattle.settings.specs.Settings.{hasSetting, bitsOf, fuseOf}
+use Rattle.settings.specs.Settings.{hasSetting}
 use Rattle.settings.specs.declared.Setting.{Setting}
+use Rattle.setting_places.specs.Places.{bitsOf, fuseOf}
 use Rattle.values.specs.Patterns.{patternIn}
 use Rattle.values.specs.declared.Value.{Value}
 use Rattle.setting_values.specs.Kinds.{kindOf}

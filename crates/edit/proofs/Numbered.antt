@@ -13,10 +13,11 @@ use Rattle.part.specs.Outcome.{Outcome}
 use Rattle.part.specs.Outcome.Outcome.{accepted, refused}
 use Rattle.part.specs.Device.{known}
 use Rattle.part.specs.declared.Device.{Device}
-use Rattle.settings.specs.Settings.{hasSetting, bitsOf, fuseOf}
+use Rattle.settings.specs.Settings.{hasSetting}
 use Rattle.settings.specs.Order.{countOf, settingOf}
 use Rattle.settings.specs.declared.Setting.{Setting}
 use Rattle.settings.proofs.Numbers.{number-again}
+use Rattle.setting_places.specs.Places.{bitsOf, fuseOf}
 use Rattle.values.specs.Patterns.{patternIn}
 use Rattle.values.specs.declared.Value.{Value}
 use Rattle.values.proofs.Laws as values

@@ -7,8 +7,8 @@ use Prim.Native.Nat.{ℕ, _<_}
 use Rattle.part.specs.Device.{fuseCount}
 use Rattle.part.specs.declared.Device.{Device}
 use Rattle.readout.specs.Readout.{readoutOf}
-use Rattle.settings.specs.Settings.{bitsOf, fuseOf}
 use Rattle.settings.specs.declared.Setting.{Setting}
+use Rattle.setting_places.specs.Places.{bitsOf, fuseOf}
 use Rattle.values.specs.declared.Value.{Value}
 use Rattle.edit.specs.Edit.{inImage, inReadout, stateOf, withValue}
 use Rattle.edit.specs.Demand.{Taken}

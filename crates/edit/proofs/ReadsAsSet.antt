@@ -11,8 +11,9 @@ use Rattle.part.specs.Outcome.Outcome.{accepted}
 use Rattle.part.specs.Device.{known, imageBytes, readoutBytes}
 use Rattle.part.specs.declared.Device.{Device}
 use Rattle.readout.specs.Readout.{readoutOf}
-use Rattle.settings.specs.Settings.{hasSetting, bitsOf}
+use Rattle.settings.specs.Settings.{hasSetting}
 use Rattle.settings.specs.declared.Setting.{Setting}
+use Rattle.setting_places.specs.Places.{bitsOf}
 use Rattle.values.specs.declared.Value.{Value}
 use Rattle.values.proofs.Laws as values
 use Rattle.setting_values.specs.Kinds.{kindOf, valueOf}

@@ -23,9 +23,10 @@ use Rattle.image.specs.Bits.{bitAt, gathered}
 use Rattle.image.proofs.Bits.{gathered-small}
 use Rattle.readout.specs.Readout.{widthAt, strayAt}
 use Rattle.readout.proofs.Laws.{lying}
-use Rattle.settings.specs.Settings.{placeOf, hasSetting, bitsOf, fuseOf}
+use Rattle.settings.specs.Settings.{hasSetting}
 use Rattle.settings.specs.declared.Setting.{Setting}
-use Rattle.settings.proofs.Places.{has-place}
+use Rattle.setting_places.specs.Places.{placeOf, bitsOf, fuseOf}
+use Rattle.setting_places.proofs.Places.{has-place}
 use Rattle.setting_values.specs.Kinds.{kindOf}
 use Rattle.setting_values.proofs.Widths.{kind-bits}
 use Rattle.values.proofs.Laws as values

@@ -14,7 +14,7 @@ use Rattle.part.specs.declared.BytePlace.the-variants as byte
 use Rattle.part.specs.declared.Device.{Device}
 use Rattle.part.proofs.Facts.{and-iff, by-cases}
 use Rattle.readout.specs.Readout.{widthAt}
-use Rattle.settings.specs.Settings.{main, blockPlace, globalPlace, placeOf, hasSetting, bitsOf, fuseOf}
+use Rattle.settings.specs.Settings.{hasSetting}
 use Rattle.settings.specs.declared.MacrocellField.{MacrocellField}
 use Rattle.settings.specs.declared.BlockField.{BlockField}
 use Rattle.settings.specs.declared.BlockField.the-variants.{Enable, ExportEnable, PullupDisable, ReadProtA, ReadProtB, WriteProt}
@@ -22,7 +22,8 @@ use Rattle.settings.specs.declared.GlobalField.{GlobalField}
 use Rattle.settings.specs.declared.GlobalField.the-variants.{FsrInv, FclkInv, FoeInv, FclkMux, FoeMux, Usercode}
 use Rattle.settings.specs.declared.Setting.{Setting}
 use Rattle.settings.specs.declared.Setting.the-variants.{Macrocell, Block, Global}
-use Rattle.settings.proofs.Places.{has-place}
+use Rattle.setting_places.specs.Places.{main, blockPlace, globalPlace, placeOf, bitsOf, fuseOf}
+use Rattle.setting_places.proofs.Places.{has-place}
 use Rattle.edit.specs.Edit.{byteOf, strayOf}
 use Rattle.edit.proofs.Edits.{clean-through}
 use Rattle.edit.proofs.Steps.{its-index, its-width}

@@ -18,12 +18,13 @@ use Rattle.image.specs.Bits.{bitOf, bitAt, withBit, gathered}
 use Rattle.image.proofs.Bits.{gathered-small}
 use Rattle.image.proofs.Pairs.{next-bit}
 use Rattle.settings.specs.Fields.{macrocellIndex}
-use Rattle.settings.specs.Settings.{placeOf, rows, hasSetting, bitsOf, fuseOf}
+use Rattle.settings.specs.Settings.{hasSetting}
 use Rattle.settings.specs.declared.GlobalField.the-variants.{FsrInv, FclkInv, FoeInv, FclkMux, FoeMux, Usercode}
 use Rattle.settings.specs.declared.Setting.{Setting}
 use Rattle.settings.specs.declared.Setting.the-variants.{Literal, WireAnd, Macrocell, Block, Global}
 use Rattle.settings.proofs.Numbers.{has-macrocell, macrocell-at}
-use Rattle.settings.proofs.Places.{rows-few}
+use Rattle.setting_places.specs.Places.{placeOf, rows, bitsOf, fuseOf}
+use Rattle.setting_places.proofs.Places.{rows-few}
 use Rattle.edit.specs.Edit.{bytesOf, byteOf, bitIn, stateOf, withState, patternAt, withBits, withPattern}
 use Rattle.edit.proofs.Edits.{inside, fuse-below}
 use Rattle.edit.proofs.Steps.{place-again, bitsRead, state-small}

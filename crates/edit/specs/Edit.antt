@@ -16,9 +16,10 @@ use Rattle.part.specs.declared.Device.{Device}
 use Rattle.image.specs.Bits.{bitOf, bitAt, withBit, gathered}
 use Rattle.image.specs.Image.{ifLength}
 use Rattle.readout.specs.Readout.{strayAt}
-use Rattle.settings.specs.Settings.{hasSetting, bitsOf, fuseOf}
+use Rattle.settings.specs.Settings.{hasSetting}
 use Rattle.settings.specs.Order.{countOf, settingOf}
 use Rattle.settings.specs.declared.Setting.{Setting}
+use Rattle.setting_places.specs.Places.{bitsOf, fuseOf}
 use Rattle.values.specs.Patterns.{patternIn}
 use Rattle.values.specs.declared.Value.{Value}
 use Rattle.setting_values.specs.Kinds.{kindOf, valueOf}

@@ -8,9 +8,10 @@ ghost use lib.ListN.{length, getD};
 ghost use Rattle.part.specs.Device.{known};
 ghost use Rattle.part.specs.Place.{widthOf};
 ghost use Rattle.image.specs.Bits.{bitOf};
-ghost use Rattle.settings.specs.Settings.{placeOf, hasSetting, bitsOf, fuseOf};
+ghost use Rattle.settings.specs.Settings.{hasSetting};
 ghost use Rattle.settings.specs.declared.GlobalField.the-variants.{Usercode};
 ghost use Rattle.settings.specs.declared.Setting.the-variants.{Global};
+ghost use Rattle.setting_places.specs.Places.{placeOf, bitsOf, fuseOf};
 ghost use Rattle.part.specs.Answer.{numberOutcome};
 ghost use Rattle.readout.specs.Readout.{doneOutcome, Written};
 ghost use Rattle.setting_values.specs.Operations.{valueOutcome};
@@ -37,7 +38,7 @@ fn spot_of(d: Device, readout: bool, s: Setting, bit: u32) -> Spot
     requires { ⌜ (known d ≡ true) × (hasSetting d s ≡ true) × (bit < bitsOf s) ⌝ }
     ensures { λ r. ⌜ (r .index ≡ byteOf d readout (fuseOf d s bit)) × (r .bit ≡ bitIn d readout (fuseOf d s bit)) ⌝ }
 {
-    let place = settings::internal::place_of(d, s, bit);
+    let place = setting_places::internal::place_of(d, s, bit);
     let byte = place.byte;
     if readout {
         return Spot {
@@ -120,7 +121,7 @@ pub fn pattern_at(d: Device, readout: bool, bytes: &[u8], s: Setting) -> u32
     requires { ⌜ (known d ≡ true) × (hasSetting d s ≡ true) × (length (now bytes) ≡ bytesOf d readout) ⌝ }
     ensures { λ r. ⌜ r ≡ patternAt d readout (now (bytes .entry)) s ⌝ }
 {
-    let width = settings::internal::bits_of(d, s);
+    let width = setting_places::internal::bits_of(d, s);
     // no other setting has so many bits
     if width == 32 {
         return usercode_at(d, readout, bytes);
@@ -141,7 +142,7 @@ pub fn put_pattern(d: Device, readout: bool, bytes: &mut [u8], s: Setting, patte
     requires { ⌜ (known d ≡ true) × (hasSetting d s ≡ true) × (length (now bytes) ≡ bytesOf d readout) ⌝ }
     ensures { λ _. ⌜ now (bytes .exit) ≡ withPattern d readout (now (bytes .entry)) s pattern ⌝ }
 {
-    let last = settings::internal::bits_of(d, s);
+    let last = setting_places::internal::bits_of(d, s);
     if last == 32 {
         put_usercode(d, readout, bytes, pattern);
         return;
@@ -210,7 +211,7 @@ pub fn stray_of(d: Device, readout: &[u8], s: Setting) -> usize
     if in_whole_bytes(d, s) {
         return readout.len();
     }
-    let place = settings::internal::place_of(d, s, 0);
+    let place = setting_places::internal::place_of(d, s, 0);
     let byte = place.byte;
     let index = part::internal::index_of_byte(d, byte) as usize;
     let width = part::internal::width_of(byte);

@@ -1,6 +1,6 @@
 -- `in_whole_bytes` meets its contract: by the setting's group.
 -- Assumes nothing.
-use Rattle.settings.specs.Settings.{bitsOf}
+use Rattle.setting_places.specs.Places.{bitsOf}
 use Rattle.edit.proofs.Strays.{of-macrocell, of-block, of-global}
 use borrow.Author.Needs.{needs}
 use Rattle.edit.proofs.internal.in_whole_bytes.Statement.{statement}

@@ -6,8 +6,9 @@ use Prim.Native.Nat.{ℕ, _+_, _*_, _-_, _%_, _^_, _<_, _≤_}
 use native.Mathlib.Omega.{arith}
 use Rattle.part.specs.Device.{known}
 use Rattle.part.specs.declared.Device.{Device}
-use Rattle.settings.specs.Settings.{hasSetting, bitsOf, fuseOf}
+use Rattle.settings.specs.Settings.{hasSetting}
 use Rattle.settings.specs.declared.Setting.{Setting}
+use Rattle.setting_places.specs.Places.{bitsOf, fuseOf}
 use mathlib.Core.List.{List}
 use mir.Syntax.{w32}
 use mir.Val.{Fits}

@@ -10,8 +10,9 @@ use Rattle.part.specs.Device.{known}
 use Rattle.part.specs.declared.Device.{Device}
 use Rattle.image.specs.Bits.{withBit}
 use Rattle.image.proofs.Bits.{with-length}
-use Rattle.settings.specs.Settings.{hasSetting, bitsOf, fuseOf}
+use Rattle.settings.specs.Settings.{hasSetting}
 use Rattle.settings.specs.declared.Setting.{Setting}
+use Rattle.setting_places.specs.Places.{bitsOf, fuseOf}
 use Rattle.edit.specs.Edit.{bytesOf, byteOf, bitIn, withBits, withPattern}
 use Rattle.edit.proofs.Edits.{inside, fuse-below, set-length}
 use Rattle.edit.proofs.Steps.{bits-few, bit-small}

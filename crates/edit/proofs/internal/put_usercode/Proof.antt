@@ -7,7 +7,7 @@ use Prim.Native.Nat.{ℕ, _+_, _*_, _-_, _<_, _≤_}
 use native.Mathlib.Omega.{arith}
 use lib.ListN.{length}
 use Rattle.part.specs.declared.Device.{Device}
-use Rattle.settings.specs.Settings.{bitsOf}
+use Rattle.setting_places.specs.Places.{bitsOf}
 use Rattle.edit.specs.Edit.{bytesOf, withBits, withPattern}
 use Rattle.edit.proofs.Usercode.{usercode, bothStates, two-put}
 use borrow.Author.Needs.{needs}

@@ -13,10 +13,11 @@ use Rattle.part.specs.Outcome.Outcome.{refused}
 use Rattle.part.specs.Device.{known}
 use Rattle.part.specs.declared.Device.{Device}
 use Rattle.part.proofs.Devices.{is-known, is-unknown}
-use Rattle.settings.specs.Settings.{hasSetting, bitsOf}
+use Rattle.settings.specs.Settings.{hasSetting}
 use Rattle.settings.specs.Order.{countOf, settingOf}
 use Rattle.settings.specs.declared.Setting.{Setting}
 use Rattle.settings.proofs.Numbers.{number-again}
+use Rattle.setting_places.specs.Places.{bitsOf}
 use Rattle.readout.specs.Readout.{Written}
 use Rattle.readout.proofs.Targets.{says}
 use Rattle.values.specs.Values.{bitsIn, valueIn}

@@ -7,8 +7,9 @@ use Prim.Native.Nat.{ℕ, _+_, _/_, _%_, _<_, _≤_}
 use native.Mathlib.Omega.{arith}
 use Rattle.part.specs.Device.{known}
 use Rattle.part.specs.declared.Device.{Device}
-use Rattle.settings.specs.Settings.{placeOf, hasSetting, bitsOf, fuseOf}
+use Rattle.settings.specs.Settings.{hasSetting}
 use Rattle.settings.specs.declared.Setting.{Setting}
+use Rattle.setting_places.specs.Places.{placeOf, bitsOf, fuseOf}
 use Rattle.part.specs.Place.{hasByte, firstFuse, indexOfByte}
 use Rattle.part.specs.declared.Place.{Place}
 use Rattle.part.proofs.Devices.{fuses-small}

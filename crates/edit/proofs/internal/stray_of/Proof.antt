@@ -12,8 +12,9 @@ use Rattle.part.specs.Place.{hasByte, widthOf, indexOfByte}
 use Rattle.part.specs.declared.Device.{Device}
 use Rattle.part.specs.declared.Place.{Place}
 use Rattle.part.proofs.Laws.{width-small}
-use Rattle.settings.specs.Settings.{placeOf, hasSetting, bitsOf, fuseOf}
+use Rattle.settings.specs.Settings.{hasSetting}
 use Rattle.settings.specs.declared.Setting.{Setting}
+use Rattle.setting_places.specs.Places.{placeOf, bitsOf, fuseOf}
 use Rattle.edit.specs.Edit.{inReadout, strayAmong, strayOf}
 use Rattle.edit.proofs.Edits.{inside, fuse-below}
 use Rattle.edit.proofs.Steps.{its-byte, its-index, its-test}

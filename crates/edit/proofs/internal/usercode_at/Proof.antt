@@ -11,7 +11,8 @@ use lib.ListN.{length}
 use Rattle.part.specs.Device.{known}
 use Rattle.part.specs.declared.Device.{Device}
 use Rattle.image.specs.Bits.{bitAt, gathered}
-use Rattle.settings.specs.Settings.{hasSetting, bitsOf, fuseOf}
+use Rattle.settings.specs.Settings.{hasSetting}
+use Rattle.setting_places.specs.Places.{bitsOf, fuseOf}
 use Rattle.edit.specs.Edit.{bytesOf, byteOf, bitIn, patternAt}
 use Rattle.edit.proofs.Steps.{bitsRead}
 use Rattle.edit.proofs.Usercode.{usercode, spot-in, spot-low, pair-more}

@@ -5,7 +5,8 @@ use mathlib.Core.Bool.{Bool, true, false}
 use Prim.Native.Nat.{ℕ, _+_, _*_, _/_, _%_, _<_}
 use Rattle.part.specs.Device.{known}
 use Rattle.part.specs.declared.Device.{Device}
-use Rattle.settings.specs.Settings.{hasSetting, fuseOf}
+use Rattle.settings.specs.Settings.{hasSetting}
+use Rattle.setting_places.specs.Places.{fuseOf}
 use Rattle.edit.specs.Edit.{byteOf, bitIn}
 use Rattle.edit.proofs.Usercode.{usercode, rowOf, columnOf, in-readout, in-image}
 use borrow.Author.Needs.{needs}
