@@ -25,11 +25,12 @@ use Rattle.values.specs.declared.Value.{Value}
 use Rattle.values.proofs.Laws as values
 use Rattle.setting_values.specs.Kinds.{kindOf}
 use Rattle.setting_values.proofs.Widths.{kind-bits}
-use Rattle.edit.specs.Edit.{inImage, inReadout, bytesOf, byteOf, bitIn, withPattern, withValue, readIn}
-use Rattle.edit.proofs.Edits.{set-length, set-others, set-reads, set-clean, clean-through}
+use Rattle.setting_bits.specs.SettingBits.{inImage, inReadout, bytesOf, byteOf, bitIn, withPattern}
+use Rattle.setting_bits.proofs.Edits.{set-length, set-others, set-reads, set-clean, clean-through}
+use Rattle.edit.specs.Edit.{withValue, readIn}
 use Rattle.edit.proofs.NotRefused.{Clean}
 use Rattle.edit.proofs.ReadsAsSet.{image-clean, readout-clean, reads}
-pub use Rattle.edit.proofs.Edits.{some-fuse}
+pub use Rattle.setting_bits.proofs.Edits.{some-fuse}
 pub use Rattle.edit.proofs.Demand.{holds, of-calls}
 pub use Rattle.edit.proofs.Numbered.{reads-numbered, sets-numbered}
 

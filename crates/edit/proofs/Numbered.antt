@@ -25,8 +25,9 @@ use Rattle.setting_values.specs.Kinds.{kindOf, valueOf}
 use Rattle.setting_values.proofs.Widths.{kind-bits}
 use Rattle.part.proofs.Conversions.{passed}
 use Rattle.image.proofs.Bits.{gathered-small}
-use Rattle.edit.proofs.Steps.{state-small}
-use Rattle.edit.specs.Edit.{bytesOf, stateOf, patternAt, withValue, strayIn, readIn, setIn, readPattern, setPattern, withNumbered}
+use Rattle.setting_bits.specs.SettingBits.{bytesOf, stateOf, patternAt}
+use Rattle.setting_bits.proofs.Steps.{state-small}
+use Rattle.edit.specs.Edit.{withValue, strayIn, readIn, setIn, readPattern, setPattern, withNumbered}
 
 -- an outcome with its result turned into another
 abbrev pub mapped : {A B : Type 0} → (A → B) → Outcome A → Outcome B

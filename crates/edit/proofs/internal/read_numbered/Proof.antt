@@ -25,7 +25,8 @@ use Rattle.values.specs.declared.Value.{Value}
 use Rattle.values.specs.declared.Kind.{Kind}
 use Rattle.values.specs.declared.internal.Found.{Found}
 use Rattle.values.specs.declared.internal.Found.the-variants.{Pattern, NoSuchValue}
-use Rattle.edit.specs.Edit.{bytesOf, readIn, readPattern}
+use Rattle.setting_bits.specs.SettingBits.{bytesOf}
+use Rattle.edit.specs.Edit.{readIn, readPattern}
 use Rattle.edit.proofs.Numbered.{read-value, read-refused}
 use borrow.Author.Needs.{needs}
 use Rattle.edit.proofs.internal.read_numbered.Statement.{statement}

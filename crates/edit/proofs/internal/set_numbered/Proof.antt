@@ -25,7 +25,8 @@ use Rattle.values.specs.declared.Value.{Value}
 use Rattle.values.specs.declared.Kind.{Kind}
 use Rattle.setting_values.specs.Kinds.{kindOf, valueOf}
 use Rattle.setting_values.proofs.Widths.{kind-bits}
-use Rattle.edit.specs.Edit.{bytesOf, setIn, withValue, setPattern, withNumbered}
+use Rattle.setting_bits.specs.SettingBits.{bytesOf}
+use Rattle.edit.specs.Edit.{setIn, withValue, setPattern, withNumbered}
 use Rattle.edit.proofs.Numbered.{sets-numbered}
 use borrow.Author.Needs.{needs}
 use Rattle.edit.proofs.internal.set_numbered.Statement.{statement}

@@ -24,9 +24,9 @@ use Rattle.settings.specs.declared.Setting.{Setting}
 use Rattle.settings.specs.declared.Setting.the-variants.{Macrocell, Block, Global}
 use Rattle.setting_places.specs.Places.{main, blockPlace, globalPlace, placeOf, bitsOf, fuseOf}
 use Rattle.setting_places.proofs.Places.{has-place}
-use Rattle.edit.specs.Edit.{byteOf, strayOf}
-use Rattle.edit.proofs.Edits.{clean-through}
-use Rattle.edit.proofs.Steps.{its-index, its-width}
+use Rattle.setting_bits.specs.SettingBits.{byteOf, strayOf}
+use Rattle.setting_bits.proofs.Edits.{clean-through}
+use Rattle.setting_bits.proofs.Steps.{its-index, its-width}
 
 -- a byte of the main area that has a bit 6 has 8 bits
 main-wide : (d : Device) (block row column bit : ℕ) → hasPlace d (main block row column bit) ≡ true → 6 ≤ bit → mainWidth column ≡ 8

@@ -13,12 +13,12 @@ use Rattle.setting_places.specs.Places.{placeOf, bitsOf, fuseOf}
 use Rattle.part.specs.Place.{hasByte, firstFuse, indexOfByte}
 use Rattle.part.specs.declared.Place.{Place}
 use Rattle.part.proofs.Devices.{fuses-small}
-use Rattle.edit.specs.Edit.{byteOf, bitIn}
-use Rattle.edit.proofs.Edits.{fuse-below}
-use Rattle.edit.proofs.Steps.{place-again, its-byte, its-index}
+use Rattle.setting_bits.specs.SettingBits.{byteOf, bitIn}
+use Rattle.setting_bits.proofs.Edits.{fuse-below}
+use Rattle.setting_bits.proofs.Steps.{place-again, its-byte, its-index}
 use borrow.Author.Needs.{needs}
-use Rattle.edit.proofs.internal.spot_of.Statement.{statement}
-use Rattle.edit.proofs.internal.spot_of.Tie as tie
+use Rattle.setting_bits.proofs.internal.spot_of.Statement.{statement}
+use Rattle.setting_bits.proofs.internal.spot_of.Tie as tie
 
 module _ (d : Device) (s : Setting) (b : ℕ) (k : known d ≡ true) (h : hasSetting d s ≡ true) (l : b < bitsOf s) (p : Place) (e : p ≡ placeOf s b) where
   has-byte : hasByte d (p .byte) ≡ true

@@ -8,11 +8,11 @@ use native.Mathlib.Omega.{arith}
 use lib.ListN.{length}
 use Rattle.part.specs.declared.Device.{Device}
 use Rattle.setting_places.specs.Places.{bitsOf}
-use Rattle.edit.specs.Edit.{bytesOf, withBits, withPattern}
-use Rattle.edit.proofs.Usercode.{usercode, bothStates, two-put}
+use Rattle.setting_bits.specs.SettingBits.{bytesOf, withBits, withPattern}
+use Rattle.setting_bits.proofs.Usercode.{usercode, bothStates, two-put}
 use borrow.Author.Needs.{needs}
-use Rattle.edit.proofs.internal.put_usercode.Statement.{statement}
-use Rattle.edit.proofs.internal.put_usercode.Tie as tie
+use Rattle.setting_bits.proofs.internal.put_usercode.Statement.{statement}
+use Rattle.setting_bits.proofs.internal.put_usercode.Tie as tie
 
 -- the pairs of a row put in place so far, from its first on: with all before that in place, so are these
 record Put (d : Device) (form : Bool) (pattern first : ℕ) (entry bytes : List ℕ) (pair : ℕ) : Type 0 where

@@ -13,13 +13,13 @@ use Rattle.image.proofs.Bits.{with-length}
 use Rattle.settings.specs.Settings.{hasSetting}
 use Rattle.settings.specs.declared.Setting.{Setting}
 use Rattle.setting_places.specs.Places.{bitsOf, fuseOf}
-use Rattle.edit.specs.Edit.{bytesOf, byteOf, bitIn, withBits, withPattern}
-use Rattle.edit.proofs.Edits.{inside, fuse-below, set-length}
-use Rattle.edit.proofs.Steps.{bits-few, bit-small}
-use Rattle.edit.proofs.Usercode.{usercode, has-usercode, its-bytes}
+use Rattle.setting_bits.specs.SettingBits.{bytesOf, byteOf, bitIn, withBits, withPattern}
+use Rattle.setting_bits.proofs.Edits.{inside, fuse-below, set-length}
+use Rattle.setting_bits.proofs.Steps.{bits-few, bit-small}
+use Rattle.setting_bits.proofs.Usercode.{usercode, has-usercode, its-bytes}
 use borrow.Author.Needs.{needs}
-use Rattle.edit.proofs.internal.put_pattern.Statement.{statement}
-use Rattle.edit.proofs.internal.put_pattern.Tie as tie
+use Rattle.setting_bits.proofs.internal.put_pattern.Statement.{statement}
+use Rattle.setting_bits.proofs.internal.put_pattern.Tie as tie
 
 module _ (d : Device) (form : Bool) (before : List ℕ) (s : Setting) (pattern width : ℕ) (h : hasSetting d s ≡ true) (e : width ≡ bitsOf s) (q : width ≡ 32)
     (after : List ℕ) (g : after ≡ withPattern d form before usercode pattern) where

@@ -1,9 +1,9 @@
 -- `put_usercode_pair` meets its contract: two neighbouring bits of one byte are put in place.
 -- Assumes nothing.
-use Rattle.edit.proofs.Usercode.{spot-in, spot-low, pair-put}
+use Rattle.setting_bits.proofs.Usercode.{spot-in, spot-low, pair-put}
 use borrow.Author.Needs.{needs}
-use Rattle.edit.proofs.internal.put_usercode_pair.Statement.{statement}
-use Rattle.edit.proofs.internal.put_usercode_pair.Tie as tie
+use Rattle.setting_bits.proofs.internal.put_usercode_pair.Statement.{statement}
+use Rattle.setting_bits.proofs.internal.put_usercode_pair.Tie as tie
 
 usercode-spot-requires : tie.Need-usercode-spot-requires
 usercode-spot-requires c κs = search needs

@@ -30,8 +30,8 @@ use Rattle.values.specs.declared.Kind.{Kind}
 use Rattle.values.specs.declared.Kind.the-variants as kind
 use Rattle.setting_values.specs.Kinds.{kindOf}
 use Rattle.setting_values.proofs.Widths.{kind-bits}
-use Rattle.edit.specs.Edit.{inImage, inReadout, bytesOf, byteOf, bitIn, stateOf, withState, patternAt, withBits, withPattern, strayAmong}
-use Rattle.edit.proofs.Spots.{a-bit, put, put-length, put-other, put-same, put-read}
+use Rattle.setting_bits.specs.SettingBits.{inImage, inReadout, bytesOf, byteOf, bitIn, stateOf, withState, patternAt, withBits, withPattern, strayAmong}
+use Rattle.setting_bits.proofs.Spots.{a-bit, put, put-length, put-other, put-same, put-read}
 
 -- where a fuse stands: inside the bytes, and no other fuse stands there
 pub inside : (d : Device) (form : Bool) (f : ℕ) → known d ≡ true → f < fuseCount d → byteOf d form f < bytesOf d form

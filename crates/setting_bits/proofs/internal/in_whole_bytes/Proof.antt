@@ -1,10 +1,10 @@
 -- `in_whole_bytes` meets its contract: by the setting's group.
 -- Assumes nothing.
 use Rattle.setting_places.specs.Places.{bitsOf}
-use Rattle.edit.proofs.Strays.{of-macrocell, of-block, of-global}
+use Rattle.setting_bits.proofs.Strays.{of-macrocell, of-block, of-global}
 use borrow.Author.Needs.{needs}
-use Rattle.edit.proofs.internal.in_whole_bytes.Statement.{statement}
-use Rattle.edit.proofs.internal.in_whole_bytes.Tie as tie
+use Rattle.setting_bits.proofs.internal.in_whole_bytes.Statement.{statement}
+use Rattle.setting_bits.proofs.internal.in_whole_bytes.Tie as tie
 
 enum-told : tie.Need-enum-told
 enum-told c = search needs

@@ -25,9 +25,9 @@ use Rattle.settings.specs.declared.Setting.the-variants.{Literal, WireAnd, Macr
 use Rattle.settings.proofs.Numbers.{has-macrocell, macrocell-at}
 use Rattle.setting_places.specs.Places.{placeOf, rows, bitsOf, fuseOf}
 use Rattle.setting_places.proofs.Places.{rows-few}
-use Rattle.edit.specs.Edit.{bytesOf, byteOf, bitIn, stateOf, withState, patternAt, withBits, withPattern}
-use Rattle.edit.proofs.Edits.{inside, fuse-below}
-use Rattle.edit.proofs.Steps.{place-again, bitsRead, state-small}
+use Rattle.setting_bits.specs.SettingBits.{bytesOf, byteOf, bitIn, stateOf, withState, patternAt, withBits, withPattern}
+use Rattle.setting_bits.proofs.Edits.{inside, fuse-below}
+use Rattle.setting_bits.proofs.Steps.{place-again, bitsRead, state-small}
 
 abbrev pub usercode : Setting
 usercode = Global Usercode

@@ -15,13 +15,13 @@ use Rattle.part.proofs.Laws.{width-small}
 use Rattle.settings.specs.Settings.{hasSetting}
 use Rattle.settings.specs.declared.Setting.{Setting}
 use Rattle.setting_places.specs.Places.{placeOf, bitsOf, fuseOf}
-use Rattle.edit.specs.Edit.{inReadout, strayAmong, strayOf}
-use Rattle.edit.proofs.Edits.{inside, fuse-below}
-use Rattle.edit.proofs.Steps.{its-byte, its-index, its-test}
-use Rattle.edit.proofs.Strays.{none-stray}
+use Rattle.setting_bits.specs.SettingBits.{inReadout, strayAmong, strayOf}
+use Rattle.setting_bits.proofs.Edits.{inside, fuse-below}
+use Rattle.setting_bits.proofs.Steps.{its-byte, its-index, its-test}
+use Rattle.setting_bits.proofs.Strays.{none-stray}
 use borrow.Author.Needs.{needs}
-use Rattle.edit.proofs.internal.stray_of.Statement.{statement}
-use Rattle.edit.proofs.internal.stray_of.Tie as tie
+use Rattle.setting_bits.proofs.internal.stray_of.Statement.{statement}
+use Rattle.setting_bits.proofs.internal.stray_of.Tie as tie
 
 module _ (d : Device) (readout : List ℕ) (s : Setting) (k : known d ≡ true) (h : hasSetting d s ≡ true) (one : bitsOf s ≡ 1)
     (p : Place) (e : p ≡ placeOf s 0) where

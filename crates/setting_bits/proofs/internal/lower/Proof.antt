@@ -1,7 +1,7 @@
 -- `lower` meets its contract: by the two cases of the test.
 -- Assumes nothing.
-use Rattle.edit.proofs.internal.lower.Statement.{statement}
-use Rattle.edit.proofs.internal.lower.Tie as tie
+use Rattle.setting_bits.proofs.internal.lower.Statement.{statement}
+use Rattle.setting_bits.proofs.internal.lower.Tie as tie
 
 returns : tie.Need-returns
 returns c = rw (c .if1 .taken)

@@ -2,8 +2,8 @@
 -- Assumes nothing.
 use native.Mathlib.Omega.{arith}
 use borrow.Author.Needs.{needs}
-use Rattle.edit.proofs.internal.above_width.Statement.{statement}
-use Rattle.edit.proofs.internal.above_width.Tie as tie
+use Rattle.setting_bits.proofs.internal.above_width.Statement.{statement}
+use Rattle.setting_bits.proofs.internal.above_width.Tie as tie
 
 shared-slice-read-result : tie.Need-shared-slice-read-result
 shared-slice-read-result c = search needs

@@ -7,11 +7,11 @@ use Rattle.part.specs.Device.{known}
 use Rattle.part.specs.declared.Device.{Device}
 use Rattle.settings.specs.Settings.{hasSetting}
 use Rattle.setting_places.specs.Places.{fuseOf}
-use Rattle.edit.specs.Edit.{byteOf, bitIn}
-use Rattle.edit.proofs.Usercode.{usercode, rowOf, columnOf, in-readout, in-image}
+use Rattle.setting_bits.specs.SettingBits.{byteOf, bitIn}
+use Rattle.setting_bits.proofs.Usercode.{usercode, rowOf, columnOf, in-readout, in-image}
 use borrow.Author.Needs.{needs}
-use Rattle.edit.proofs.internal.usercode_spot.Statement.{statement}
-use Rattle.edit.proofs.internal.usercode_spot.Tie as tie
+use Rattle.setting_bits.proofs.internal.usercode_spot.Statement.{statement}
+use Rattle.setting_bits.proofs.internal.usercode_spot.Tie as tie
 
 module _ (d : Device) (form : Bool) (pair : ℕ) (k : known d ≡ true) (h : hasSetting d usercode ≡ true) (l : pair < 16) where
   at-readout : form ≡ true → (rowOf pair * 15 + columnOf pair ≡ byteOf d form (fuseOf d usercode (2 * pair)))

@@ -30,8 +30,8 @@ use Rattle.setting_places.proofs.Places.{has-place}
 use Rattle.setting_values.specs.Kinds.{kindOf}
 use Rattle.setting_values.proofs.Widths.{kind-bits}
 use Rattle.values.proofs.Laws as values
-use Rattle.edit.specs.Edit.{bytesOf, byteOf, bitIn, stateOf, strayAmong}
-use Rattle.edit.proofs.Edits.{fuse-below}
+use Rattle.setting_bits.specs.SettingBits.{bytesOf, byteOf, bitIn, stateOf, strayAmong}
+use Rattle.setting_bits.proofs.Edits.{fuse-below}
 
 -- an image or a readout has at least the bytes of the smallest device's image, and at most those of the largest device's readout
 least : (d : Device) (main subarea : ℕ) → known d ≡ true → 2 * (main + 2 * subarea) ≤ inDevice d main subarea

@@ -14,13 +14,13 @@ use mir.Syntax.{w32}
 use mir.Val.{Fits}
 use lib.ListN.{length}
 use Rattle.image.specs.Bits.{bitAt, gathered}
-use Rattle.edit.specs.Edit.{bytesOf, byteOf, bitIn, stateOf, patternAt}
-use Rattle.edit.proofs.Edits.{inside, fuse-below}
-use Rattle.edit.proofs.Steps.{bits-few, bit-small, bitsRead, read-more}
-use Rattle.edit.proofs.Usercode.{usercode, has-usercode, its-pattern}
+use Rattle.setting_bits.specs.SettingBits.{bytesOf, byteOf, bitIn, stateOf, patternAt}
+use Rattle.setting_bits.proofs.Edits.{inside, fuse-below}
+use Rattle.setting_bits.proofs.Steps.{bits-few, bit-small, bitsRead, read-more}
+use Rattle.setting_bits.proofs.Usercode.{usercode, has-usercode, its-pattern}
 use borrow.Author.Needs.{needs}
-use Rattle.edit.proofs.internal.pattern_at.Statement.{statement}
-use Rattle.edit.proofs.internal.pattern_at.Tie as tie
+use Rattle.setting_bits.proofs.internal.pattern_at.Statement.{statement}
+use Rattle.setting_bits.proofs.internal.pattern_at.Tie as tie
 
 of-usercode : (d : Device) (form : Bool) (bytes : List ℕ) (s : Setting) (width r : ℕ) → hasSetting d s ≡ true → width ≡ bitsOf s → width ≡ 32
     → r ≡ patternAt d form bytes usercode → r ≡ patternAt d form bytes s

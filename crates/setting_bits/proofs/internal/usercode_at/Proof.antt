@@ -13,12 +13,12 @@ use Rattle.part.specs.declared.Device.{Device}
 use Rattle.image.specs.Bits.{bitAt, gathered}
 use Rattle.settings.specs.Settings.{hasSetting}
 use Rattle.setting_places.specs.Places.{bitsOf, fuseOf}
-use Rattle.edit.specs.Edit.{bytesOf, byteOf, bitIn, patternAt}
-use Rattle.edit.proofs.Steps.{bitsRead}
-use Rattle.edit.proofs.Usercode.{usercode, spot-in, spot-low, pair-more}
+use Rattle.setting_bits.specs.SettingBits.{bytesOf, byteOf, bitIn, patternAt}
+use Rattle.setting_bits.proofs.Steps.{bitsRead}
+use Rattle.setting_bits.proofs.Usercode.{usercode, spot-in, spot-low, pair-more}
 use borrow.Author.Needs.{needs}
-use Rattle.edit.proofs.internal.usercode_at.Statement.{statement}
-use Rattle.edit.proofs.internal.usercode_at.Tie as tie
+use Rattle.setting_bits.proofs.internal.usercode_at.Statement.{statement}
+use Rattle.setting_bits.proofs.internal.usercode_at.Tie as tie
 
 -- what has been read so far
 record Read (d : Device) (form : Bool) (bytes : List ℕ) (pattern pair : ℕ) : Type 0 where
