@@ -5,7 +5,6 @@
 --   read-after-set, read-after-set-image   in any readout, whatever its other bytes hold, and in any image: a setting that was set reads
 --                    as set
 --   other-bits       .. and every bit of every byte that is none of the setting's stands as before
---   reads-numbered, sets-numbered   the edit by number and pattern is the edit by the setting and the value that they stand for
 use mathlib.Core.Path.{_≡_, _∙_}
 use mathlib.Core.Bool.{Bool, true}
 use mathlib.Core.List.{List}
@@ -32,7 +31,6 @@ use Rattle.edit.proofs.NotRefused.{Clean}
 use Rattle.edit.proofs.ReadsAsSet.{image-clean, readout-clean, reads}
 pub use Rattle.setting_bits.proofs.Edits.{some-fuse}
 pub use Rattle.edit.proofs.Demand.{holds, of-calls}
-pub use Rattle.edit.proofs.Numbered.{reads-numbered, sets-numbered}
 
 module _ (d : Device) (k : known d ≡ true) (s : Setting) (h : hasSetting d s ≡ true) (v : Value) (pattern : ℕ) (p : patternIn (kindOf d s) v ≡ some pattern) where
   fits : pattern < 2 ^ bitsOf s

@@ -8,5 +8,4 @@ pub mod OthersAsBefore
 pub mod ListedFuses
 pub mod OtherFuses
 pub mod Demand
-pub mod Numbered
 pub mod Laws

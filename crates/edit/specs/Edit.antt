@@ -1,6 +1,6 @@
 -- Reading and setting a setting, in an image and in a readout: unless refused, setting puts a value's states there and changes no other
 -- bit; reading answers the value whose states stand there. Document 01, "What the statements must settle" and the refusals.
-use Prim.Native.Nat.{ℕ, _^_}
+use Prim.Native.Nat.{ℕ}
 use mathlib.Core.Bool.{Bool, true, false, cond}
 use mathlib.Core.List.{List}
 use mathlib.Core.Option.{Option}
@@ -14,15 +14,13 @@ use Rattle.part.specs.Convert.{ifKnown}
 use Rattle.part.specs.declared.Device.{Device}
 use Rattle.image.specs.Image.{ifLength}
 use Rattle.settings.specs.Settings.{hasSetting}
-use Rattle.settings.specs.Order.{countOf, settingOf}
 use Rattle.settings.specs.declared.Setting.{Setting}
-use Rattle.setting_places.specs.Places.{bitsOf}
 use Rattle.values.specs.Patterns.{patternIn}
 use Rattle.values.specs.declared.Value.{Value}
 use Rattle.setting_values.specs.Kinds.{kindOf, valueOf}
 use Rattle.setting_bits.specs.SettingBits.{bytesOf, patternAt, withPattern, strayOf}
 
--- the same for an image or a readout: an image has no bits above a width
+-- the lowest index of a byte that holds the setting and has a bit above its width, or the length: an image has no such bits
 unfoldable pub strayIn : Device → Bool → List ℕ → Setting → ℕ
 strayIn d false bytes s = imageBytes d
 strayIn d true bytes s = strayOf d bytes s
@@ -55,20 +53,3 @@ patternOr0 (some pattern) = pattern
 
 unfoldable pub withValue : Device → Bool → List ℕ → Setting → Value → List ℕ
 withValue d form bytes s v = withPattern d form bytes s (patternOr0 (patternIn (kindOf d s) v))
-
--- the same by setting number and pattern: 4 for a number at or over the count, 5 for a pattern of 2^width or more
-abbrev pub ifNumber : {A : Type 0} → Device → Bool → List ℕ → ℕ → (Setting → Outcome A) → Outcome A
-ifNumber d form bytes number answer =
-    ifKnown d
-    (ifLength (length bytes) (bytesOf d form) (cond (ltb number (countOf d)) (answer (settingOf d number)) (refused 4 0)))
-
-unfoldable pub readPattern : Device → Bool → List ℕ → ℕ → Outcome ℕ
-readPattern d form bytes number =
-    ifNumber d form bytes number (λ s. ifClean d form bytes s (accepted (patternAt d form bytes s)))
-
-unfoldable pub setPattern : Device → Bool → List ℕ → (number pattern : ℕ) → Outcome (Unit {0})
-setPattern d form bytes number pattern =
-    ifNumber d form bytes number (λ s. cond (ltb pattern (2 ^ bitsOf s)) (ifClean d form bytes s (accepted tt)) (refused 5 0))
-
-unfoldable pub withNumbered : Device → Bool → List ℕ → (number pattern : ℕ) → List ℕ
-withNumbered d form bytes number pattern = withPattern d form bytes (settingOf d number) pattern

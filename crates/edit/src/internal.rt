@@ -1,23 +1,20 @@
 // Reading and setting in an image or a readout alike: what the operations need, and no caller.
-// A function here may require that the device is known and has the setting, and the bytes their length.
+// A function here may require that the device has the setting and the bytes their length.
 ghost use mathlib.Core.Path.{_≡_};
 ghost use mathlib.Core.Bool.{true};
 ghost use lib.ListN.{length};
 ghost use Rattle.part.specs.Device.{known};
-ghost use Rattle.part.specs.Answer.{numberOutcome};
 ghost use Rattle.readout.specs.Readout.{doneOutcome, Written};
 ghost use Rattle.settings.specs.Settings.{hasSetting};
 ghost use Rattle.setting_values.specs.Operations.{valueOutcome};
 ghost use Rattle.setting_bits.specs.SettingBits.{bytesOf};
-ghost use Rattle.edit.specs.Edit.{strayIn, readIn, setIn, withValue, readPattern, setPattern, withNumbered};
+ghost use Rattle.edit.specs.Edit.{strayIn, readIn, setIn, withValue};
 ghost use Rattle.edit.specs.Demand.{BothWays, callsOf};
 use part::Device;
-use part::NumberAnswer;
 use part::Refusal;
 use readout::DoneAnswer;
 use setting_values::ValueAnswer;
 use settings::Setting;
-use settings::SettingNumber;
 use values::Value;
 use values::internal::Found;
 
@@ -33,7 +30,7 @@ fn stray_in(d: Device, readout: bool, bytes: &[u8], s: Setting) -> usize
 }
 
 // The exact length of an image or a readout.
-fn bytes_of(d: Device, readout: bool) -> usize
+pub fn bytes_of(d: Device, readout: bool) -> usize
     requires { ⌜ known d ≡ true ⌝ }
     ensures { λ r. ⌜ r ≡ bytesOf d readout ⌝ }
 {
@@ -93,62 +90,6 @@ pub fn set(d: Device, readout: bool, bytes: &mut [u8], s: Setting, v: Value) -> 
         }
         Found::NoSuchValue => DoneAnswer::Refused(Refusal::NoSuchValue),
     }
-}
-
-// The pattern of a setting, by its number: through the setting and its value. Refused: 1, 2, 4, 6.
-pub fn read_numbered(d: Device, readout: bool, bytes: &[u8], number: SettingNumber) -> NumberAnswer
-    ensures { λ r. ⌜ numberOutcome r ≡ readPattern d readout (now (bytes .entry)) (number .0) ⌝ }
-{
-    if !part::is_known(d) {
-        return NumberAnswer::Refused(Refusal::UnknownDevice);
-    }
-    if bytes.len() != bytes_of(d, readout) {
-        return NumberAnswer::Refused(Refusal::WrongLength);
-    }
-    if settings::internal::count_of(d) <= number.0 {
-        return NumberAnswer::Refused(Refusal::NoSuchSetting);
-    }
-    let s = settings::internal::setting_of(d, number);
-    let answer = read(d, readout, bytes, s);
-    match answer {
-        ValueAnswer::Value(v) => {
-            let kind = setting_values::internal::kind_of(d, s);
-            let found = values::internal::pattern_in(kind, v);
-            match found {
-                Found::Pattern(pattern) => NumberAnswer::Number(pattern),
-                Found::NoSuchValue => NumberAnswer::Refused(Refusal::NoSuchValue),
-            }
-        }
-        ValueAnswer::Refused(r) => NumberAnswer::Refused(r),
-    }
-}
-
-// A setting set to a pattern, by its number: through the setting and the value. Refused: 1, 2, 4, 5, 6.
-pub fn set_numbered(
-    d: Device,
-    readout: bool,
-    bytes: &mut [u8],
-    number: SettingNumber,
-    pattern: u32,
-) -> DoneAnswer
-    ensures { λ r. ⌜ Written (setPattern d readout (now (bytes .entry)) (number .0) pattern) (doneOutcome r) (withNumbered d readout (now (bytes .entry)) (number .0) pattern) (now (bytes .entry)) (now (bytes .exit)) ⌝ }
-{
-    if !part::is_known(d) {
-        return DoneAnswer::Refused(Refusal::UnknownDevice);
-    }
-    if bytes.len() != bytes_of(d, readout) {
-        return DoneAnswer::Refused(Refusal::WrongLength);
-    }
-    if settings::internal::count_of(d) <= number.0 {
-        return DoneAnswer::Refused(Refusal::NoSuchSetting);
-    }
-    let s = settings::internal::setting_of(d, number);
-    let kind = setting_values::internal::kind_of(d, s);
-    if !values::internal::fits(kind, pattern) {
-        return DoneAnswer::Refused(Refusal::NoSuchValue);
-    }
-    let v = values::internal::value_in(kind, pattern);
-    set(d, readout, bytes, s, v)
 }
 
 // What the calls of `both_ways` answered.

@@ -1,5 +1,5 @@
 // The bits of a setting in an image or a readout: read, put in place, and the byte that has one above its width.
-// A function here requires that the device is known and has the setting, and the bytes their length.
+// A function here may require that the device has the setting and the bytes their length.
 ghost use mathlib.Core.Path.{_≡_};
 ghost use mathlib.Core.Bool.{true, false, cond, not, _&&_};
 ghost use Prim.Native.Nat.{ℕ, _+_, _*_, _/_, _^_, _<_};

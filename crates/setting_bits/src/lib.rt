@@ -1,3 +1,3 @@
 // The bits of a setting in an image or a readout: where each stands, the states that stand there, and a change of them.
-// The functions stand in `internal`: `edit` calls them once nothing is left to refuse.
+// The functions stand in `internal`: they serve the crates above.
 pub mod internal;

@@ -1,5 +1,6 @@
--- The edit by number and pattern is the edit by the setting and the value that they stand for, refusals 2 and 6 included.
--- Assumes nothing.
+-- What holds of reading and setting by setting number and pattern, for every device, number and pattern that there are:
+--   reads-numbered, sets-numbered   the edit by number and pattern is the edit by the setting and the value that they stand for,
+--                                   refusals 2 and 6 included
 use mathlib.Core.Path.{_≡_, refl, sym, _∙_}
 use mathlib.Core.Bool.{Bool, true, false, cond}
 use mathlib.Core.List.{List}
@@ -27,7 +28,8 @@ use Rattle.part.proofs.Conversions.{passed}
 use Rattle.image.proofs.Bits.{gathered-small}
 use Rattle.setting_bits.specs.SettingBits.{bytesOf, stateOf, patternAt}
 use Rattle.setting_bits.proofs.Steps.{state-small}
-use Rattle.edit.specs.Edit.{withValue, strayIn, readIn, setIn, readPattern, setPattern, withNumbered}
+use Rattle.edit.specs.Edit.{withValue, strayIn, readIn, setIn}
+use Rattle.edit_by_number.specs.ByNumber.{readPattern, setPattern, withNumbered}
 
 -- an outcome with its result turned into another
 abbrev pub mapped : {A B : Type 0} → (A → B) → Outcome A → Outcome B

@@ -26,11 +26,12 @@ use Rattle.values.specs.declared.Kind.{Kind}
 use Rattle.setting_values.specs.Kinds.{kindOf, valueOf}
 use Rattle.setting_values.proofs.Widths.{kind-bits}
 use Rattle.setting_bits.specs.SettingBits.{bytesOf}
-use Rattle.edit.specs.Edit.{setIn, withValue, setPattern, withNumbered}
-use Rattle.edit.proofs.Numbered.{sets-numbered}
+use Rattle.edit.specs.Edit.{setIn, withValue}
+use Rattle.edit_by_number.specs.ByNumber.{setPattern, withNumbered}
+use Rattle.edit_by_number.proofs.Laws.{sets-numbered}
 use borrow.Author.Needs.{needs}
-use Rattle.edit.proofs.internal.set_numbered.Statement.{statement}
-use Rattle.edit.proofs.internal.set_numbered.Tie as tie
+use Rattle.edit_by_number.proofs.internal.set_numbered.Statement.{statement}
+use Rattle.edit_by_number.proofs.internal.set_numbered.Tie as tie
 
 -- what the call must give: the outcome's answer, and the bytes that go with it
 abbrev Given : Device → Bool → List ℕ → (x pattern : ℕ) → Outcome (Unit {0}) → List ℕ → Type 0

@@ -26,11 +26,12 @@ use Rattle.values.specs.declared.Kind.{Kind}
 use Rattle.values.specs.declared.internal.Found.{Found}
 use Rattle.values.specs.declared.internal.Found.the-variants.{Pattern, NoSuchValue}
 use Rattle.setting_bits.specs.SettingBits.{bytesOf}
-use Rattle.edit.specs.Edit.{readIn, readPattern}
-use Rattle.edit.proofs.Numbered.{read-value, read-refused}
+use Rattle.edit.specs.Edit.{readIn}
+use Rattle.edit_by_number.specs.ByNumber.{readPattern}
+use Rattle.edit_by_number.proofs.Laws.{read-value, read-refused}
 use borrow.Author.Needs.{needs}
-use Rattle.edit.proofs.internal.read_numbered.Statement.{statement}
-use Rattle.edit.proofs.internal.read_numbered.Tie as tie
+use Rattle.edit_by_number.proofs.internal.read_numbered.Statement.{statement}
+use Rattle.edit_by_number.proofs.internal.read_numbered.Tie as tie
 
 no-device : (d : Device) (form : Bool) (bytes : List ℕ) (x : ℕ) → known d ≡ false → refused 1 0 ≡ readPattern d form bytes x
 unfolding readPattern
