@@ -15,7 +15,7 @@ use native.Mathlib.Nat.{mod-lt, mod-one, suc-add, suc-mul, add-comm, zero-add, m
 use lib.Bits.{bitAnd, and-block, and-mask}
 use lib.Dec.{eqb}
 use lib.ListN.{length, getD, take, drop, replicate, length-drop, drop-of-length-le}
-use lib.Seq.{drop-cons, drop-drop, getD-drop}
+use lib.Seq.{take-nil, drop-cons, drop-drop, getD-drop}
 use lib.Pow.{pow-pos, high, low, mod-mod-pow, mod-pow-add}
 use borrow.Author.Tests.{eqb-true}
 use Rattle.cells.specs.Cells.{cut, join}
@@ -196,11 +196,7 @@ module _ (a c xs : List ℕ) (e : statesIn a ≡ some xs) where
 -- bytes taken in two parts
 pub take-more : (k j : ℕ) (l : List ℕ) → take (k + j) l ≡ take k l ++ take j (drop k l)
 take-more zero j l = rw (zero-add j)
-take-more (suc k) j [] = rw (suc-add k j) (sym (none-left j))
-  where
-    none-left : (i : ℕ) → _≡_ {A = List ℕ} (take i []) []
-    none-left zero = refl
-    none-left (suc i) = refl
+take-more (suc k) j [] = rw (suc-add k j) (sym (take-nil j))
 take-more (suc k) j (x ∷ l) = rw (suc-add k j) (ap (λ (r : List ℕ). x ∷ r) (take-more k j l))
 
 -- bytes that are all states
@@ -244,7 +240,7 @@ no-blank bytes b rest e h = go (isBlank b) refl
     go true f = let z : _≡_ {A = ℕ} (cond (isBlank b) 1 0) 0 = rw e at h in let y : _≡_ {A = ℕ} 1 0 = rw f at z in absurd (omega arith)
     go false f = refl
 
-nothing-more : (xs : List ℕ) → xs ++ [] ≡ xs
+pub nothing-more : (xs : List ℕ) → xs ++ [] ≡ xs
 nothing-more [] = refl
 nothing-more (x ∷ xs) = ap (λ (l : List ℕ). x ∷ l) (nothing-more xs)
 
