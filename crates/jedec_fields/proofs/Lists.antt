@@ -5,7 +5,7 @@
 --   list-found                a good L field, by what follows the L
 use mathlib.Core.Path.{_≡_, refl, sym, _∙_, ap}
 use mathlib.Core.Bool.{Bool, true, false, cond, _&&_, _||_}
-use mathlib.Core.List.{List, [], _∷_, _++_}
+use mathlib.Core.List.{List, [], _∷_, _++_, append-nil}
 use mathlib.Core.Option.{Option}
 use mathlib.Core.Option.Option.{none, some}
 use Prim.Native.Nat.{ℕ, zero, suc, _+_, _*_, _-_, _≤_, _<_}
@@ -22,7 +22,7 @@ use Rattle.jedec.specs.Cut.{holdsMark}
 use Rattle.jedec.specs.Judge.{Judged, unbroken, before, statesIn, statesFrom, listIn}
 use Rattle.jedec_runs.specs.Runs.{Taken}
 use Rattle.jedec_runs.specs.declared.internal.States.{States}
-use Rattle.jedec_runs.proofs.Words.{states-append, states-none, take-more, nothing-more}
+use Rattle.jedec_runs.proofs.Words.{states-append, states-none, take-more}
 use Rattle.jedec_fields.specs.Fields.{countOf, orEmpty, statesOf, RunStands, Says, untilStar, ListAt}
 use Rattle.jedec_fields.specs.declared.StatesRun.{StatesRun}
 use Rattle.jedec_fields.specs.declared.FieldSays.the-variants.{List as ListSaid}
@@ -209,7 +209,7 @@ list-found after skip first run n e l f m g h s z =
     record {
       inside = inside;
       until = ap untilStar (sym (take-append-drop long after)) ∙ plain-until (take long after) (drop long after) solid ∙ rw (star, field-long) (add-zero long);
-      unmarked = ap holdsMark (sym (nothing-more (take long after))) ∙ plain-marks (take long after) [] solid;
+      unmarked = ap holdsMark (sym (append-nil (take long after))) ∙ plain-marks (take long after) [] solid;
       says =
           a-list (take long after) skip first n (e ∙ sym (unbroken-take after long (rw (← e) (omega arith)))) (omega arith) (rw digits f) (rw rest (sym g)) z;
     }

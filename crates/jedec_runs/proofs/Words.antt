@@ -6,7 +6,7 @@
 --   taken-word, taken-one, taken-none   what is taken at an offset
 use mathlib.Core.Path.{_≡_, refl, sym, _∙_, ap, ap₂}
 use mathlib.Core.Bool.{Bool, true, false, cond, _||_}
-use mathlib.Core.List.{List, [], _∷_, _++_}
+use mathlib.Core.List.{List, [], _∷_, _++_, append-nil}
 use mathlib.Core.Option.{Option}
 use mathlib.Core.Option.Option.{none, some}
 use Prim.Native.Nat.{ℕ, zero, suc, _+_, _*_, _-_, _/_, _%_, _^_, _≤_, _<_}
@@ -240,10 +240,6 @@ no-blank bytes b rest e h = go (isBlank b) refl
     go true f = let z : _≡_ {A = ℕ} (cond (isBlank b) 1 0) 0 = rw e at h in let y : _≡_ {A = ℕ} 1 0 = rw f at z in absurd (omega arith)
     go false f = refl
 
-pub nothing-more : (xs : List ℕ) → xs ++ [] ≡ xs
-nothing-more [] = refl
-nothing-more (x ∷ xs) = ap (λ (l : List ℕ). x ∷ l) (nothing-more xs)
-
 -- what stands at an offset
 module _ (bytes : List ℕ) (at : ℕ) where
   pub none-there : length bytes ≤ at → IsBlankAt bytes at 0
@@ -262,7 +258,7 @@ with-blank : (bytes : List ℕ) (at k z : ℕ) (states : List ℕ) → IsBlankAt
 with-blank bytes at k z states b e =
     let behind : drop k (drop at bytes) ≡ drop (at + k) bytes = drop-drop k at bytes in
     let blank : statesIn (take z (drop k (drop at bytes))) ≡ some [] = rw (behind, b .is) (blank-written (drop (at + k) bytes)) in
-    rw (take-more k z (drop at bytes)) (states-append (take k (drop at bytes)) (take z (drop k (drop at bytes))) states e [] blank) ∙ ap some (nothing-more states)
+    rw (take-more k z (drop at bytes)) (states-append (take k (drop at bytes)) (take z (drop k (drop at bytes))) states e [] blank) ∙ ap some (append-nil states)
 
 module _ (bytes : List ℕ) (at : ℕ) (o : (k : ℕ) → Fits w8 (getD bytes k 0)) where
   octets-from : Octets (drop at bytes)
