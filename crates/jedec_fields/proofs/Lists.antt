@@ -15,14 +15,15 @@ use lib.Dec.{eqb, leb}
 use lib.ListN.{length, getD, take, drop, replicate, length-append, length-replicate, length-drop, take-append-drop}
 use lib.Seq.{take-all, length-take-le, take-append-le, drop-append-seam, drop-cons, drop-drop, split-at}
 use borrow.Author.Tests.{ne-eqb}
-use Rattle.cells.specs.Cells.{cut}
+use Rattle.cells.specs.Cells.{cut, join}
 use Rattle.cells.proofs.Laws.{cut-length}
 use Rattle.jedec.specs.Characters.{isBlank, isMark, decimalValue, andThen, digitsRead, numberIn}
 use Rattle.jedec.specs.Cut.{holdsMark}
 use Rattle.jedec.specs.Judge.{Judged, unbroken, before, statesIn, statesFrom, listIn}
-use Rattle.jedec_runs.specs.Runs.{Taken}
-use Rattle.jedec_runs.specs.declared.internal.States.{States}
-use Rattle.jedec_runs.proofs.Words.{states-append, states-none, take-more}
+use mir.Syntax.{w8}
+use mir.Val.{Fits}
+use Rattle.jedec_runs.specs.Runs.{IsBlankAt, StatesAt}
+use Rattle.jedec_runs.proofs.Words.{Taken, taken-at, states-append, states-none, take-more}
 use Rattle.jedec_fields.specs.Fields.{countOf, orEmpty, statesOf, RunStands, Says, untilStar, ListAt}
 use Rattle.jedec_fields.specs.declared.StatesRun.{StatesRun}
 use Rattle.jedec_fields.specs.declared.FieldSays.the-variants.{List as ListSaid}
@@ -51,26 +52,30 @@ module _ (bytes : List ℕ) (n i : ℕ) (c : Counts bytes n i) where
   counted : (statesIn (take i bytes) ≡ some (orEmpty (statesIn (take i bytes)))) × (length (orEmpty (statesIn (take i bytes))) ≡ n)
   counted = some-counted (statesIn (take i bytes)) n (sym (c .so-far))
 
-  pub upto : i ≤ length bytes
-  upto = c .upto
+  module _ (count z : ℕ) (l : i < length bytes) (o : (k : ℕ) → Fits w8 (getD bytes k 0)) (there : StatesAt bytes i count) (blank : IsBlankAt bytes (i + count) z) where
+    s : Taken bytes i count (count + z)
+    s = taken-at bytes i count z l o there blank
 
-  module _ (t : States) (s : Taken bytes i t) where
-    pub counts-stop : t .taken ≡ 0 → RunStands bytes (record { length = i; count = n })
-    counts-stop z =
+    pub counts-stop : count + z ≡ 0 → RunStands bytes (record { length = i; count = n })
+    counts-stop none-there =
         record {
           inside = c .upto;
           few = c .few;
           writes = c .so-far;
-          stops = λ l. ap statesIn (sym (take-append-drop i bytes)) ∙ states-none (take i bytes) (drop i bytes) _ (counted .0) (s .stops z);
+          stops = λ l. ap statesIn (sym (take-append-drop i bytes)) ∙ states-none (take i bytes) (drop i bytes) _ (counted .0) (s .stops none-there);
         }
 
-    pub counts-again : Counts bytes (n + t .count) (i + t .taken)
+    pub counts-inside : i + (count + z) ≤ length bytes
+    counts-inside = s .inside
+
+    pub counts-again : Counts bytes (n + count) (i + (count + z))
     counts-again =
         let before = orEmpty (statesIn (take i bytes)) in
-        let next = cut (replicate (t .count) 1) (t .bits) in
-        let all : statesIn (take (i + t .taken) bytes) ≡ some (before ++ next) = ap statesIn (take-more i (t .taken) bytes) ∙ states-append (take i bytes) (take (t .taken) (drop i bytes)) before (counted .0) next (s .writes) in
-        let long : length (before ++ next) ≡ n + t .count = length-append before next ∙ rw (counted .1, cut-length (replicate (t .count) 1) (t .bits), length-replicate {A = ℕ} (t .count) 1) in
-        record { upto = s .inside; few = omega (arith, c .few, s .enough); so-far = ap countOf all ∙ ap some long }
+        let bits = join (replicate count 1) (drop i bytes) in
+        let next = cut (replicate count 1) bits in
+        let all : statesIn (take (i + (count + z)) bytes) ≡ some (before ++ next) = ap statesIn (take-more i (count + z) bytes) ∙ states-append (take i bytes) (take (count + z) (drop i bytes)) before (counted .0) next (s .writes) in
+        let long : length (before ++ next) ≡ n + count = length-append before next ∙ rw (counted .1, cut-length (replicate count 1) bits, length-replicate {A = ℕ} count 1) in
+        record { upto = s .inside; few = omega (arith, c .few); so-far = ap countOf all ∙ ap some long }
 
   pub counts-end : length bytes ≤ i → RunStands bytes (record { length = i; count = n })
   counts-end l = record { inside = c .upto; few = c .few; writes = c .so-far; stops = λ m. absurd (omega arith) }

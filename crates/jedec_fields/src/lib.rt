@@ -11,6 +11,7 @@ ghost use Rattle.jedec.specs.Judge.Judged.{sum};
 ghost use Rattle.jedec.specs.Judge.{orBad, unbroken, statesIn, startIn, listIn, afterQ, byLetters};
 ghost use Rattle.jedec_fields.specs.Fields.{valueOr, numberOf, countOf, countIn, RunStands, Says};
 use jedec::is_blank;
+use jedec_runs::internal::blank_at;
 use jedec_runs::internal::states_at;
 
 pub mod internal;
@@ -194,15 +195,16 @@ pub fn states_run(bytes: &[u8]) -> StatesRun
     let mut n: usize = 0;
     let mut i: usize = 0;
     while i < bytes.len() {
-        let next = states_at(bytes, i);
-        if next.taken == 0 {
+        let count = states_at(bytes, i);
+        let taken = count + blank_at(bytes, i + count);
+        if taken == 0 {
             return StatesRun {
                 length: i,
                 count: n,
             };
         }
-        n += next.count;
-        i += next.taken;
+        n += count;
+        i += taken;
     }
     StatesRun {
         length: i,

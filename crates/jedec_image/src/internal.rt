@@ -10,6 +10,8 @@ ghost use Rattle.jedec.specs.Rules.{stateGiven, imageWith};
 ghost use Rattle.jedec_fields.specs.Fields.{statesOf};
 ghost use Rattle.jedec_image.specs.States.{withStates};
 use cells::internal::low_bits;
+use jedec_runs::internal::bits_at;
+use jedec_runs::internal::blank_at;
 use jedec_runs::internal::states_at;
 
 // A byte of which the lowest bits have a state, and the others are 0.
@@ -48,10 +50,10 @@ pub fn put_states(bytes: &[u8], image: &mut [u8], fuse: usize)
     let mut low = low_bits(image[index] as u64, bit);
     let mut i: usize = 0;
     while i < bytes.len() {
-        let next = states_at(bytes, i);
-        i += next.taken;
-        low += next.bits << bit;
-        bit += next.count as u32;
+        let count = states_at(bytes, i);
+        low += bits_at(bytes, i, count) << bit;
+        bit += count as u32;
+        i += count + blank_at(bytes, i + count);
         if 8 <= bit {
             image[index] = low_bits(low, 8) as u8;
             low = low >> 8;

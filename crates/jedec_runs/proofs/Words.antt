@@ -3,7 +3,8 @@
 --   all-states                   what is left is the character 0 in each of the first bytes
 --   together                     the lowest bits side by side, by one computed test over all of them
 --   states-append, states-none   the states that bytes in two parts write
---   taken-word, taken-one, taken-none   what is taken at an offset
+--   by-word, one-state, none-taken, bits-by-word   states at an offset, and their bits
+--   Taken, taken-at              what is taken at an offset with a blank behind it
 use mathlib.Core.Path.{_≡_, refl, sym, _∙_, ap, ap₂}
 use mathlib.Core.Bool.{Bool, true, false, cond, _||_}
 use mathlib.Core.List.{List, [], _∷_, _++_, append-nil}
@@ -11,7 +12,7 @@ use mathlib.Core.Option.{Option}
 use mathlib.Core.Option.Option.{none, some}
 use Prim.Native.Nat.{ℕ, zero, suc, _+_, _*_, _-_, _/_, _%_, _^_, _≤_, _<_}
 use native.Mathlib.Omega.{arith}
-use native.Mathlib.Nat.{mod-lt, mod-one, suc-add, suc-mul, add-comm, zero-add, mod-eq-of-lt}
+use native.Mathlib.Nat.{mod-lt, mod-one, suc-add, suc-mul, add-zero, zero-add, mod-eq-of-lt}
 use lib.Bits.{bitAnd, and-block, and-mask}
 use lib.Dec.{eqb}
 use lib.ListN.{length, getD, take, drop, replicate, length-drop, drop-of-length-le}
@@ -26,7 +27,7 @@ use Rattle.jedec.specs.Characters.{isBlank, andThen}
 use Rattle.jedec.specs.Judge.{before, statesIn}
 use mir.Syntax.{w8}
 use mir.Val.{Fits}
-use Rattle.jedec_runs.specs.Runs.{AllStates, oneIfBlank, IsBlankAt, Taken}
+use Rattle.jedec_runs.specs.Runs.{AllStates, oneIfBlank, IsBlankAt, StatesAt}
 
 -- the lowest bits of so many bytes, a byte each
 pub spread : ℕ → List ℕ → ℕ
@@ -120,21 +121,23 @@ unfolding AllStates
 no-states bytes = tt
 
 module _ (word : ℕ) (bytes : List ℕ) (e : word ≡ join (replicate 8 8) bytes) where
-  pub eight-states : word - bitAnd word 0x0101010101010101 ≡ 0x3030303030303030 → AllStates 8 bytes
-  unfolding zeros
-  eight-states f = evens-zeros 8 bytes (sym (characters-of word bytes e) ∙ f)
-
-  first-states : (k j : ℕ) → k + j ≡ 8 → (word - bitAnd word 0x0101010101010101) % 2 ^ (k * 8) ≡ zeros k → AllStates k bytes
-  first-states k j h f = evens-zeros k bytes (sym (evens-low k j bytes) ∙ rw (h, ← characters-of word bytes e) f)
-
-  module _ (x y : ℕ) where
-    pub seven-states : x ≡ (word - bitAnd word 0x0101010101010101) % 2 ^ 56 → y ≡ 0x3030303030303030 % 2 ^ 56 → x ≡ y → AllStates 7 bytes
+  -- what differs from the character 0
+  module _ (others : ℕ) (d : (others + 0x3030303030303030) % 2 ^ 64 ≡ word - bitAnd word 0x0101010101010101) where
+    pub eight-states : others ≡ 0 → AllStates 8 bytes
     unfolding zeros
-    seven-states f g h = first-states 7 1 refl (sym f ∙ h ∙ g)
+    eight-states z = evens-zeros 8 bytes (sym (characters-of word bytes e) ∙ sym d ∙ rw z)
 
-    pub six-states : x ≡ (word - bitAnd word 0x0101010101010101) % 2 ^ 48 → y ≡ 0x3030303030303030 % 2 ^ 48 → x ≡ y → AllStates 6 bytes
-    unfolding zeros
-    six-states f g h = first-states 6 2 refl (sym f ∙ h ∙ g)
+    first-states : (k j : ℕ) → k + j ≡ 8 → (others + 0x3030303030303030) % 2 ^ 64 % 2 ^ (k * 8) ≡ zeros k → AllStates k bytes
+    first-states k j h f = evens-zeros k bytes (sym (evens-low k j bytes) ∙ rw (h, ← characters-of word bytes e, ← d) f)
+
+    module _ (x : ℕ) where
+      pub seven-states : x ≡ others % 2 ^ 56 → x ≡ 0 → AllStates 7 bytes
+      unfolding zeros
+      seven-states f g = first-states 7 1 refl (omega arith)
+
+      pub six-states : x ≡ others % 2 ^ 48 → x ≡ 0 → AllStates 6 bytes
+      unfolding zeros
+      six-states f g = first-states 6 2 refl (omega arith)
 
 -- the lowest bits side by side
 abbrev apart : ℕ → ℕ
@@ -212,6 +215,9 @@ state-first b bytes states h e = go (b % 2) refl
     go (suc zero) f = let v : b ≡ 49 = omega arith in rw (v, e)
     go (suc (suc r)) f = absurd (omega arith)
 
+state-half : (b : ℕ) → (eqb b 48 || eqb b 49) ≡ true → b / 2 ≡ 24
+state-half b s = either (eqb b 48) (eqb b 49) s (λ e. let v : b ≡ 48 = eqb-true b 48 e in omega arith) (λ e. let v : b ≡ 49 = eqb-true b 49 e in omega arith)
+
 states-written : (k : ℕ) (bytes : List ℕ) → k ≤ length bytes → Octets bytes → AllStates k bytes → statesIn (take k bytes) ≡ some (cut (replicate k 1) (join (replicate k 1) bytes))
 unfolding AllStates statesIn cut
 states-written zero bytes l o s = none-taken bytes
@@ -260,69 +266,56 @@ with-blank bytes at k z states b e =
     let blank : statesIn (take z (drop k (drop at bytes))) ≡ some [] = rw (behind, b .is) (blank-written (drop (at + k) bytes)) in
     rw (take-more k z (drop at bytes)) (states-append (take k (drop at bytes)) (take z (drop k (drop at bytes))) states e [] blank) ∙ ap some (append-nil states)
 
-module _ (bytes : List ℕ) (at : ℕ) (o : (k : ℕ) → Fits w8 (getD bytes k 0)) where
-  octets-from : Octets (drop at bytes)
-  octets-from k = rw (getD-drop at bytes k 0) (o (at + k) .fits)
-
-  pub taken-word : (word count whole bits z : ℕ) → 8 ≤ length bytes - at → word ≡ join (replicate 8 8) (drop at bytes) → count ≤ 8 → 0 < count
-      → ((cs : List ℕ) → word ≡ join (replicate 8 8) cs → AllStates count cs)
-      → ((x : ℕ) → x < 2 ^ 8 → bitAnd word 0x0101010101010101 ≡ join (replicate 8 8) (cut (replicate 8 1) x) → whole ≡ x) → bits ≡ whole % 2 ^ count
-      → IsBlankAt bytes (at + count) z → Taken bytes at (record { count = count; bits = bits; taken = count + z })
+module _ (bytes : List ℕ) (at : ℕ) where
+  -- the first of eight bits
+  pub bits-by-word : (word whole r count : ℕ) → word ≡ join (replicate 8 8) (drop at bytes) → count ≤ 8
+      → ((x : ℕ) → x < 2 ^ 8 → bitAnd word 0x0101010101010101 ≡ join (replicate 8 8) (cut (replicate 8 1) x) → whole ≡ x) → r ≡ whole % 2 ^ count
+      → r ≡ join (replicate count 1) (drop at bytes)
   unfolding spread
-  taken-word word count whole bits z l is few some-there s w e b =
+  bits-by-word word whole r count is few w e =
       let here : whole ≡ join (replicate 8 1) (drop at bytes) =
       w (join (replicate 8 1) (drop at bytes)) (rw (total-replicate 8 1) at (join-small (replicate 8 1) (drop at bytes))) (and-apart word (drop at bytes) is) in
       let more : count + (8 - count) ≡ 8 = omega arith in
-      let own : bits ≡ join (replicate count 1) (drop at bytes) = e ∙ ap (λ (x : ℕ). x % 2 ^ count) here ∙ ap (λ (n : ℕ). join (replicate n 1) (drop at bytes) % 2 ^ count) (sym more) ∙ bits-low count (8 - count) (drop at bytes) in
-      let long : count ≤ length (drop at bytes) = rw (length-drop at bytes) (omega arith) in
-      record {
-        inside = omega (arith, b .inside (omega arith));
-        few = few;
-        enough = omega arith;
-        small = rw e (mod-lt whole (pow-pos count));
-        writes = with-blank bytes at count z _ b (states-written count (drop at bytes) long octets-from (s (drop at bytes) is) ∙ rw own);
-        stops = λ h. absurd (omega arith);
-      }
+      e ∙ ap (λ (x : ℕ). x % 2 ^ count) here ∙ ap (λ (n : ℕ). join (replicate n 1) (drop at bytes) % 2 ^ count) (sym more) ∙ bits-low count (8 - count) (drop at bytes)
 
--- a state is one of two bytes
-state-half : (b : ℕ) → (eqb b 48 || eqb b 49) ≡ true → b / 2 ≡ 24
-state-half b s = either (eqb b 48) (eqb b 49) s (λ e. let v : b ≡ 48 = eqb-true b 48 e in omega arith) (λ e. let v : b ≡ 49 = eqb-true b 49 e in omega arith)
+  pub by-word : (word count : ℕ) → 8 ≤ length bytes - at → word ≡ join (replicate 8 8) (drop at bytes) → count ≤ 8
+      → ((cs : List ℕ) → word ≡ join (replicate 8 8) cs → AllStates count cs) → 0 < count → StatesAt bytes at count
+  by-word word count l is few s m = record { inside = omega arith; few = few; states = s (drop at bytes) is; stops = λ z. absurd (omega arith) }
 
-pub state-low : (b : ℕ) → (eqb b 48 || eqb b 49) ≡ true → 48 ≤ b
-state-low b s = omega (arith, state-half b s)
+  module _ (l : at < length bytes) (o : (k : ℕ) → Fits w8 (getD bytes k 0)) where
+    pub one-state : (eqb (getD bytes at 0) 48 || eqb (getD bytes at 0) 49) ≡ true → StatesAt bytes at 1
+    unfolding AllStates
+    one-state s =
+        let first : getD (drop at bytes) 0 0 ≡ getD bytes at 0 = getD-drop at bytes 0 0 ∙ ap (λ (n : ℕ). getD bytes n 0) (add-zero at) in
+        let half : getD bytes at 0 / 2 ≡ 24 = state-half (getD bytes at 0) s in
+        record { inside = omega arith; few = omega arith; states = (rw (first, mod-eq-of-lt (o at .fits)) half, tt); stops = λ z. absurd (omega arith) }
 
-pub state-wide : (b : ℕ) → (eqb b 48 || eqb b 49) ≡ true → b - 48 < 2 ^ 64
-state-wide b s = omega (arith, state-half b s)
+    pub none-taken : (eqb (getD bytes at 0) 48 || eqb (getD bytes at 0) 49) ≡ false → StatesAt bytes at 0
+    none-taken s = record { inside = omega arith; few = omega arith; states = no-states (drop at bytes); stops = λ z. s }
 
-module _ (bytes : List ℕ) (at : ℕ) (l : at < length bytes) where
-  first-there : drop at bytes ≡ getD bytes at 0 ∷ drop (suc at) bytes
-  first-there = drop-cons bytes at 0 l
+-- what is taken at an offset: states and a blank behind them
+pub record Taken (bytes : List ℕ) (at count taken : ℕ) : Type 0 where
+  pub inside : at + taken ≤ length bytes
+  pub few : count ≤ 8
+  pub enough : count ≤ taken
+  pub writes : statesIn (take taken (drop at bytes)) ≡ some (cut (replicate count 1) (join (replicate count 1) (drop at bytes)))
+  pub stops : taken ≡ 0 → statesIn (drop at bytes) ≡ none
 
-  pub taken-one : (z : ℕ) → (eqb (getD bytes at 0) 48 || eqb (getD bytes at 0) 49) ≡ true → IsBlankAt bytes (at + 1) z
-      → Taken bytes at (record { count = 1; bits = getD bytes at 0 - 48; taken = 1 + z })
-  unfolding cut statesIn
-  taken-one z s b =
-      let x = getD bytes at 0 in
-      let half : x / 2 ≡ 24 = state-half x s in
-      let same : (x - 48) % 2 ^ 1 ≡ x % 2 ^ 1 = omega arith in
-      record {
-        inside = omega (arith, b .inside (omega arith));
-        few = omega arith;
-        enough = omega arith;
-        small = omega arith;
-        writes = with-blank bytes at 1 z _ b (rw (first-there, same) (state-first x [] [] half refl));
-        stops = λ h. absurd (omega arith);
-      }
-
-  pub taken-none : (z : ℕ) → (eqb (getD bytes at 0) 48 || eqb (getD bytes at 0) 49) ≡ false → IsBlankAt bytes at z
-      → Taken bytes at (record { count = 0; bits = 0; taken = z })
-  unfolding cut statesIn
-  taken-none z s b =
-      record {
-        inside = b .inside (omega arith);
-        few = omega arith;
-        enough = omega arith;
-        small = omega arith;
-        writes = rw (b .is) (blank-written (drop at bytes));
-        stops = λ h. rw (first-there, no-blank (drop at bytes) (getD bytes at 0) (drop (suc at) bytes) first-there (sym (b .is) ∙ h), s);
-      }
+pub taken-at : (bytes : List ℕ) (at count z : ℕ) → at < length bytes → ((k : ℕ) → Fits w8 (getD bytes k 0)) → StatesAt bytes at count → IsBlankAt bytes (at + count) z
+    → Taken bytes at count (count + z)
+unfolding statesIn
+taken-at bytes at count z l o s b =
+    let octets : Octets (drop at bytes) = λ k. rw (getD-drop at bytes k 0) (o (at + k) .fits) in
+    let long : count ≤ length (drop at bytes) = rw (length-drop at bytes) (omega (arith, s .inside)) in
+    record {
+      inside = omega (arith, b .inside (s .inside));
+      few = s .few;
+      enough = omega arith;
+      writes = with-blank bytes at count z _ b (states-written count (drop at bytes) long octets (s .states));
+      stops = λ h.
+          let c : count ≡ 0 = omega arith in
+          let y : z ≡ 0 = omega arith in
+          let here : at + count ≡ at = omega arith in
+          let none-blank : oneIfBlank (drop at bytes) ≡ 0 = sym (rw (here, y) at (b .is)) in
+          rw (drop-cons bytes at 0 l, no-blank (drop at bytes) (getD bytes at 0) (drop (suc at) bytes) (drop-cons bytes at 0 l) none-blank, s .stops c);
+    }

@@ -2,10 +2,11 @@
 // A function here may require that an offset is in the bytes.
 ghost use mathlib.Core.Path.{_≡_};
 ghost use mathlib.Core.List.{List};
-ghost use Prim.Native.Nat.{ℕ, _^_, _<_, _≤_};
-ghost use lib.ListN.{length, replicate};
+ghost use Prim.Native.Nat.{ℕ, _+_, _^_, _<_, _≤_};
+ghost use lib.ListN.{length, drop, replicate};
 ghost use Rattle.cells.specs.Cells.{cut, join};
-ghost use Rattle.jedec_runs.specs.Runs.{AllStates, Taken, IsBlankAt};
+ghost use Rattle.jedec_runs.specs.Runs.{AllStates, StatesAt, IsBlankAt};
+use cells::internal::joined;
 use cells::internal::low_bits;
 use cells::internal::word8;
 use jedec::is_blank;
@@ -14,13 +15,6 @@ use jedec::is_blank;
 const ONES: u64 = 0x0101_0101_0101_0101;
 
 const ZEROS: u64 = 0x3030_3030_3030_3030;
-
-// States that stand next: how many, which, the first as the lowest bit, and how many bytes they take with a blank behind them.
-pub struct States {
-    pub count: usize,
-    pub bits: u64,
-    pub taken: usize,
-}
 
 // The lowest bits of eight bytes side by side, for a word of nothing else. Those of the last four bytes are put between those of the
 // first four; a product by 2^3 + 2^10 + 2^17 + 2^24 has the eight from bit 24 on.
@@ -36,21 +30,51 @@ fn lowest_bits(ones: u64) -> u64
 fn states_first(word: u64) -> usize
     ensures { λ r. ⌜ (r ≤ 8) × ((bytes : List ℕ) → word ≡ join (replicate 8 8) bytes → AllStates r bytes) ⌝ }
 {
-    let characters = word - (word & ONES);
-    if characters == ZEROS {
+    let others = std::num::wrapping_sub_u64(word - (word & ONES), ZEROS);
+    if others == 0 {
         return 8;
     }
-    if low_bits(characters, 56) == low_bits(ZEROS, 56) {
+    if low_bits(others, 56) == 0 {
         return 7;
     }
-    if low_bits(characters, 48) == low_bits(ZEROS, 48) {
+    if low_bits(others, 48) == 0 {
         return 6;
     }
     0
 }
 
+// How many states stand at an offset, one next to another: at most eight, and perhaps not all; none only where none stands.
+pub fn states_at(bytes: &[u8], at: usize) -> usize
+    requires { ⌜ at < length (now bytes) ⌝ }
+    ensures { λ r. ⌜ StatesAt (now (bytes .entry)) at r ⌝ }
+{
+    if 8 <= bytes.len() - at {
+        let count = states_first(word8(bytes, at));
+        if 0 < count {
+            return count;
+        }
+    }
+    let b = bytes[at];
+    if (b == 48) | (b == 49) {
+        return 1;
+    }
+    0
+}
+
+// The lowest bits of so many bytes at an offset, the first as the lowest: for states, which they are.
+pub fn bits_at(bytes: &[u8], at: usize, count: usize) -> u64
+    requires { ⌜ (at + count ≤ length (now bytes)) × (count ≤ 8) ⌝ }
+    ensures { λ r. ⌜ r ≡ join (replicate count 1) (drop at (now (bytes .entry))) ⌝ }
+{
+    if 8 <= bytes.len() - at {
+        let bits = lowest_bits(word8(bytes, at) & ONES);
+        return low_bits(bits, count as u32);
+    }
+    joined(bytes, at, 1, count)
+}
+
 // 1 if a blank stands at an offset.
-fn blank_at(bytes: &[u8], at: usize) -> usize
+pub fn blank_at(bytes: &[u8], at: usize) -> usize
     ensures { λ r. ⌜ IsBlankAt (now (bytes .entry)) at r ⌝ }
 {
     if at < bytes.len() {
@@ -59,36 +83,4 @@ fn blank_at(bytes: &[u8], at: usize) -> usize
         }
     }
     0
-}
-
-// The states that stand at an offset.
-pub fn states_at(bytes: &[u8], at: usize) -> States
-    requires { ⌜ at < length (now bytes) ⌝ }
-    ensures { λ r. ⌜ Taken (now (bytes .entry)) at r ⌝ }
-{
-    if 8 <= bytes.len() - at {
-        let word = word8(bytes, at);
-        let count = states_first(word);
-        if 0 < count {
-            let bits = low_bits(lowest_bits(word & ONES), count as u32);
-            let taken = count + blank_at(bytes, at + count);
-            return States { count, bits, taken };
-        }
-    }
-    let b = bytes[at];
-    if (b == 48) | (b == 49) {
-        let bits = (b - 48) as u64;
-        let taken = 1 + blank_at(bytes, at + 1);
-        return States {
-            count: 1,
-            bits,
-            taken,
-        };
-    }
-    let taken = blank_at(bytes, at);
-    States {
-        count: 0,
-        bits: 0,
-        taken,
-    }
 }

@@ -2,7 +2,7 @@
 -- Assumes nothing.
 use Prim.Native.Nat.{_-_}
 use lib.ListN.{length}
-use Rattle.jedec_fields.proofs.Lists.{Counts, counts-start, counts-stop, counts-again, counts-end, upto}
+use Rattle.jedec_fields.proofs.Lists.{Counts, counts-start, counts-stop, counts-again, counts-end, counts-inside}
 use borrow.Author.Needs.{needs}
 use Rattle.jedec_fields.proofs.states_run.Statement.{statement}
 use Rattle.jedec_fields.proofs.states_run.Tie as tie
@@ -19,6 +19,15 @@ loop-holds c = search (needs, counts-start)
 states-at-requires : tie.Need-states-at-requires Inv-loop μ-loop
 states-at-requires c κs = search needs
 
+add-blank-at : tie.Need-add-blank-at Inv-loop μ-loop
+add-blank-at c = search needs
+
+blank-at-requires : tie.Need-blank-at-requires Inv-loop μ-loop
+blank-at-requires c κs = search needs
+
+add-taken : tie.Need-add-taken Inv-loop μ-loop
+add-taken c = search needs
+
 returns : tie.Need-returns Inv-loop μ-loop
 returns c = search (needs, counts-stop)
 
@@ -26,7 +35,7 @@ add-n : tie.Need-add-n Inv-loop μ-loop
 add-n c = search needs
 
 add-i : tie.Need-add-i Inv-loop μ-loop
-add-i c = search needs
+add-i c = search (needs, counts-inside)
 
 loop-less : tie.Need-loop-less Inv-loop μ-loop
 loop-less c = search needs
@@ -38,4 +47,4 @@ returns-2 : tie.Need-returns-2 Inv-loop μ-loop
 returns-2 c = search (needs, counts-end)
 
 pub states-run-spec : {M : Type 1} → statement M
-states-run-spec = tie.close (tie.spec Inv-loop μ-loop loop-holds states-at-requires returns add-n add-i loop-less loop-again returns-2)
+states-run-spec = tie.close (tie.spec Inv-loop μ-loop loop-holds states-at-requires add-blank-at blank-at-requires add-taken returns add-n add-i loop-less loop-again returns-2)

@@ -1,20 +1,20 @@
 -- `put_states` meets its contract: what is stored, with the new low bits of one byte, and the states still to come.
 -- Assumes nothing.
-use mathlib.Core.Path.{_≡_, refl, sym, _∙_, ap}
+use mathlib.Core.Path.{_≡_, refl, sym, _∙_, ap, subst}
 use mathlib.Core.List.{List, [], _∷_, _++_}
 use mathlib.Core.Option.Option.{none, some}
 use Prim.Native.Nat.{ℕ, zero, suc, _+_, _*_, _-_, _/_, _%_, _^_, _≤_, _<_}
 use native.Mathlib.Omega.{arith}
-use native.Mathlib.Nat.{mod-lt, mod-eq-of-lt, div-add-mod'}
+use native.Mathlib.Nat.{mod-lt, mod-eq-of-lt, div-add-mod', mul-one}
 use lib.ListN.{length, getD, set, drop, replicate, length-set, length-append, length-replicate, drop-of-length-le}
 use lib.Arith.{digits-lt}
 use lib.Pow.{pow-pos, pow-add, pow-mono, shl-exact, shr-lt}
 use mir.Syntax.{w8}
 use mir.Val.{Fits}
-use Rattle.cells.specs.Cells.{cut}
-use Rattle.cells.proofs.Laws.{cut-length}
-use Rattle.jedec_runs.specs.Runs.{Taken}
-use Rattle.jedec_runs.specs.declared.internal.States.{States}
+use Rattle.cells.specs.Cells.{cut, join}
+use Rattle.cells.proofs.Laws.{cut-length, join-small, total-replicate}
+use Rattle.jedec_runs.specs.Runs.{IsBlankAt, StatesAt}
+use Rattle.jedec_runs.proofs.Words.{Taken, taken-at}
 use Rattle.jedec_fields.specs.Fields.{statesOf}
 use Rattle.jedec_image.specs.States.{withStates}
 use Rattle.jedec_image.proofs.Puts.{Written, rest-written, none-written, pending, pending-none, pending-own, group-under, put-few, put-over}
@@ -68,80 +68,84 @@ module _ (bytes image₀ : List ℕ) (fuse : ℕ) (image : List ℕ) (index bit 
   octet-wide : getD image index 0 < 2 ^ 64
   octet-wide = byte-wide image index (r .octets)
 
-  module _ (t : States) (s : Taken bytes i t) where
-    abbrev next-low : ℕ
-    next-low = low + t .bits * 2 ^ bit % 2 ^ 64
+  module _ (count : ℕ) (there : StatesAt bytes i count) (bits : ℕ) (e : bits ≡ join (replicate count 1) (drop i bytes)) where
+    bits-small : bits < 2 ^ count
+    bits-small = rw e (subst (λ (n : ℕ). join (replicate count 1) (drop i bytes) < 2 ^ n) (total-replicate count 1 ∙ mul-one count) (join-small (replicate count 1) (drop i bytes)))
 
-    rest : (statesOf (drop i bytes) ≡ cut (replicate (t .count) 1) (t .bits) ++ statesOf (drop (i + t .taken) bytes)) × Written (drop (i + t .taken) bytes)
-    rest = rest-written bytes i (t .taken) (cut (replicate (t .count) 1) (t .bits)) (r .left) (s .writes)
+    exact : bits * 2 ^ bit % 2 ^ 64 ≡ bits * 2 ^ bit
+    exact = shl-exact count bit 64 bits-small (omega (arith, r .small, there .few))
 
-    -- a byte is taken, since every byte left is a state or a blank
-    falls : i < length bytes → length bytes - (i + t .taken) < length bytes - i
-    falls l = go (t .taken) refl
-      where
-        go : (k : ℕ) → t .taken ≡ k → length bytes - (i + k) < length bytes - i
-        go zero e =
-            let no : none ≡ some (statesOf (drop i bytes)) = sym (s .stops e) ∙ r .left in
-            let z : _≡_ {A = ℕ} 0 1 = cc in
-            absurd (omega arith)
-        go (suc k) e = omega arith
+    next-under : low + bits * 2 ^ bit % 2 ^ 64 < 2 ^ (bit + count)
+    next-under = rw exact (group-under low bits bit count (r .under) bits-small)
 
-    many : length (statesOf (drop i bytes)) ≡ t .count + length (statesOf (drop (i + t .taken) bytes))
-    many = ap length (rest .0) ∙ length-append (cut (replicate (t .count) 1) (t .bits)) (statesOf (drop (i + t .taken) bytes)) ∙ rw (cut-length (replicate (t .count) 1) (t .bits), length-replicate {A = ℕ} (t .count) 1)
+    room : low + bits * 2 ^ bit % 2 ^ 64 < 2 ^ 64
+    room = let m : bit + count ≤ 64 = omega (arith, r .small, there .few) in omega (arith, next-under, pow-mono m)
 
-    exact : t .bits * 2 ^ bit % 2 ^ 64 ≡ t .bits * 2 ^ bit
-    exact = shl-exact (t .count) bit 64 (s .small) (omega (arith, r .small, s .few))
+    module _ (z : ℕ) (l : i < length bytes) (o : (k : ℕ) → Fits w8 (getD bytes k 0)) (blank : IsBlankAt bytes (i + count) z) where
+      s : Taken bytes i count (count + z)
+      s = taken-at bytes i count z l o there blank
 
-    next-under : next-low < 2 ^ (bit + t .count)
-    next-under = rw exact (group-under low (t .bits) bit (t .count) (r .under) (s .small))
+      inside : i + (count + z) ≤ length bytes
+      inside = s .inside
 
-    room : next-low < 2 ^ 64
-    room = let m : bit + t .count ≤ 64 = omega (arith, r .small, s .few) in omega (arith, next-under, pow-mono m)
+      rest : (statesOf (drop i bytes) ≡ cut (replicate count 1) bits ++ statesOf (drop (i + (count + z)) bytes)) × Written (drop (i + (count + z)) bytes)
+      rest = rest-written bytes i (count + z) (cut (replicate count 1) bits) (r .left) (s .writes ∙ rw e)
 
-    more-bits : bit + t .count < 2 ^ 32
-    more-bits = omega (arith, r .small, s .few)
+      -- a byte is taken, since every byte left is a state or a blank
+      falls : length bytes - (i + (count + z)) < length bytes - i
+      falls = go (count + z) refl
+        where
+          go : (k : ℕ) → count + z ≡ k → length bytes - (i + k) < length bytes - i
+          go zero f =
+              let no : none ≡ some (statesOf (drop i bytes)) = sym (s .stops f) ∙ r .left in
+              let y : _≡_ {A = ℕ} 0 1 = cc in
+              absurd (omega arith)
+          go (suc k) f = omega arith
 
-    so-far-next : withStates (pending image index bit low) (index * 8 + bit) (cut (replicate (t .count) 1) (t .bits) ++ statesOf (drop (i + t .taken) bytes)) ≡ withStates image₀ fuse (statesOf bytes)
-    so-far-next = rw (rest .0) at (r .so-far)
+      many : length (statesOf (drop i bytes)) ≡ count + length (statesOf (drop (i + (count + z)) bytes))
+      many = ap length (rest .0) ∙ length-append (cut (replicate count 1) bits) (statesOf (drop (i + (count + z)) bytes)) ∙ rw (cut-length (replicate count 1) bits, length-replicate {A = ℕ} count 1)
 
-    fits-next : index * 8 + bit + t .count + length (statesOf (drop (i + t .taken) bytes)) ≤ length image * 8
-    fits-next = omega (arith, many, r .fits)
+      so-far-next : withStates (pending image index bit low) (index * 8 + bit) (cut (replicate count 1) bits ++ statesOf (drop (i + (count + z)) bytes)) ≡ withStates image₀ fuse (statesOf bytes)
+      so-far-next = rw (rest .0) at (r .so-far)
 
-    bits-added : bit + t .count < 8 → Puts bytes image₀ fuse image index (bit + t .count) (low + t .bits * 2 ^ bit % 2 ^ 64) (i + t .taken)
-    bits-added m =
-        let place : index * 8 + (bit + t .count) ≡ index * 8 + bit + t .count = omega arith in
-        record {
-          upto = s .inside;
-          small = m;
-          under = next-under;
-          left = rest .1;
-          fits = omega (arith, fits-next);
-          same = r .same;
-          octets = r .octets;
-          so-far = rw (exact, place) (sym (put-few (t .count) image index bit low (t .bits) (statesOf (drop (i + t .taken) bytes)) (omega arith) (omega (arith, fits-next)) (r .under) (s .small)) ∙ so-far-next);
-        }
+      fits-next : index * 8 + bit + count + length (statesOf (drop (i + (count + z)) bytes)) ≤ length image * 8
+      fits-next = omega (arith, many, r .fits)
 
-    module _ (m : 8 ≤ bit + t .count) where
-      there : index < length image
-      there = omega (arith, fits-next)
-
-      byte-stored : (octet : ℕ) → octet ≡ (low + t .bits * 2 ^ bit % 2 ^ 64) % 2 ^ 8
-          → Puts bytes image₀ fuse (set image index octet) (index + 1) (bit + t .count - 8) ((low + t .bits * 2 ^ bit % 2 ^ 64) / 2 ^ 8) (i + t .taken)
-      byte-stored octet e =
-          let size : length (set image index octet) ≡ length image = length-set image index octet in
-          let wide : bit + t .count - 8 + 8 ≡ bit + t .count = omega arith in
+      bits-added : bit + count < 8 → Puts bytes image₀ fuse image index (bit + count) (low + bits * 2 ^ bit % 2 ^ 64) (i + (count + z))
+      bits-added m =
+          let place : index * 8 + (bit + count) ≡ index * 8 + bit + count = omega arith in
           record {
-            upto = s .inside;
-            small = omega (arith, r .small, s .few);
-            under = shr-lt (bit + t .count - 8) 8 (rw wide next-under);
+            upto = inside;
+            small = m;
+            under = next-under;
             left = rest .1;
             fits = omega (arith, fits-next);
-            same = size ∙ r .same;
-            octets = set-octets image index octet (r .octets) (rw e (mod-lt _ (pow-pos 8)));
-            so-far =
-                rw (e, exact)
-                (sym (put-over image index bit low (t .bits) (t .count) (statesOf (drop (i + t .taken) bytes)) (r .small) (s .few) m (omega (arith, fits-next)) (r .under) (s .small) (r .octets index .fits)) ∙ so-far-next);
+            same = r .same;
+            octets = r .octets;
+            so-far = rw (exact, place) (sym (put-few count image index bit low bits (statesOf (drop (i + (count + z)) bytes)) (omega arith) (omega (arith, fits-next)) (r .under) bits-small) ∙ so-far-next);
           }
+
+      module _ (m : 8 ≤ bit + count) where
+        index-there : index < length image
+        index-there = omega (arith, fits-next)
+
+        byte-stored : (octet : ℕ) → octet ≡ (low + bits * 2 ^ bit % 2 ^ 64) % 2 ^ 8
+            → Puts bytes image₀ fuse (set image index octet) (index + 1) (bit + count - 8) ((low + bits * 2 ^ bit % 2 ^ 64) / 2 ^ 8) (i + (count + z))
+        byte-stored octet f =
+            let size : length (set image index octet) ≡ length image = length-set image index octet in
+            let wide : bit + count - 8 + 8 ≡ bit + count = omega arith in
+            record {
+              upto = inside;
+              small = omega (arith, r .small, there .few);
+              under = shr-lt (bit + count - 8) 8 (rw wide next-under);
+              left = rest .1;
+              fits = omega (arith, fits-next);
+              same = size ∙ r .same;
+              octets = set-octets image index octet (r .octets) (rw f (mod-lt _ (pow-pos 8)));
+              so-far =
+                  rw (f, exact)
+                  (sym (put-over image index bit low bits count (statesOf (drop (i + (count + z)) bytes)) (r .small) (there .few) m (omega (arith, fits-next)) (r .under) bits-small (r .octets index .fits)) ∙ so-far-next);
+            }
 
   module _ (l : length bytes ≤ i) where
     done : pending image index bit low ≡ withStates image₀ fuse (statesOf bytes)
@@ -204,8 +208,8 @@ loop-holds c = search (needs, starts)
 states-at-requires : tie.Need-states-at-requires Inv-loop μ-loop
 states-at-requires c κs = search needs
 
-add-i : tie.Need-add-i Inv-loop μ-loop
-add-i c = search needs
+bits-at-requires : tie.Need-bits-at-requires Inv-loop μ-loop
+bits-at-requires c κs = search needs
 
 cast-low : tie.Need-cast-low Inv-loop μ-loop
 cast-low c = search needs
@@ -222,6 +226,18 @@ cast-bit-2 c = search needs
 add-bit : tie.Need-add-bit Inv-loop μ-loop
 add-bit c = search needs
 
+add-blank-at : tie.Need-add-blank-at Inv-loop μ-loop
+add-blank-at c = search needs
+
+blank-at-requires : tie.Need-blank-at-requires Inv-loop μ-loop
+blank-at-requires c κs = search needs
+
+add-i : tie.Need-add-i Inv-loop μ-loop
+add-i c = search needs
+
+add-i-2 : tie.Need-add-i-2 Inv-loop μ-loop
+add-i-2 c = search (needs, inside)
+
 low-bits-requires-2 : tie.Need-low-bits-requires-2 Inv-loop μ-loop
 low-bits-requires-2 c κs = search needs
 
@@ -229,7 +245,7 @@ cast-image : tie.Need-cast-image Inv-loop μ-loop
 cast-image c = search needs
 
 slice-write-image : tie.Need-slice-write-image Inv-loop μ-loop
-slice-write-image c = search (needs, there)
+slice-write-image c = search (needs, index-there)
 
 add-index : tie.Need-add-index Inv-loop μ-loop
 add-index c = search needs
@@ -297,12 +313,16 @@ put-states-spec =
     low-bits-requires
     loop-holds
     states-at-requires
-    add-i
+    bits-at-requires
     cast-low
     shl-low
     add-low
     cast-bit-2
     add-bit
+    add-blank-at
+    blank-at-requires
+    add-i
+    add-i-2
     low-bits-requires-2
     cast-image
     slice-write-image

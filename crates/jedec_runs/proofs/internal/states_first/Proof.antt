@@ -6,8 +6,11 @@ use borrow.Author.Needs.{needs}
 use Rattle.jedec_runs.proofs.internal.states_first.Statement.{statement}
 use Rattle.jedec_runs.proofs.internal.states_first.Tie as tie
 
-sub-characters : tie.Need-sub-characters
-sub-characters c = search (needs, and-le-l)
+sub-wrapping-sub-u64 : tie.Need-sub-wrapping-sub-u64
+sub-wrapping-sub-u64 c = search (needs, and-le-l)
+
+wrapping-sub-u64-requires : tie.Need-wrapping-sub-u64-requires
+wrapping-sub-u64-requires c κs = search needs
 
 returns : tie.Need-returns
 returns c = search (needs, eight-states)
@@ -15,17 +18,11 @@ returns c = search (needs, eight-states)
 low-bits-requires : tie.Need-low-bits-requires
 low-bits-requires c κs = search needs
 
-low-bits-requires-2 : tie.Need-low-bits-requires-2
-low-bits-requires-2 c κs = search needs
-
 returns-2 : tie.Need-returns-2
 returns-2 c = search (needs, seven-states)
 
-low-bits-requires-3 : tie.Need-low-bits-requires-3
-low-bits-requires-3 c κs = search needs
-
-low-bits-requires-4 : tie.Need-low-bits-requires-4
-low-bits-requires-4 c κs = search needs
+low-bits-requires-2 : tie.Need-low-bits-requires-2
+low-bits-requires-2 c κs = search needs
 
 returns-3 : tie.Need-returns-3
 returns-3 c = search (needs, six-states)
@@ -37,12 +34,11 @@ pub states-first-spec : {M : Type 1} → statement M
 states-first-spec =
     tie.close
     (tie.spec
-    sub-characters
+    sub-wrapping-sub-u64
+    wrapping-sub-u64-requires
     returns
     low-bits-requires
-    low-bits-requires-2
     returns-2
-    low-bits-requires-3
-    low-bits-requires-4
+    low-bits-requires-2
     returns-3
     returns-4)
