@@ -11,10 +11,12 @@ use mathlib.Core.Option.Option.{none, some}
 use Prim.Native.Nat.{ℕ, zero, suc, _+_, _*_, _-_, _≤_, _<_}
 use native.Mathlib.Omega.{arith}
 use native.Mathlib.Nat.{zero-add, suc-add, add-zero}
+use native.Mathlib.Numerals.{add-one}
 use lib.Dec.{eqb, leb}
 use lib.ListN.{length, getD, take, drop, replicate, length-append, length-replicate, length-drop, take-append-drop}
-use lib.Seq.{take-all, length-take-le, take-append-le, drop-append-seam, drop-cons, drop-drop, split-at}
-use borrow.Author.Tests.{ne-eqb}
+use lib.Seq.{take-all, length-take-le, take-append-le, drop-append-seam, drop-cons, split-at, getD-take}
+use borrow.Author.Tests.{ne-eqb, le-leb, lt-leb}
+use Rattle.part.proofs.Facts.{compared}
 use Rattle.cells.specs.Cells.{cut, join}
 use Rattle.cells.proofs.Laws.{cut-length}
 use Rattle.jedec.specs.Characters.{isBlank, isMark, decimalValue, andThen, digitsRead, numberIn}
@@ -24,10 +26,58 @@ use mir.Syntax.{w8}
 use mir.Val.{Fits}
 use Rattle.jedec_runs.specs.Runs.{IsBlankAt, StatesAt}
 use Rattle.jedec_runs.proofs.Words.{Taken, taken-at, states-append, states-none, take-more}
-use Rattle.jedec_fields.specs.Fields.{countOf, orEmpty, statesOf, RunStands, Says, untilStar, ListAt}
+use Rattle.jedec_fields.specs.Fields.{DigitsStand, countOf, orEmpty, statesOf, RunStands, Says, untilStar, ListAt}
+use Rattle.jedec_fields.specs.declared.LeadingDigits.{LeadingDigits}
 use Rattle.jedec_fields.specs.declared.StatesRun.{StatesRun}
 use Rattle.jedec_fields.specs.declared.FieldSays.the-variants.{List as ListSaid}
+use Rattle.jedec_fields.proofs.Fields.{rest-whole}
 use Rattle.jedec_fields.proofs.Runs.{states-few}
+
+-- a byte that is no digit after digits
+digits-wrong : (a c : List ℕ) (x v b : ℕ) → digitsRead 10 decimalValue x a ≡ some v → decimalValue b ≡ none → digitsRead 10 decimalValue x (a ++ (b ∷ c)) ≡ none
+unfolding digitsRead
+digits-wrong [] c x v b e f = rw f
+digits-wrong (d ∷ a) c x v b e f = go (decimalValue d) e (λ y h. digits-wrong a c (x * 10 + y) v b h f)
+  where
+    go : (o : Option ℕ) → andThen o (λ y. digitsRead 10 decimalValue (x * 10 + y) a) ≡ some v
+        → ((y : ℕ) → digitsRead 10 decimalValue (x * 10 + y) a ≡ some v → digitsRead 10 decimalValue (x * 10 + y) (a ++ (b ∷ c)) ≡ none)
+        → andThen o (λ y. digitsRead 10 decimalValue (x * 10 + y) (a ++ (b ∷ c))) ≡ none
+    go none h ih = refl
+    go (some y) h ih = ih y h
+
+-- 1 to 7 digits and nothing else
+in-number : (bytes : List ℕ) → 0 < length bytes → length bytes ≤ 7 → digitsRead 10 decimalValue 0 bytes ≡ numberIn bytes
+unfolding numberIn
+in-number bytes l m = rw (le-leb 1 (length bytes) (omega arith), le-leb (length bytes) 7 m)
+
+too-long : (bytes : List ℕ) → 7 < length bytes → none ≡ numberIn bytes
+unfolding numberIn
+too-long bytes l = rw (le-leb 1 (length bytes) (omega arith), lt-leb (length bytes) 7 l)
+
+nothing-there : none ≡ numberIn []
+unfolding numberIn
+nothing-there = refl
+
+module _ (bytes : List ℕ) (d : LeadingDigits) (s : DigitsStand bytes d) where
+  pub other-byte : (d .length ≡ length bytes → ⊥) → none ≡ numberIn bytes
+  other-byte n =
+      let less : d .length < length bytes = omega (arith, s .inside) in
+      compared 7 (length bytes) (too-long bytes)
+      (λ m.
+      sym (digits-wrong (take (d .length) bytes) (drop (suc (d .length)) bytes) 0 (d .value) (getD bytes (d .length) 0) (s .reads) (s .stops less (omega arith)))
+      ∙ ap (digitsRead 10 decimalValue 0) (sym (split-at bytes (d .length) 0 less))
+      ∙ in-number bytes (omega arith) m)
+
+  pub no-number : d .length ≡ 0 → none ≡ numberIn bytes
+  no-number z = go bytes refl
+    where
+      go : (cs : List ℕ) → bytes ≡ cs → none ≡ numberIn bytes
+      go [] e = rw e nothing-there
+      go (b ∷ cs) e = let long : length bytes ≡ suc (length cs) = ap length e in other-byte (λ h. absurd (omega arith))
+
+  pub all-digits : (d .length ≡ 0 → ⊥) → d .length ≡ length bytes → some (d .value) ≡ numberIn bytes
+  all-digits n e =
+      sym (s .reads) ∙ ap (digitsRead 10 decimalValue 0) (take-all (d .length) bytes (omega arith)) ∙ in-number bytes (omega arith) (omega (arith, s .few))
 
 -- states that a count speaks of
 pub none-counted : (o : Option (List ℕ)) → none ≡ countOf o → o ≡ none
@@ -140,6 +190,16 @@ digit-plain b y e = plain b (no 42 refl) (no 2 refl) (no 3 refl)
     no : (k : ℕ) → decimalValue k ≡ none → b ≡ k → ⊥
     no k h f = let bad : none ≡ some y = sym h ∙ ap decimalValue (sym f) ∙ e in let z : _≡_ {A = ℕ} 0 1 = cc in absurd (omega arith)
 
+digit-solid : (b y : ℕ) → decimalValue b ≡ some y → isBlank b ≡ false
+digit-solid b y e = rw (ne-eqb b 32 (no 32 refl), ne-eqb b 9 (no 9 refl), ne-eqb b 13 (no 13 refl), ne-eqb b 10 (no 10 refl))
+  where
+    no : (k : ℕ) → decimalValue k ≡ none → b ≡ k → ⊥
+    no k h f = let bad : none ≡ some y = sym h ∙ ap decimalValue (sym f) ∙ e in let z : _≡_ {A = ℕ} 0 1 = cc in absurd (omega arith)
+
+blank-first : (b : ℕ) (bytes : List ℕ) → isBlank b ≡ true → statesIn (b ∷ bytes) ≡ statesIn bytes
+unfolding statesIn
+blank-first b bytes h = rw h
+
 digits-plain : (bytes : List ℕ) (x n : ℕ) → digitsRead 10 decimalValue x bytes ≡ some n → AllPlain bytes
 unfolding AllPlain digitsRead
 digits-plain [] x n e = tt
@@ -195,7 +255,7 @@ unbroken-take (b ∷ bytes) (suc k) l = go (isBlank b) refl l (unbroken-take byt
     go false e m ih = let n : suc (unbroken bytes) ≤ suc k = rw e at m in rw e (ap suc (ih (omega arith)))
 
 -- a good L field
-pub list-found : (after : List ℕ) (skip first run n : ℕ) → skip ≡ unbroken after → skip ≤ length after → some first ≡ numberIn (take skip after)
+list-found : (after : List ℕ) (skip first run n : ℕ) → skip ≡ unbroken after → skip ≤ length after → some first ≡ numberIn (take skip after)
     → run ≤ length (drop skip after) → countOf (statesIn (take run (drop skip after))) ≡ some n → (skip + run ≡ length after → ⊥)
     → getD after (skip + run) 0 ≡ 42 → (n ≡ 0 → ⊥) → ListAt after first skip n (skip + run)
 unfolding untilStar holdsMark
@@ -218,3 +278,83 @@ list-found after skip first run n e l f m g h s z =
       says =
           a-list (take long after) skip first n (e ∙ sym (unbroken-take after long (rw (← e) (omega arith)))) (omega arith) (rw digits f) (rw rest (sym g)) z;
     }
+
+-- digits up to a blank
+unbroken-digits : (a c : List ℕ) (x n b : ℕ) → digitsRead 10 decimalValue x a ≡ some n → isBlank b ≡ true → unbroken (a ++ (b ∷ c)) ≡ length a
+unfolding digitsRead unbroken
+unbroken-digits [] c x n b e h = rw h
+unbroken-digits (d ∷ a) c x n b e h = go (decimalValue d) refl e (λ y f. unbroken-digits a c (x * 10 + y) n b f h)
+  where
+    go : (o : Option ℕ) → decimalValue d ≡ o → andThen o (λ y. digitsRead 10 decimalValue (x * 10 + y) a) ≡ some n
+        → ((y : ℕ) → digitsRead 10 decimalValue (x * 10 + y) a ≡ some n → unbroken (a ++ (b ∷ c)) ≡ length a) → cond (isBlank d) 0 (suc (unbroken (a ++ (b ∷ c)))) ≡ suc (length a)
+    go none f g ih = let z : _≡_ {A = ℕ} 0 1 = cc in absurd (omega arith)
+    go (some y) f g ih = rw (digit-solid d y f) (ap suc (ih y g))
+
+-- the blank before the states may be passed with the number
+past-blank : (bytes : List ℕ) (j : Judged) (u first n b : ℕ) → drop u bytes ≡ b ∷ drop (u + 1) bytes → u + 1 ≤ length bytes → isBlank b ≡ true → Says bytes j (ListSaid first u n)
+    → Says bytes j (ListSaid first (u + 1) n)
+unfolding statesOf
+past-blank bytes j u first n b e l h s =
+    let same : statesIn (drop u bytes) ≡ statesIn (drop (u + 1) bytes) = ap statesIn e ∙ blank-first b (drop (u + 1) bytes) h in
+    record {
+      is = rw (← same) (s .is);
+      fits = record { inside = l; found = rw (← same) (s .fits .found); many = rw (← same) (s .fits .many); few = s .fits .few; any = s .fits .any };
+    }
+
+-- a good L field, by the digits that follow the L
+module _ (after : List ℕ) (d : LeadingDigits) (s : DigitsStand after d) (some-there : d .length ≡ 0 → ⊥) (z : ℕ) (at-end : IsBlankAt after (d .length) z) (a-blank : z ≡ 0 → ⊥) where
+  pub blank-inside : d .length + 1 ≤ length after
+  blank-inside = go (drop (d .length) after) refl
+    where
+      go : (cs : List ℕ) → drop (d .length) after ≡ cs → d .length + 1 ≤ length after
+      go [] e = absurd (a-blank (at-end .is ∙ rw e))
+      go (b ∷ cs) e = let long : length after - d .length ≡ suc (length cs) = sym (length-drop (d .length) after) ∙ ap length e in omega arith
+
+  blank-there : drop (d .length) after ≡ getD after (d .length) 0 ∷ drop (d .length + 1) after
+  blank-there = rw (add-one (d .length)) (drop-cons after (d .length) 0 (omega (arith, blank-inside)))
+
+  is-blank : isBlank (getD after (d .length) 0) ≡ true
+  is-blank = go (isBlank (getD after (d .length) 0)) refl
+    where
+      go : (t : Bool) → isBlank (getD after (d .length) 0) ≡ t → t ≡ true
+      go true e = refl
+      go false e = absurd (a-blank (at-end .is ∙ rw (blank-there, e)))
+
+  module _ (run : StatesRun) (g : RunStands (take (length after - (d .length + 1)) (drop (d .length + 1) after)) run) where
+    runs : RunStands (drop (d .length + 1) after) run
+    runs = rw (rest-whole (d .length + 1) after) at g
+
+    pub run-inside : d .length + 1 + run .length ≤ length after
+    run-inside = omega (arith, runs .inside, length-drop (d .length + 1) after, blank-inside)
+
+    pub star-inside : (d .length + 1 + run .length ≡ length after → ⊥) → d .length + 1 + run .length < length after
+    star-inside h = omega (arith, run-inside)
+
+    pub a-good-list : (d .length + 1 + run .length ≡ length after → ⊥) → getD after (d .length + 1 + run .length) 0 ≡ 42 → (run .count ≡ 0 → ⊥)
+        → ListAt after (d .value) (d .length + 1) (run .count) (d .length + 1 + run .length)
+    a-good-list h star n =
+        let u = d .length in
+        let long : u + suc (run .length) ≡ u + 1 + run .length = omega arith in
+        let first-long : length (take u after) ≡ u = length-take-le u after (s .inside) in
+        let whole : after ≡ take u after ++ (getD after u 0 ∷ drop (u + 1) after) = sym (take-append-drop u after) ∙ ap (λ (l : List ℕ). take u after ++ l) blank-there in
+        let u-is : u ≡ unbroken after = sym first-long ∙ sym (unbroken-digits (take u after) (drop (u + 1) after) 0 (d .value) (getD after u 0) (s .reads) is-blank) ∙ ap unbroken (sym whole) in
+        let number : some (d .value) ≡ numberIn (take u after) = sym (s .reads) ∙ in-number (take u after) (omega arith) (omega (arith, s .few)) in
+        let counted-states : countOf (statesIn (take (suc (run .length)) (drop u after))) ≡ some (run .count) = rw (blank-there, blank-first (getD after u 0) (take (run .length) (drop (u + 1) after)) is-blank) (runs .writes) in
+        let room : suc (run .length) ≤ length (drop u after) = rw (length-drop u after) (omega (arith, run-inside)) in
+        let found : ListAt after (d .value) u (run .count) (u + suc (run .length)) = list-found after u (d .value) (suc (run .length)) (run .count) u-is (s .inside) number room counted-states (rw long h) (rw long star) n in
+        let found-there : ListAt after (d .value) u (run .count) (u + 1 + run .length) = rw long at found in
+        let field-long : length (take (u + 1 + run .length) after) ≡ u + 1 + run .length = length-take-le (u + 1 + run .length) after run-inside in
+        record {
+          inside = found-there .inside;
+          until = found-there .until;
+          unmarked = found-there .unmarked;
+          says =
+              past-blank (take (u + 1 + run .length) after) _ u (d .value) (run .count) (getD after u 0) first-blank (omega arith) is-blank (found-there .says);
+        }
+      where
+        first-blank : drop (d .length) (take (d .length + 1 + run .length) after) ≡ getD after (d .length) 0 ∷ drop (d .length + 1) (take (d .length + 1 + run .length) after)
+        first-blank =
+            let u = d .length in
+            let long = u + 1 + run .length in
+            let size : length (take long after) ≡ long = length-take-le long after run-inside in
+            drop-cons (take long after) u 0 (omega arith) ∙ rw (getD-take long after u 0 (omega arith), add-one u)

@@ -7,14 +7,15 @@ use mathlib.Core.List.{List, [], _∷_}
 use mathlib.Core.Option.{Option}
 use mathlib.Core.Option.Option.{none, some}
 use lib.Dec.{eqb}
-use lib.ListN.{length, take, drop}
-use Rattle.jedec.specs.Characters.{star}
+use lib.ListN.{length, getD, take, drop}
+use Rattle.jedec.specs.Characters.{star, decimalValue, digitsRead}
 use Rattle.jedec.specs.Cut.{pieces, Cut, fieldsFrom, holdsMark, Tail}
 use Rattle.jedec.specs.Cut.Tail.{given, wrong}
 use Rattle.jedec.specs.Judge.{Judged, statesIn, listIn, judge}
 use Rattle.jedec.specs.Judge.Judged.{count, start, list, sum, skipped, bad}
 use Rattle.jedec_fields.specs.declared.Digits.{Digits}
 use Rattle.jedec_fields.specs.declared.Digits.the-variants as digits
+use Rattle.jedec_fields.specs.declared.LeadingDigits.{LeadingDigits}
 use Rattle.jedec_fields.specs.declared.Counted.{Counted}
 use Rattle.jedec_fields.specs.declared.Counted.the-variants as counted
 use Rattle.jedec_fields.specs.declared.FieldSays.{FieldSays}
@@ -37,6 +38,13 @@ valueOr other (some x) = x
 abbrev pub numberOf : Digits → Option ℕ
 numberOf (digits.Number x) = some x
 numberOf digits.Wrong = none
+
+-- the first bytes that are digits write a number, and are at most seven; fewer only before a byte that is no digit
+pub record DigitsStand (bytes : List ℕ) (r : LeadingDigits) : Type 0 where
+  pub inside : r .length ≤ length bytes
+  pub few : r .length ≤ 7
+  pub reads : digitsRead 10 decimalValue 0 (take (r .length) bytes) ≡ some (r .value)
+  pub stops : r .length < length bytes → r .length < 7 → decimalValue (getD bytes (r .length) 0) ≡ none
 
 -- how many states there are, if there are any; the states, or none
 abbrev pub countOf : Option (List ℕ) → Option ℕ

@@ -6,7 +6,6 @@ ghost use lib.ListN.{length, drop};
 ghost use Rattle.jedec.specs.Cut.{blanksBefore, tailFrom};
 ghost use Rattle.jedec.specs.Judge.{judge};
 ghost use Rattle.jedec_fields.specs.Fields.{untilStar, Says, Stands, ListStands, JudgedStands, TailStands};
-use super::Digits;
 use super::FieldSays;
 use super::Judged;
 use super::Listed;
@@ -15,10 +14,10 @@ use super::TailSays;
 use super::by_letters;
 use super::hex_value;
 use super::holds_mark;
-use super::number_in;
+use super::leading_digits;
 use super::states_run;
-use super::unbroken;
 use jedec::is_blank;
+use jedec_runs::internal::blank_at;
 
 // The offset of the next `*` from an offset on, or the length.
 pub fn next_star(text: &[u8], at: usize) -> usize
@@ -83,29 +82,30 @@ pub fn judge_field(field: &[u8]) -> FieldSays
 fn listed(bytes: &[u8]) -> Listed
     ensures { λ r. ⌜ ListStands (now (bytes .entry)) r ⌝ }
 {
-    let skip = unbroken(bytes);
-    let number = number_in(&bytes[..skip]);
-    match number {
-        Digits::Wrong => Listed::Other,
-        Digits::Number(first) => {
-            let run = states_run(&bytes[skip..]);
-            let length = skip + run.length;
-            if length == bytes.len() {
-                return Listed::Other;
-            }
-            if bytes[length] != 42 {
-                return Listed::Other;
-            }
-            if run.count == 0 {
-                return Listed::Other;
-            }
-            Listed::Field {
-                first,
-                skip,
-                count: run.count,
-                length,
-            }
-        }
+    let digits = leading_digits(bytes);
+    if digits.length == 0 {
+        return Listed::Other;
+    }
+    if blank_at(bytes, digits.length) == 0 {
+        return Listed::Other;
+    }
+    let skip = digits.length + 1;
+    let run = states_run(&bytes[skip..]);
+    let length = skip + run.length;
+    if length == bytes.len() {
+        return Listed::Other;
+    }
+    if bytes[length] != 42 {
+        return Listed::Other;
+    }
+    if run.count == 0 {
+        return Listed::Other;
+    }
+    Listed::Field {
+        first: digits.value,
+        skip,
+        count: run.count,
+        length,
     }
 }
 

@@ -9,7 +9,7 @@ ghost use Rattle.jedec.specs.Characters.{isMark, decimalValue, hexValue, number
 ghost use Rattle.jedec.specs.Cut.{holdsMark};
 ghost use Rattle.jedec.specs.Judge.Judged.{sum};
 ghost use Rattle.jedec.specs.Judge.{orBad, unbroken, statesIn, startIn, listIn, afterQ, byLetters};
-ghost use Rattle.jedec_fields.specs.Fields.{valueOr, numberOf, countOf, countIn, RunStands, Says};
+ghost use Rattle.jedec_fields.specs.Fields.{valueOr, numberOf, DigitsStand, countOf, countIn, RunStands, Says};
 use jedec::is_blank;
 use jedec_runs::internal::blank_at;
 use jedec_runs::internal::states_at;
@@ -20,6 +20,12 @@ pub mod internal;
 pub enum Digits {
     Number(u32),
     Wrong,
+}
+
+// Decimal digits from the first byte on, and the number that they write.
+pub struct LeadingDigits {
+    pub value: u32,
+    pub length: usize,
 }
 
 // How many states some bytes write, or that they write none.
@@ -131,27 +137,41 @@ pub fn holds_mark(bytes: &[u8]) -> bool
     found
 }
 
-// The number that 1 to 7 decimal digits write.
-fn number_in(bytes: &[u8]) -> Digits
-    ensures { λ r. ⌜ numberOf r ≡ numberIn (now (bytes .entry)) ⌝ }
+// The first bytes that are decimal digits, at most seven, and the number that they write.
+pub fn leading_digits(bytes: &[u8]) -> LeadingDigits
+    ensures { λ r. ⌜ DigitsStand (now (bytes .entry)) r ⌝ }
 {
-    if bytes.len() == 0 {
-        return Digits::Wrong;
-    }
-    if 7 < bytes.len() {
-        return Digits::Wrong;
-    }
     let mut x: u32 = 0;
     let mut i: usize = 0;
-    while i < bytes.len() {
+    while (i < 7) & (i < bytes.len()) {
         let y = decimal_value(bytes[i]);
         if y == 16 {
-            return Digits::Wrong;
+            return LeadingDigits {
+                value: x,
+                length: i,
+            };
         }
         x = x * 10 + y;
         i += 1;
     }
-    Digits::Number(x)
+    LeadingDigits {
+        value: x,
+        length: i,
+    }
+}
+
+// The number that 1 to 7 decimal digits write.
+fn number_in(bytes: &[u8]) -> Digits
+    ensures { λ r. ⌜ numberOf r ≡ numberIn (now (bytes .entry)) ⌝ }
+{
+    let digits = leading_digits(bytes);
+    if digits.length == 0 {
+        return Digits::Wrong;
+    }
+    if digits.length != bytes.len() {
+        return Digits::Wrong;
+    }
+    Digits::Number(digits.value)
 }
 
 // The number that four hex digits write.

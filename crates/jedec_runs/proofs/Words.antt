@@ -20,7 +20,7 @@ use lib.Seq.{take-nil, drop-cons, drop-drop, getD-drop}
 use lib.Pow.{pow-pos, high, low, mod-mod-pow, mod-pow-add}
 use borrow.Author.Tests.{eqb-true}
 use Rattle.cells.specs.Cells.{cut, join}
-use Rattle.cells.proofs.Laws.{join-append, join-small, total-replicate}
+use Rattle.cells.proofs.Laws.{join-small, total-replicate}
 use Rattle.part.proofs.Facts.{either}
 use Rattle.part.proofs.Tables.{allBelow, below-all}
 use Rattle.jedec.specs.Characters.{isBlank, andThen}
@@ -34,9 +34,6 @@ pub spread : ℕ → List ℕ → ℕ
 spread k bytes = join (replicate k 8) (cut (replicate k 1) (join (replicate k 1) bytes))
 
 module _ (k : ℕ) (bytes : List ℕ) where
-  bits-suc : ℕ
-  bits-suc = join (replicate (suc k) 1) bytes
-
   bits-half : join (replicate (suc k) 1) bytes / 2 ^ 1 ≡ join (replicate k 1) (drop 1 bytes)
   unfolding join
   bits-half = high (join (replicate k 1) (drop 1 bytes)) 1 (mod-lt (getD bytes 0 0) (pow-pos 1))

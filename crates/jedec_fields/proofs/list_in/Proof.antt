@@ -6,11 +6,10 @@ use mathlib.Core.Option.{Option}
 use mathlib.Core.Option.Option.{none, some}
 use Prim.Native.Nat.{ℕ, _-_, _≤_}
 use native.Mathlib.Omega.{arith}
-use lib.ListN.{length, take, drop, length-drop}
-use lib.Seq.{length-take-le}
+use lib.ListN.{length, take, drop}
 use Rattle.jedec.specs.Characters.{numberIn}
-use Rattle.jedec.specs.Judge.{Judged, unbroken, statesIn, statesFrom, listIn}
-use Rattle.jedec_fields.specs.Fields.{numberOf, countOf, countIn, orEmpty, statesOf, Says}
+use Rattle.jedec.specs.Judge.{unbroken, statesIn, statesFrom, listIn}
+use Rattle.jedec_fields.specs.Fields.{numberOf, countOf, countIn, orEmpty, Says}
 use Rattle.jedec_fields.specs.declared.FieldSays.the-variants.{List as ListAt, Bad}
 use Rattle.jedec_fields.specs.declared.Digits.{Digits}
 use Rattle.jedec_fields.specs.declared.Digits.the-variants.{Number, Wrong}
