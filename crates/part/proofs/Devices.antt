@@ -2,9 +2,9 @@
 -- Assumes nothing.
 use mathlib.Core.Path.{_≡_, refl, sym, _∙_, subst}
 use mathlib.Core.Bool.{Bool, true, false, cond, not, _||_}
-use Prim.Native.Nat.{ℕ, _+_, _*_, _/_, _≤_}
+use Prim.Native.Nat.{ℕ, _+_, _*_, _-_, _/_, _%_, _^_, _≤_, _<_}
 use native.Mathlib.Omega.{arith}
-use native.Mathlib.Nat.{mul-le-mul, mul-le-mul-right}
+use native.Mathlib.Nat.{mul-le-mul, mul-le-mul-right, div-add-mod'}
 use lib.Dec.{eqb, ltb}
 use borrow.Author.Tests.{eqb-true, not-true, not-false}
 use Rattle.part.specs.Device.{isBlockCount, isClass, known, inBlock, inDevice, fuseCount, imageBytes, decimalDigits}
@@ -65,3 +65,58 @@ digits-small x =
   where
     small : (k : ℕ) {a b : ℕ} → a ≤ 7 → b ≤ 7 → cond (ltb x k) a b ≤ 7
     small k p q = by-cases (λ y. y ≤ 7) x k (λ l. p) (λ g. q)
+
+-- the last of the six counts, by exclusion
+pub sixteen-blocks : (d : Device) → known d ≡ true → (d .blocks ≡ 2 → ⊥) → (d .blocks ≡ 4 → ⊥) → (d .blocks ≡ 6 → ⊥) → (d .blocks ≡ 8 → ⊥) → (d .blocks ≡ 12 → ⊥) → d .blocks ≡ 16
+sixteen-blocks d h a b c e f =
+    by-count (λ n. (n ≡ 2 → ⊥) → (n ≡ 4 → ⊥) → (n ≡ 6 → ⊥) → (n ≡ 8 → ⊥) → (n ≡ 12 → ⊥) → n ≡ 16)
+    (λ p q r s t. absurd (p refl))
+    (λ p q r s t. absurd (q refl))
+    (λ p q r s t. absurd (r refl))
+    (λ p q r s t. absurd (s refl))
+    (λ p q r s t. absurd (t refl))
+    (λ p q r s t. refl)
+    (d .blocks)
+    (known-count d h)
+    a
+    b
+    c
+    e
+    f
+
+pub scaled-for : (d : Device) (k r : ℕ) → d .blocks ≡ k → r ≡ 2 ^ 34 / (7776 + k * 648) + 1 → r ≡ 2 ^ 34 / inBlock d 7776 648 + 1
+scaled-for d k r e f = rw e f
+
+-- a fuse's block by a product: the divisors are so few that each is computed
+block-by-product : (f n : ℕ) → isBlockCount n ≡ true → f < n * (7776 + n * 648) → f * (2 ^ 34 / (7776 + n * 648) + 1) / 2 ^ 34 ≡ f / (7776 + n * 648)
+block-by-product f =
+    by-count (λ n. f < n * (7776 + n * 648) → f * (2 ^ 34 / (7776 + n * 648) + 1) / 2 ^ 34 ≡ f / (7776 + n * 648))
+    (λ h. omega arith)
+    (λ h. omega arith)
+    (λ h. omega arith)
+    (λ h. omega arith)
+    (λ h. omega arith)
+    (λ h. omega arith)
+
+module _ (d : Device) (f r : ℕ) (h : known d ≡ true) (l : f < fuseCount d) (e : r ≡ 2 ^ 34 / inBlock d 7776 648 + 1) where
+  pub product-small : f * r < 2 ^ 64
+  unfolding fuseCount
+  product-small = rw e (by-count (λ n. f < n * (7776 + n * 648) → f * (2 ^ 34 / (7776 + n * 648) + 1) < 2 ^ 64) (λ m. omega arith) (λ m. omega arith) (λ m. omega arith) (λ m. omega arith) (λ m. omega arith) (λ m. omega arith) (d .blocks) (known-count d h) l)
+
+  pub block-of : f * r / 2 ^ 34 ≡ f / inBlock d 7776 648
+  unfolding fuseCount
+  block-of = rw e (block-by-product f (d .blocks) (known-count d h) l)
+
+  pub block-small : f * r / 2 ^ 34 < 2 ^ 32
+  block-small = omega (arith, product-small)
+
+-- what is left of a fuse in its block
+module _ (f b p q : ℕ) (e : b ≡ f / q) (g : p ≡ q) where
+  pub block-fits : b * p ≤ f
+  block-fits = let w : f / q * q + f % q ≡ f = div-add-mod' f q in rw (e, g) (omega arith)
+
+  pub block-product : f < 2 ^ 32 → b * p < 2 ^ 32
+  block-product l = omega (arith, block-fits)
+
+  pub left-in-block : f - b * p ≡ f % q
+  left-in-block = let w : f / q * q + f % q ≡ f = div-add-mod' f q in rw (e, g) (omega arith)

@@ -2,8 +2,8 @@
 // A function here may require that the device is known or has the place; nothing here is part of the public interface.
 ghost use mathlib.Core.Path.{_≡_};
 ghost use mathlib.Core.Bool.{true};
-ghost use Prim.Native.Nat.{_+_, _*_, _^_, _<_, _≤_};
-ghost use Rattle.part.specs.Device.{known, blocksOf, isLarge, columnWidth, columnStart, inBlock, inDevice, fuseCount, imageBytes, readoutBytes, textBytes, decimalDigits};
+ghost use Prim.Native.Nat.{_+_, _*_, _/_, _^_, _<_, _≤_};
+ghost use Rattle.part.specs.Device.{known, blocksOf, isLarge, columnWidth, columnStart, mainFuses, subareaFuses, inBlock, inDevice, blockFuses, fuseCount, imageBytes, readoutBytes, textBytes, decimalDigits};
 ghost use Rattle.part.specs.Place.{hasByte, widthOf, columnOf, bitOf, firstFuse, placeOfFuse, field, addressOfByte, byteOfAddress, indexOfByte};
 use super::BytePlace;
 use super::Device;
@@ -36,6 +36,8 @@ const MAIN_TEXT: u32 = 72 * (3 * 10 + 15 + 108);
 const SUBAREA_TEXT: u32 = 18 * (10 + 5 + 36);
 // What a text has besides its L lines and the digits of the count.
 const TEXT_FRAME: u32 = 3 + (2 + 2) + 4 + (1 + 4 + 2) + (1 + 4);
+
+const SCALE: u64 = 1 << 34;
 
 // What the crates above read of a device.
 pub fn blocks_of(d: Device) -> u32
@@ -245,6 +247,43 @@ fn column_and_bit(wide: u32, narrow: u32, rest: u32) -> ColumnBit
     }
 }
 
+// 2^34 divided by the fuses of a block of a part of n blocks, and one more: a fuse times this, divided by 2^34, is its block. The divisor
+// is given where it is called, so that the compiler divides: a division at run time takes most of the time of a conversion.
+fn scaled(n: u32) -> u64
+    requires { ⌜ n ≤ 16 ⌝ }
+    ensures { λ r. ⌜ r ≡ 2 ^ 34 / (mainFuses + n * subareaFuses) + 1 ⌝ }
+{
+    SCALE / (MAIN_FUSES + n * SUBAREA_FUSES) as u64 + 1
+}
+
+fn reciprocal(d: Device) -> u64
+    requires { ⌜ known d ≡ true ⌝ }
+    ensures { λ r. ⌜ r ≡ 2 ^ 34 / blockFuses d + 1 ⌝ }
+{
+    let n = d.blocks;
+    if n == 2 {
+        scaled(2)
+    } else if n == 4 {
+        scaled(4)
+    } else if n == 6 {
+        scaled(6)
+    } else if n == 8 {
+        scaled(8)
+    } else if n == 12 {
+        scaled(12)
+    } else {
+        scaled(16)
+    }
+}
+
+// The block of a fuse.
+fn block_of_fuse(d: Device, f: u32) -> u32
+    requires { ⌜ (known d ≡ true) × (f < fuseCount d) ⌝ }
+    ensures { λ r. ⌜ r ≡ f / blockFuses d ⌝ }
+{
+    ((f as u64 * reciprocal(d)) >> 34) as u32
+}
+
 // The place of a fuse, by the steps of the forward routine of document 003.
 pub fn place_of_fuse(d: Device, fuse: FuseNumber) -> Place
     requires { ⌜ (known d ≡ true) × (fuse .0 < fuseCount d) ⌝ }
@@ -252,8 +291,8 @@ pub fn place_of_fuse(d: Device, fuse: FuseNumber) -> Place
 {
     let f = fuse.0;
     let per_block = in_block(d, MAIN_FUSES, SUBAREA_FUSES);
-    let block = f / per_block;
-    let rest = f % per_block;
+    let block = block_of_fuse(d, f);
+    let rest = f - block * per_block;
     if rest < MAIN_FUSES {
         let at = column_and_bit(9, 6, rest % MAIN_ROW_FUSES);
         return Place {
