@@ -72,19 +72,19 @@ two-or-four P two four (some n) = go (eqb n (fuseCount (ofBlocks 4)))
     go true = four
     go false = two
 
-module _ (text : List ℕ) (b : ℕ) (e : b ≡ blocksFor text) where
-  either-device : (P : ℕ → Type 0) → P 2 → P 4 → P b
-  unfolding blocksFor
-  either-device P two four = rw e (two-or-four P two four (firstCount (fieldsIn (pieces text .ended) (pieces text .rest))))
+pub by-device : (P : ℕ → Type 0) → P 2 → P 4 → (text : List ℕ) → P (blocksFor text)
+unfolding blocksFor
+by-device P two four text = two-or-four P two four (firstCount (fieldsIn (pieces text .ended) (pieces text .rest)))
 
+module _ (text : List ℕ) (b : ℕ) (e : b ≡ blocksFor text) where
   pub device-known : known (ofBlocks b) ≡ true
   unfolding known
-  device-known = either-device (λ n. known (ofBlocks n) ≡ true) refl refl
+  device-known = rw e (by-device (λ n. known (ofBlocks n) ≡ true) refl refl text)
 
   module _ (x : ℕ) (f : x ≡ imageBytes (ofBlocks b)) (made : List ℕ) (l : length made ≡ 5184) where
     pub image-fits : x ≤ length made
     unfolding fuseCount imageBytes
-    image-fits = rw (f, l) (either-device (λ n. imageBytes (ofBlocks n) ≤ 5184) (omega arith) (omega arith))
+    image-fits = rw (f, l, e) (by-device (λ n. imageBytes (ofBlocks n) ≤ 5184) (omega arith) (omega arith) text)
 
     pub image-part : x ≡ length (take x made)
     image-part = sym (length-take-le x made image-fits)

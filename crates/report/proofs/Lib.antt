@@ -3,3 +3,4 @@
 pub mod Lines
 pub mod Choice
 pub mod Answers
+pub mod Laws
