@@ -20,7 +20,7 @@ use Rattle.jedec.specs.Judge.{Judged, judge}
 use Rattle.jedec.specs.Judge.Judged.{count, start, list, sum, skipped, bad}
 use Rattle.jedec.specs.Rules.{At, Listed, Known, nothing, inOrder, after, Fields, allFields, wrongCount, endOf, misplaced, finished}
 use Rattle.jedec.specs.Rules.Fields.{known, badAt}
-use Rattle.jedec.specs.Meaning.{longest, unless, wrongSum, wrongTransmission, concluded, withTail, withEnd, withFields, ofCut, ofPieces, meaning}
+use Rattle.jedec.specs.Meaning.{longest, unless, wrongSum, concluded, withTail, withEnd, withFields, ofCut, ofPieces, meaning}
 
 -- what holds of both holds of the choice
 chosen : {A : Type 0} (P : A → Type 0) (t : Bool) {a b : A} → P a → P b → P (cond t a b)

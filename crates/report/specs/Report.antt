@@ -31,7 +31,7 @@ abbrev pub fieldsIn : (ended : List (List ℕ)) → (rest : List ℕ) → List F
 fieldsIn [] rest = []
 fieldsIn (design ∷ ended) rest = fieldsFrom (length design + 1) ended rest .fields
 
--- what a field reads as a QF field: the fuse count that it is judged to give
+-- what a field reads as a QF field: the fuse count that it is judged to give. One of bad form reads none; its text is refused 7 for any device
 abbrev pub countIn : Judged → Option ℕ
 countIn (count n) = some n
 countIn (start s) = none

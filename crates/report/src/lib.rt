@@ -25,6 +25,7 @@ use part::NumberAnswer;
 use part::Refusal;
 use readout::DoneAnswer;
 
+// The part whose fuse count tells four blocks from two.
 const FOUR: Device = Device {
     blocks: 4,
     class: 0,
@@ -86,7 +87,7 @@ fn put_refusal(number: u32, value: u32, out: &mut [u8]) -> usize
     put_line(b" at ", value, out, behind)
 }
 
-// The fuses at 0 of an image.
+// The fuses at 0 of an image. The device is known and the image has its length, so the count is not refused.
 fn zeros_in(d: Device, image: &[u8]) -> u32
     requires { ⌜ (known d ≡ true) × (length (now image) ≡ imageBytes d) ⌝ }
     ensures { λ r. ⌜ r ≡ zerosBelow (now (image .entry)) (fuseCount d) ⌝ }
@@ -120,7 +121,7 @@ fn put_counts(d: Device, image: &[u8], out: &mut [u8]) -> usize
     put_sum(image::internal::sum_of(image), out, three)
 }
 
-// What a field reads as a QF field.
+// What a field reads as a QF field, or `Wrong` for any other.
 fn count_in(field: &[u8]) -> Digits
     ensures { λ r. ⌜ numberOf r ≡ countIn (judge (now (field .entry))) ⌝ }
 {
@@ -203,7 +204,7 @@ fn image_room() -> [u8; 5184]
     [0u8; 5184]
 }
 
-// The report of a text.
+// The report of a text. None has more than 64 bytes.
 fn put_report(text: &[u8], out: &mut [u8]) -> usize
     requires { ⌜ 64 ≤ length (now out) ⌝ }
     ensures { λ r. ⌜ Put (now (out .entry)) (now (out .exit)) 0 (reportOf (now (text .entry))) r ⌝ }
@@ -221,6 +222,7 @@ fn put_report(text: &[u8], out: &mut [u8]) -> usize
 }
 
 // What the bench program writes for a text, put at the start of `out`: how many bytes it has. Refused: 12.
+// It is made beside, since a refusal changes no byte.
 pub fn report(text: &[u8], out: &mut [u8]) -> NumberAnswer
     ensures { λ r. ⌜ Written (bytesPut (reportOf (now (text .entry))) (now (out .entry))) (numberOutcome r) (atStart (reportOf (now (text .entry))) (now (out .entry))) (now (out .entry)) (now (out .exit)) ⌝ }
 {

@@ -1,4 +1,4 @@
--- `main` meets its contract: TODO.
+-- `main` is safe: what is written was put into its room.
 -- Assumes nothing.
 use Rattle.report.proofs.Answers.{in-room, room-part}
 use borrow.Author.Needs.{needs}

@@ -1,4 +1,4 @@
--- `blocks_by` meets its contract: TODO.
+-- `blocks_by` meets its contract: the test against the fuse count of four blocks.
 -- Assumes nothing.
 use Rattle.report.proofs.Choice.{four-known, reads-four, reads-other}
 use borrow.Author.Needs.{needs}

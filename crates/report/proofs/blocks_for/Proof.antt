@@ -1,4 +1,4 @@
--- `blocks_for` meets its contract: TODO.
+-- `blocks_for` meets its contract: the fields start behind the first `*`.
 -- Assumes nothing.
 use Rattle.report.proofs.Choice.{no-star, behind-star}
 use borrow.Author.Needs.{needs}

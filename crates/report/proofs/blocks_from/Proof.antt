@@ -1,4 +1,4 @@
--- `blocks_from` meets its contract: TODO.
+-- `blocks_from` meets its contract: the first QF field of those still to come is the first of all.
 -- Assumes nothing.
 use mathlib.Core.Path.{_≡_}
 use Prim.Native.Nat.{_-_, _≤_}

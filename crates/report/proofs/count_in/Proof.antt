@@ -1,4 +1,4 @@
--- `count_in` meets its contract: TODO.
+-- `count_in` meets its contract: what each kind of field reads.
 -- Assumes nothing.
 use Rattle.report.proofs.Choice.{field-reads}
 use borrow.Author.Needs.{needs}

@@ -1,4 +1,4 @@
--- `put` meets its contract: TODO.
+-- `put` meets its contract: the bytes still to come.
 -- Assumes nothing.
 use mathlib.Core.Path.{_≡_}
 use Prim.Native.Nat.{_+_, _-_, _≤_}
@@ -8,8 +8,6 @@ use Rattle.report.proofs.Lines.{none-yet, one-more, none-left}
 use borrow.Author.Needs.{needs}
 use Rattle.report.proofs.put.Statement.{statement}
 use Rattle.report.proofs.put.Tie as tie
-use Rattle.report.proofs.put.Reads as reads
-use Rattle.report.proofs.put.Lts as lts
 
 abbrev Inv-loop : tie.InvT-loop
 Inv-loop bytes out₀ at i₀ out i = (i ≤ length bytes) × (length out ≡ length out₀) × (sets out (at + i) (drop i bytes) ≡ sets out₀ at bytes)

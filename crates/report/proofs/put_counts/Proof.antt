@@ -1,4 +1,4 @@
--- `put_counts` meets its contract: TODO.
+-- `put_counts` meets its contract: four lines, one after another.
 -- Assumes nothing.
 use Rattle.report.proofs.Lines.{four-lines}
 use borrow.Author.Needs.{needs}

@@ -1,4 +1,4 @@
--- `put_digits` meets its contract: TODO.
+-- `put_digits` meets its contract: the digits still to come, from the last on.
 -- Assumes nothing.
 use mathlib.Core.Path.{_≡_}
 use Prim.Native.Nat.{_≤_}
@@ -9,8 +9,6 @@ use Rattle.report.proofs.Lines.{digit-put, no-digit}
 use borrow.Author.Needs.{needs}
 use Rattle.report.proofs.put_digits.Statement.{statement}
 use Rattle.report.proofs.put_digits.Tie as tie
-use Rattle.report.proofs.put_digits.Reads as reads
-use Rattle.report.proofs.put_digits.Lts as lts
 
 abbrev Inv-loop : tie.InvT-loop
 Inv-loop x count out₀ at rest₀ i₀ out rest i = (i ≤ count) × (length out ≡ length out₀) × (sets out at (digitsOf 10 decimalDigit i rest) ≡ sets out₀ at (digitsOf 10 decimalDigit count x))

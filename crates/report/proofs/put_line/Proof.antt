@@ -1,13 +1,9 @@
--- `put_line` meets its contract: TODO.
+-- `put_line` meets its contract: a word and a number, and LF.
 -- Assumes nothing.
 use Rattle.report.proofs.Lines.{then}
 use borrow.Author.Needs.{needs}
 use Rattle.report.proofs.put_line.Statement.{statement}
 use Rattle.report.proofs.put_line.Tie as tie
-use Rattle.report.proofs.put_line.Reads as reads
-use Rattle.report.proofs.put_line.Lts as lts
-use Rattle.report.proofs.put.Reads as put-reads
-use Rattle.report.proofs.put_number.Reads as put-number-reads
 
 put-number-requires : tie.Need-put-number-requires
 put-number-requires c κs = search needs

@@ -1,4 +1,4 @@
--- `put_lines` meets its contract: TODO.
+-- `put_lines` meets its contract: the lines of the image, or of the refusal.
 -- Assumes nothing.
 use Rattle.report.proofs.Answers.{of-image, of-refusal}
 use borrow.Author.Needs.{needs}

@@ -1,4 +1,4 @@
--- `put_number` meets its contract: TODO.
+-- `put_number` meets its contract: a word, and as many digits as the number has.
 -- Assumes nothing.
 use Rattle.report.proofs.Lines.{digits-fit, number-short, word-number}
 use borrow.Author.Needs.{needs}

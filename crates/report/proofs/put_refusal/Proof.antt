@@ -1,14 +1,10 @@
--- `put_refusal` meets its contract: TODO.
+-- `put_refusal` meets its contract: two words, each with its number.
 -- Assumes nothing.
 use Rattle.report.specs.Report.{refusalLine}
 use Rattle.report.proofs.Lines.{then}
 use borrow.Author.Needs.{needs}
 use Rattle.report.proofs.put_refusal.Statement.{statement}
 use Rattle.report.proofs.put_refusal.Tie as tie
-use Rattle.report.proofs.put_refusal.Reads as reads
-use Rattle.report.proofs.put_refusal.Lts as lts
-use Rattle.report.proofs.put_line.Reads as put-line-reads
-use Rattle.report.proofs.put_number.Reads as put-number-reads
 
 slice-aggregate-put-number : tie.Need-slice-aggregate-put-number
 slice-aggregate-put-number c = search needs

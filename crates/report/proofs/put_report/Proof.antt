@@ -1,4 +1,4 @@
--- `put_report` meets its contract: TODO.
+-- `put_report` meets its contract: the limit, then the device and room for its image.
 -- Assumes nothing.
 use Rattle.report.proofs.Answers.{device-known, image-fits, image-part, image-size, too-long, not-too-long}
 use borrow.Author.Needs.{needs}

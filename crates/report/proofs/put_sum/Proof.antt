@@ -1,4 +1,4 @@
--- `put_sum` meets its contract: TODO.
+-- `put_sum` meets its contract: a word, four hex digits, LF.
 -- Assumes nothing.
 use Rattle.report.proofs.Lines.{hex-line}
 use borrow.Author.Needs.{needs}

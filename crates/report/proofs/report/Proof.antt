@@ -1,4 +1,4 @@
--- `report` meets its contract: TODO.
+-- `report` meets its contract: the report is made beside, and put in place where it fits.
 -- Assumes nothing.
 use Rattle.report.proofs.Answers.{few-fits, in-lines, part-length, part-fits, too-short, long-enough}
 use borrow.Author.Needs.{needs}

@@ -1,4 +1,4 @@
--- `zeros_in` meets its contract: TODO.
+-- `zeros_in` meets its contract: the device is known and the image of its length, so the count is not refused.
 -- Assumes nothing.
 use mathlib.Core.Path.{_≡_, refl, _∙_}
 use mathlib.Core.Bool.{true}
