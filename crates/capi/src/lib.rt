@@ -6,11 +6,13 @@ ghost use Rattle.part.specs.Answer.{number, value, addressOutcome, fuseOutcome,
 ghost use Rattle.part.specs.Convert.{addressOfFuse, fuseOfAddress};
 ghost use Rattle.image.specs.Image.{fuseSum, zeroCount};
 ghost use Rattle.readout.specs.Readout.{doneOutcome, written, toReadout, readoutOf, toImage, imageOf};
-ghost use Rattle.settings.specs.Answer.{bitOutcome};
-ghost use Rattle.settings.specs.Operations.{countOfSettings, settingOfNumber, fuseOfBit, settingAtFuse};
+ghost use Rattle.settings.specs.Operations.{countOfSettings, settingOfNumber};
+ghost use Rattle.setting_places.specs.Answer.{bitOutcome};
+ghost use Rattle.setting_places.specs.Operations.{fuseOfBit, settingAtFuse};
 ghost use Rattle.jedec_writer.specs.Pattern.{toText, withText};
 ghost use Rattle.jedec_reader.specs.Reader.{toImageFromText, imageIn};
-ghost use Rattle.edit.specs.Edit.{inImage, inReadout, readPattern, setPattern, withNumbered};
+ghost use Rattle.setting_bits.specs.SettingBits.{inImage, inReadout};
+ghost use Rattle.edit_by_number.specs.ByNumber.{readPattern, setPattern, withNumbered};
 ghost use Rattle.capi.specs.Packed.{packed, refusalWord, device, addressAndBit, itself, nothing, orNone, settingAndBit, through};
 use part::AddressAnswer;
 use part::Device;
@@ -20,8 +22,8 @@ use part::FuseNumber;
 use part::NumberAnswer;
 use part::Refusal;
 use readout::DoneAnswer;
-use settings::BitAnswer;
-use settings::NamedAnswer;
+use setting_places::BitAnswer;
+use setting_places::NamedAnswer;
 use settings::SettingAnswer;
 use settings::SettingNumber;
 
@@ -187,7 +189,7 @@ pub extern "C" fn xc9500_setting_fuse(blocks: u32, class: u32, setting: u32, bit
     let d = Device { blocks, class };
     let answer = settings::setting_of_number(d, SettingNumber(setting));
     match answer {
-        SettingAnswer::Setting(s) => bit_word(settings::fuse_of_bit(d, s, bit)),
+        SettingAnswer::Setting(s) => bit_word(setting_places::fuse_of_bit(d, s, bit)),
         SettingAnswer::Refused(r) => refusal_word(r),
     }
 }
@@ -198,7 +200,7 @@ pub extern "C" fn xc9500_setting_at_fuse(blocks: u32, class: u32, fuse: u32) -> 
     ensures { λ w. ⌜ w ≡ packed (orNone (settingAndBit (device blocks class))) (settingAtFuse (device blocks class) fuse) ⌝ }
 {
     let d = Device { blocks, class };
-    let answer = settings::setting_at_fuse(d, FuseNumber(fuse));
+    let answer = setting_places::setting_at_fuse(d, FuseNumber(fuse));
     match answer {
         NamedAnswer::Bit(s, bit) => {
             let number = settings::internal::number_of(d, s);
@@ -214,7 +216,7 @@ pub extern "C" fn xc9500_setting_at_fuse(blocks: u32, class: u32, fuse: u32) -> 
 pub extern "C" fn xc9500_read_in_image(blocks: u32, class: u32, image: &[u8], setting: u32) -> u64
     ensures { λ w. ⌜ w ≡ packed itself (readPattern (device blocks class) inImage (now (image .entry)) setting) ⌝ }
 {
-    number_word(edit::read_pattern_in_image(
+    number_word(edit_by_number::read_pattern_in_image(
         Device { blocks, class },
         image,
         SettingNumber(setting),
@@ -234,7 +236,7 @@ pub extern "C" fn xc9500_set_in_image(
     ensures { λ _. ⌜ now (image .exit) ≡ written (setPattern (device blocks class) inImage (now (image .entry)) setting pattern) (withNumbered (device blocks class) inImage (now (image .entry)) setting pattern) (now (image .entry)) ⌝ }
 {
     let d = Device { blocks, class };
-    done_word(edit::set_pattern_in_image(d, image, SettingNumber(setting), pattern))
+    done_word(edit_by_number::set_pattern_in_image(d, image, SettingNumber(setting), pattern))
 }
 
 // The pattern of a setting in a readout, by setting number.
@@ -247,7 +249,7 @@ pub extern "C" fn xc9500_read_in_readout(
 ) -> u64
     ensures { λ w. ⌜ w ≡ packed itself (readPattern (device blocks class) inReadout (now (readout .entry)) setting) ⌝ }
 {
-    number_word(edit::read_pattern_in_readout(
+    number_word(edit_by_number::read_pattern_in_readout(
         Device { blocks, class },
         readout,
         SettingNumber(setting),
@@ -267,5 +269,5 @@ pub extern "C" fn xc9500_set_in_readout(
     ensures { λ _. ⌜ now (readout .exit) ≡ written (setPattern (device blocks class) inReadout (now (readout .entry)) setting pattern) (withNumbered (device blocks class) inReadout (now (readout .entry)) setting pattern) (now (readout .entry)) ⌝ }
 {
     let d = Device { blocks, class };
-    done_word(edit::set_pattern_in_readout(d, readout, SettingNumber(setting), pattern))
+    done_word(edit_by_number::set_pattern_in_readout(d, readout, SettingNumber(setting), pattern))
 }

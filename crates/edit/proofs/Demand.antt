@@ -8,7 +8,8 @@ use Rattle.part.specs.declared.Device.{Device}
 use Rattle.readout.specs.Readout.{readoutOf, imageOf}
 use Rattle.settings.specs.declared.Setting.{Setting}
 use Rattle.values.specs.declared.Value.{Value}
-use Rattle.edit.specs.Edit.{inImage, inReadout, withValue, readIn, setIn}
+use Rattle.setting_bits.specs.SettingBits.{inImage, inReadout}
+use Rattle.edit.specs.Edit.{withValue, readIn, setIn}
 use Rattle.edit.specs.Demand.{Taken, Calls, Made, Demand3}
 use Rattle.edit.proofs.NotRefused.{not-refused}
 use Rattle.edit.proofs.SameReadout.{same-readout}

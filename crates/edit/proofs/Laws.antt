@@ -5,7 +5,6 @@
 --   read-after-set, read-after-set-image   in any readout, whatever its other bytes hold, and in any image: a setting that was set reads
 --                    as set
 --   other-bits       .. and every bit of every byte that is none of the setting's stands as before
---   reads-numbered, sets-numbered   the edit by number and pattern is the edit by the setting and the value that they stand for
 use mathlib.Core.Path.{_≡_, _∙_}
 use mathlib.Core.Bool.{Bool, true}
 use mathlib.Core.List.{List}
@@ -17,20 +16,21 @@ use Rattle.part.specs.Device.{known, imageBytes, readoutBytes}
 use Rattle.part.specs.declared.Device.{Device}
 use Rattle.image.specs.Bits.{bitAt}
 use Rattle.readout.specs.Readout.{widthAt}
-use Rattle.settings.specs.Settings.{hasSetting, bitsOf, fuseOf}
+use Rattle.settings.specs.Settings.{hasSetting}
 use Rattle.settings.specs.declared.Setting.{Setting}
+use Rattle.setting_places.specs.Places.{bitsOf, fuseOf}
 use Rattle.values.specs.Patterns.{patternIn}
 use Rattle.values.specs.declared.Value.{Value}
 use Rattle.values.proofs.Laws as values
 use Rattle.setting_values.specs.Kinds.{kindOf}
 use Rattle.setting_values.proofs.Widths.{kind-bits}
-use Rattle.edit.specs.Edit.{inImage, inReadout, bytesOf, byteOf, bitIn, withPattern, withValue, readIn}
-use Rattle.edit.proofs.Edits.{set-length, set-others, set-reads, set-clean, clean-through}
+use Rattle.setting_bits.specs.SettingBits.{inImage, inReadout, bytesOf, byteOf, bitIn, withPattern}
+use Rattle.setting_bits.proofs.Edits.{set-length, set-others, set-reads, set-clean, clean-through}
+use Rattle.edit.specs.Edit.{withValue, readIn}
 use Rattle.edit.proofs.NotRefused.{Clean}
 use Rattle.edit.proofs.ReadsAsSet.{image-clean, readout-clean, reads}
-pub use Rattle.edit.proofs.Edits.{some-fuse}
+pub use Rattle.setting_bits.proofs.Edits.{some-fuse}
 pub use Rattle.edit.proofs.Demand.{holds, of-calls}
-pub use Rattle.edit.proofs.Numbered.{reads-numbered, sets-numbered}
 
 module _ (d : Device) (k : known d ≡ true) (s : Setting) (h : hasSetting d s ≡ true) (v : Value) (pattern : ℕ) (p : patternIn (kindOf d s) v ≡ some pattern) where
   fits : pattern < 2 ^ bitsOf s

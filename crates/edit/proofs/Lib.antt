@@ -1,10 +1,5 @@
 -- Laws about reading and setting.
 -- Assumes nothing.
-pub mod Spots
-pub mod Edits
-pub mod Steps
-pub mod Usercode
-pub mod Strays
 pub mod NotRefused
 pub mod SameReadout
 pub mod SameImage
@@ -13,5 +8,4 @@ pub mod OthersAsBefore
 pub mod ListedFuses
 pub mod OtherFuses
 pub mod Demand
-pub mod Numbered
 pub mod Laws

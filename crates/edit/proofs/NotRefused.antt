@@ -13,14 +13,16 @@ use Rattle.part.specs.Device.{known, readoutBytes}
 use Rattle.part.specs.declared.Device.{Device}
 use Rattle.readout.specs.Readout.{readoutOf}
 use Rattle.readout.proofs.Laws.{from-length, readout-accepted}
-use Rattle.settings.specs.Settings.{hasSetting, bitsOf, fuseOf}
+use Rattle.settings.specs.Settings.{hasSetting}
 use Rattle.settings.specs.declared.Setting.{Setting}
+use Rattle.setting_places.specs.Places.{bitsOf, fuseOf}
 use Rattle.values.specs.Patterns.{patternIn}
 use Rattle.values.specs.declared.Value.{Value}
 use Rattle.setting_values.specs.Kinds.{kindOf}
-use Rattle.edit.specs.Edit.{inImage, inReadout, bytesOf, byteOf, strayAmong, strayIn, setIn}
+use Rattle.setting_bits.specs.SettingBits.{inImage, inReadout, bytesOf, byteOf, strayAmong}
+use Rattle.setting_bits.proofs.Edits.{inside, fuse-below, clean-through}
+use Rattle.edit.specs.Edit.{strayIn, setIn}
 use Rattle.edit.specs.Demand.{Taken}
-use Rattle.edit.proofs.Edits.{inside, fuse-below, clean-through}
 
 -- no byte that holds the setting has a bit above its width
 abbrev pub Clean : Device → Bool → List ℕ → Setting → Type 0

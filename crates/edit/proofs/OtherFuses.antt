@@ -7,12 +7,13 @@ use Prim.Native.Nat.{ℕ, _<_}
 use Rattle.part.specs.Device.{fuseCount}
 use Rattle.part.specs.declared.Device.{Device}
 use Rattle.readout.specs.Readout.{readoutOf}
-use Rattle.settings.specs.Settings.{bitsOf, fuseOf}
 use Rattle.settings.specs.declared.Setting.{Setting}
+use Rattle.setting_places.specs.Places.{bitsOf, fuseOf}
 use Rattle.values.specs.declared.Value.{Value}
-use Rattle.edit.specs.Edit.{inImage, inReadout, stateOf, withValue}
+use Rattle.setting_bits.specs.SettingBits.{inImage, inReadout, stateOf}
+use Rattle.setting_bits.proofs.Edits.{set-other-fuses, same-state}
+use Rattle.edit.specs.Edit.{withValue}
 use Rattle.edit.specs.Demand.{Taken}
-use Rattle.edit.proofs.Edits.{set-other-fuses, same-state}
 use Rattle.edit.proofs.SameReadout.{start, same-readout}
 
 module _ (d : Device) (image : List ℕ) (s : Setting) (v : Value) (pattern : ℕ) (taken : Taken d image s v pattern)

@@ -14,9 +14,10 @@ use Rattle.readout.specs.Readout.{readoutOf}
 use Rattle.settings.specs.Settings.{hasSetting}
 use Rattle.settings.specs.declared.Setting.{Setting}
 use Rattle.values.specs.declared.Value.{Value}
-use Rattle.edit.specs.Edit.{inImage, inReadout, patternAt, readIn, withValue}
+use Rattle.setting_bits.specs.SettingBits.{inImage, inReadout, patternAt}
+use Rattle.setting_bits.proofs.Edits.{set-others-read}
+use Rattle.edit.specs.Edit.{readIn, withValue}
 use Rattle.edit.specs.Demand.{Taken}
-use Rattle.edit.proofs.Edits.{set-others-read}
 use Rattle.edit.proofs.SameReadout.{start, same-readout}
 use Rattle.edit.proofs.SameImage.{changed}
 use Rattle.edit.proofs.ReadsAsSet.{image-clean, same-reading}

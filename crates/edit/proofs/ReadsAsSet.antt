@@ -11,15 +11,17 @@ use Rattle.part.specs.Outcome.Outcome.{accepted}
 use Rattle.part.specs.Device.{known, imageBytes, readoutBytes}
 use Rattle.part.specs.declared.Device.{Device}
 use Rattle.readout.specs.Readout.{readoutOf}
-use Rattle.settings.specs.Settings.{hasSetting, bitsOf}
+use Rattle.settings.specs.Settings.{hasSetting}
 use Rattle.settings.specs.declared.Setting.{Setting}
+use Rattle.setting_places.specs.Places.{bitsOf}
 use Rattle.values.specs.declared.Value.{Value}
 use Rattle.values.proofs.Laws as values
 use Rattle.setting_values.specs.Kinds.{kindOf, valueOf}
 use Rattle.setting_values.proofs.Widths.{kind-bits}
-use Rattle.edit.specs.Edit.{inImage, inReadout, bytesOf, patternAt, strayAmong, strayIn, readIn, withValue}
+use Rattle.setting_bits.specs.SettingBits.{inImage, inReadout, bytesOf, patternAt, strayAmong}
+use Rattle.setting_bits.proofs.Edits.{set-reads, same-pattern}
+use Rattle.edit.specs.Edit.{strayIn, readIn, withValue}
 use Rattle.edit.specs.Demand.{Taken}
-use Rattle.edit.proofs.Edits.{set-reads, same-pattern}
 use Rattle.edit.proofs.NotRefused.{Clean, its-length, its-bits}
 use Rattle.edit.proofs.SameReadout.{start, same-readout}
 use Rattle.edit.proofs.SameImage.{changed}

@@ -8,9 +8,10 @@ use Rattle.readout.specs.Readout.{readoutOf, imageOf}
 use Rattle.readout.proofs.Laws.{image-again}
 use Rattle.settings.specs.declared.Setting.{Setting}
 use Rattle.values.specs.declared.Value.{Value}
-use Rattle.edit.specs.Edit.{inImage, inReadout, withValue}
+use Rattle.setting_bits.specs.SettingBits.{inImage, inReadout}
+use Rattle.setting_bits.proofs.Edits.{set-length, set-small}
+use Rattle.edit.specs.Edit.{withValue}
 use Rattle.edit.specs.Demand.{Taken}
-use Rattle.edit.proofs.Edits.{set-length, set-small}
 use Rattle.edit.proofs.SameReadout.{IsImage, start, same-readout}
 
 module _ (d : Device) (image : List ℕ) (s : Setting) (v : Value) (pattern : ℕ) (taken : Taken d image s v pattern) where

@@ -9,9 +9,10 @@ use Rattle.part.specs.declared.Device.{Device}
 use Rattle.readout.specs.Readout.{readoutOf}
 use Rattle.settings.specs.declared.Setting.{Setting}
 use Rattle.values.specs.declared.Value.{Value}
-use Rattle.edit.specs.Edit.{inImage, inReadout, withValue}
+use Rattle.setting_bits.specs.SettingBits.{inImage, inReadout}
+use Rattle.setting_bits.proofs.Edits.{agrees}
+use Rattle.edit.specs.Edit.{withValue}
 use Rattle.edit.specs.Demand.{Taken}
-use Rattle.edit.proofs.Edits.{agrees}
 
 -- an image: its length, and its bytes
 pub record IsImage (d : Device) (image : List ℕ) : Type 0 where

@@ -13,14 +13,16 @@ use Rattle.part.specs.Device.{known, fuseCount, imageBytes, readoutBytes}
 use Rattle.part.specs.declared.Device.{Device}
 use Rattle.image.specs.Bits.{bitOf}
 use Rattle.readout.specs.Readout.{readoutOf, imageOf, doneOutcome}
-use Rattle.settings.specs.Settings.{hasSetting, bitsOf, fuseOf}
+use Rattle.settings.specs.Settings.{hasSetting}
 use Rattle.settings.specs.declared.Setting.{Setting}
+use Rattle.setting_places.specs.Places.{bitsOf, fuseOf}
 use Rattle.values.specs.Patterns.{patternIn}
 use Rattle.values.specs.declared.Value.{Value}
 use Rattle.setting_values.specs.Kinds.{kindOf}
 use Rattle.setting_values.specs.Operations.{valueOutcome}
+use Rattle.setting_bits.specs.SettingBits.{inImage, inReadout, stateOf}
 use Rattle.edit.specs.declared.internal.BothAnswer.{BothAnswer}
-use Rattle.edit.specs.Edit.{inImage, inReadout, stateOf, readIn, setIn, withValue}
+use Rattle.edit.specs.Edit.{readIn, setIn, withValue}
 
 -- "take any known device, any image of it, the readout of that image, any setting of that device and any value of that setting"; the
 -- value stands for a pattern of states: by `pattern-iff` (values/proofs/Laws.antt) the only one that has this value

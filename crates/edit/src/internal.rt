@@ -1,236 +1,36 @@
-// Bits of a setting in an image or a readout: what the operations need, and no caller.
+// Reading and setting in an image or a readout alike: what the operations need, and no caller.
 // A function here may require that the device has the setting and the bytes their length.
 ghost use mathlib.Core.Path.{_≡_};
-ghost use mathlib.Core.Bool.{true, false, cond, not, _&&_};
-ghost use Prim.Native.Nat.{ℕ, _+_, _*_, _/_, _^_, _<_};
-ghost use lib.Dec.{eqb, ltb};
-ghost use lib.ListN.{length, getD};
+ghost use mathlib.Core.Bool.{true};
+ghost use lib.ListN.{length};
 ghost use Rattle.part.specs.Device.{known};
-ghost use Rattle.part.specs.Place.{widthOf};
-ghost use Rattle.image.specs.Bits.{bitOf};
-ghost use Rattle.settings.specs.Settings.{placeOf, hasSetting, bitsOf, fuseOf};
-ghost use Rattle.settings.specs.declared.GlobalField.the-variants.{Usercode};
-ghost use Rattle.settings.specs.declared.Setting.the-variants.{Global};
-ghost use Rattle.part.specs.Answer.{numberOutcome};
 ghost use Rattle.readout.specs.Readout.{doneOutcome, Written};
+ghost use Rattle.settings.specs.Settings.{hasSetting};
 ghost use Rattle.setting_values.specs.Operations.{valueOutcome};
-ghost use Rattle.edit.specs.Edit.{bytesOf, byteOf, bitIn, withState, patternAt, withPattern, strayOf, strayIn, readIn, setIn, withValue, readPattern, setPattern, withNumbered};
+ghost use Rattle.setting_bits.specs.SettingBits.{bytesOf};
+ghost use Rattle.edit.specs.Edit.{strayIn, readIn, setIn, withValue};
 ghost use Rattle.edit.specs.Demand.{BothWays, callsOf};
 use part::Device;
-use part::NumberAnswer;
 use part::Refusal;
 use readout::DoneAnswer;
 use setting_values::ValueAnswer;
 use settings::Setting;
-use settings::SettingNumber;
 use values::Value;
 use values::internal::Found;
 
-// A byte of an image or a readout, and one of its bits.
-struct Spot {
-    index: usize,
-    bit: u32,
-}
-
-// Where a bit of a setting stands.
-fn spot_of(d: Device, readout: bool, s: Setting, bit: u32) -> Spot
-    requires { ⌜ (known d ≡ true) × (hasSetting d s ≡ true) × (bit < bitsOf s) ⌝ }
-    ensures { λ r. ⌜ (r .index ≡ byteOf d readout (fuseOf d s bit)) × (r .bit ≡ bitIn d readout (fuseOf d s bit)) ⌝ }
-{
-    let place = settings::internal::place_of(d, s, bit);
-    let byte = place.byte;
-    if readout {
-        return Spot {
-            index: part::internal::index_of_byte(d, byte) as usize,
-            bit: place.bit,
-        };
-    }
-    let first = part::internal::first_fuse(d, byte);
-    let fuse = first.0 + place.bit;
-    Spot {
-        index: (fuse / 8) as usize,
-        bit: fuse % 8,
-    }
-}
-
-// Where bits 2k and 2k+1 of USERCODE stand: bits 6 and 7 of a byte of block 0, rows 6 and 7. No device has that byte elsewhere.
-fn usercode_spot(d: Device, readout: bool, pair: u32) -> Spot
-    requires { ⌜ (known d ≡ true) × (hasSetting d (Global Usercode) ≡ true) × (pair < 16) ⌝ }
-    ensures { λ r. ⌜ (r .index ≡ byteOf d readout (fuseOf d (Global Usercode) (2 * pair))) × (r .bit ≡ bitIn d readout (fuseOf d (Global Usercode) (2 * pair))) ⌝ }
-{
-    let row = 7 - pair / 8;
-    let column = 7 - pair % 8;
-    if readout {
-        return Spot {
-            index: (row * 15 + column) as usize,
-            bit: 6,
-        };
-    }
-    let fuse = row * 108 + column * 8 + 6;
-    Spot {
-        index: (fuse / 8) as usize,
-        bit: fuse % 8,
-    }
-}
-
-// The states of USERCODE's fuses, two at a time.
-fn usercode_at(d: Device, readout: bool, bytes: &[u8]) -> u32
-    requires { ⌜ (known d ≡ true) × (hasSetting d (Global Usercode) ≡ true) × (length (now bytes) ≡ bytesOf d readout) ⌝ }
-    ensures { λ r. ⌜ r ≡ patternAt d readout (now (bytes .entry)) (Global Usercode) ⌝ }
-{
-    let mut pattern: u32 = 0;
-    let mut pair: u32 = 0;
-    while pair < 16 {
-        let spot = usercode_spot(d, readout, pair);
-        let states = image::internal::pair_of(bytes, spot.index, spot.bit);
-        pattern += states << (2 * pair);
-        pair += 1;
-    }
-    pattern
-}
-
-// Bits 2k and 2k+1 of USERCODE put in place.
-fn put_usercode_pair(d: Device, readout: bool, bytes: &mut [u8], pattern: u32, pair: u32)
-    requires { ⌜ (known d ≡ true) × (hasSetting d (Global Usercode) ≡ true) × (length (now bytes) ≡ bytesOf d readout) × (pair < 16) ⌝ }
-    ensures { λ _. ⌜ now (bytes .exit) ≡ withState d readout (withState d readout (now (bytes .entry)) (fuseOf d (Global Usercode) (2 * pair)) (bitOf pattern (2 * pair))) (fuseOf d (Global Usercode) (2 * pair + 1)) (bitOf pattern (2 * pair + 1)) ⌝ }
-{
-    let spot = usercode_spot(d, readout, pair);
-    let states = (pattern >> (2 * pair)) % 4;
-    image::internal::set_pair(bytes, spot.index, spot.bit, states);
-}
-
-// The states of USERCODE's fuses put in place: row 7, then row 6. In a loop of one row, the compiler has each byte and bit as constants.
-fn put_usercode(d: Device, readout: bool, bytes: &mut [u8], pattern: u32)
-    requires { ⌜ (known d ≡ true) × (hasSetting d (Global Usercode) ≡ true) × (length (now bytes) ≡ bytesOf d readout) ⌝ }
-    ensures { λ _. ⌜ now (bytes .exit) ≡ withPattern d readout (now (bytes .entry)) (Global Usercode) pattern ⌝ }
-{
-    let mut pair: u32 = 0;
-    while pair < 8 {
-        put_usercode_pair(d, readout, bytes, pattern, pair);
-        pair += 1;
-    }
-    while pair < 16 {
-        put_usercode_pair(d, readout, bytes, pattern, pair);
-        pair += 1;
-    }
-}
-
-// The states of a setting's fuses, lowest bit first.
-pub fn pattern_at(d: Device, readout: bool, bytes: &[u8], s: Setting) -> u32
-    requires { ⌜ (known d ≡ true) × (hasSetting d s ≡ true) × (length (now bytes) ≡ bytesOf d readout) ⌝ }
-    ensures { λ r. ⌜ r ≡ patternAt d readout (now (bytes .entry)) s ⌝ }
-{
-    let width = settings::internal::bits_of(d, s);
-    // no other setting has so many bits
-    if width == 32 {
-        return usercode_at(d, readout, bytes);
-    }
-    let mut pattern: u32 = 0;
-    let mut bit: u32 = 0;
-    while bit < width {
-        let spot = spot_of(d, readout, s, bit);
-        let state = image::internal::bit_of(bytes, spot.index, spot.bit);
-        pattern += state << bit;
-        bit += 1;
-    }
-    pattern
-}
-
-// The states of a setting's fuses put in place.
-pub fn put_pattern(d: Device, readout: bool, bytes: &mut [u8], s: Setting, pattern: u32)
-    requires { ⌜ (known d ≡ true) × (hasSetting d s ≡ true) × (length (now bytes) ≡ bytesOf d readout) ⌝ }
-    ensures { λ _. ⌜ now (bytes .exit) ≡ withPattern d readout (now (bytes .entry)) s pattern ⌝ }
-{
-    let last = settings::internal::bits_of(d, s);
-    if last == 32 {
-        put_usercode(d, readout, bytes, pattern);
-        return;
-    }
-    let mut bit: u32 = 0;
-    while bit < last {
-        let spot = spot_of(d, readout, s, bit);
-        let state = (pattern >> bit) % 2;
-        image::internal::set_bit(bytes, spot.index, spot.bit, state);
-        bit += 1;
-    }
-}
-
-// The bits of a byte above a width.
-fn above_width(bytes: &[u8], index: usize, width: u32) -> u32
-    requires { ⌜ (index < length (now bytes)) × (width < 32) ⌝ }
-    ensures { λ r. ⌜ r ≡ getD (now (bytes .entry)) index 0 / 2 ^ width ⌝ }
-{
-    bytes[index] as u32 >> width
-}
-
-// The lower of two indices, where the first counts only if its byte has bits above its width.
-fn lower(above: u32, index: usize, lowest: usize) -> usize
-    ensures { λ r. ⌜ r ≡ cond (not (eqb above 0) && ltb index lowest) index lowest ⌝ }
-{
-    if (above != 0) & (index < lowest) {
-        return index;
-    }
-    lowest
-}
-
-// Whether every byte that holds the setting has 8 bits. Literals and wire-ANDs, of one bit each, lie in narrower ones too.
-fn in_whole_bytes(d: Device, s: Setting) -> bool
-    requires { ⌜ (known d ≡ true) × (hasSetting d s ≡ true) ⌝ }
-    ensures { λ r. ⌜ (r ≡ true → (b : ℕ) → b < bitsOf s → widthOf (placeOf s b .byte) ≡ 8) × (r ≡ false → bitsOf s ≡ 1) ⌝ }
-{
-    match s {
-        Setting::Literal {
-            block: _,
-            macrocell: _,
-            term: _,
-            input: _,
-            polarity: _,
-        } => false,
-        Setting::WireAnd {
-            block: _,
-            input: _,
-            source: _,
-            macrocell: _,
-        } => false,
-        Setting::Macrocell {
-            block: _,
-            macrocell: _,
-            field: _,
-        } => true,
-        Setting::Block { block: _, field: _ } => true,
-        Setting::Global(_) => true,
-    }
-}
-
-// The lowest index of a readout byte that holds the setting and has a bit above its width, or the length.
-pub fn stray_of(d: Device, readout: &[u8], s: Setting) -> usize
-    requires { ⌜ (known d ≡ true) × (hasSetting d s ≡ true) × (length (now readout) ≡ bytesOf d true) ⌝ }
-    ensures { λ r. ⌜ r ≡ strayOf d (now (readout .entry)) s ⌝ }
-{
-    if in_whole_bytes(d, s) {
-        return readout.len();
-    }
-    let place = settings::internal::place_of(d, s, 0);
-    let byte = place.byte;
-    let index = part::internal::index_of_byte(d, byte) as usize;
-    let width = part::internal::width_of(byte);
-    let above = above_width(readout, index, width);
-    lower(above, index, readout.len())
-}
-
-// The same for an image or a readout: an image has no bits above a width.
+// The lowest index of a byte that holds the setting and has a bit above its width, or the length: an image has no such bits.
 fn stray_in(d: Device, readout: bool, bytes: &[u8], s: Setting) -> usize
     requires { ⌜ (known d ≡ true) × (hasSetting d s ≡ true) × (length (now bytes) ≡ bytesOf d readout) ⌝ }
     ensures { λ r. ⌜ r ≡ strayIn d readout (now (bytes .entry)) s ⌝ }
 {
     if readout {
-        return stray_of(d, bytes, s);
+        return setting_bits::internal::stray_of(d, bytes, s);
     }
     bytes.len()
 }
 
 // The exact length of an image or a readout.
-fn bytes_of(d: Device, readout: bool) -> usize
+pub fn bytes_of(d: Device, readout: bool) -> usize
     requires { ⌜ known d ≡ true ⌝ }
     ensures { λ r. ⌜ r ≡ bytesOf d readout ⌝ }
 {
@@ -259,7 +59,7 @@ pub fn read(d: Device, readout: bool, bytes: &[u8], s: Setting) -> ValueAnswer
         return ValueAnswer::Refused(Refusal::StrayBit(index));
     }
     let kind = setting_values::internal::kind_of(d, s);
-    let pattern = pattern_at(d, readout, bytes, s);
+    let pattern = setting_bits::internal::pattern_at(d, readout, bytes, s);
     ValueAnswer::Value(values::internal::value_in(kind, pattern))
 }
 
@@ -285,67 +85,11 @@ pub fn set(d: Device, readout: bool, bytes: &mut [u8], s: Setting, v: Value) -> 
                 let index = first_stray as u32;
                 return DoneAnswer::Refused(Refusal::StrayBit(index));
             }
-            put_pattern(d, readout, bytes, s, pattern);
+            setting_bits::internal::put_pattern(d, readout, bytes, s, pattern);
             DoneAnswer::Done
         }
         Found::NoSuchValue => DoneAnswer::Refused(Refusal::NoSuchValue),
     }
-}
-
-// The pattern of a setting, by its number: through the setting and its value. Refused: 1, 2, 4, 6.
-pub fn read_numbered(d: Device, readout: bool, bytes: &[u8], number: SettingNumber) -> NumberAnswer
-    ensures { λ r. ⌜ numberOutcome r ≡ readPattern d readout (now (bytes .entry)) (number .0) ⌝ }
-{
-    if !part::is_known(d) {
-        return NumberAnswer::Refused(Refusal::UnknownDevice);
-    }
-    if bytes.len() != bytes_of(d, readout) {
-        return NumberAnswer::Refused(Refusal::WrongLength);
-    }
-    if settings::internal::count_of(d) <= number.0 {
-        return NumberAnswer::Refused(Refusal::NoSuchSetting);
-    }
-    let s = settings::internal::setting_of(d, number);
-    let answer = read(d, readout, bytes, s);
-    match answer {
-        ValueAnswer::Value(v) => {
-            let kind = setting_values::internal::kind_of(d, s);
-            let found = values::internal::pattern_in(kind, v);
-            match found {
-                Found::Pattern(pattern) => NumberAnswer::Number(pattern),
-                Found::NoSuchValue => NumberAnswer::Refused(Refusal::NoSuchValue),
-            }
-        }
-        ValueAnswer::Refused(r) => NumberAnswer::Refused(r),
-    }
-}
-
-// A setting set to a pattern, by its number: through the setting and the value. Refused: 1, 2, 4, 5, 6.
-pub fn set_numbered(
-    d: Device,
-    readout: bool,
-    bytes: &mut [u8],
-    number: SettingNumber,
-    pattern: u32,
-) -> DoneAnswer
-    ensures { λ r. ⌜ Written (setPattern d readout (now (bytes .entry)) (number .0) pattern) (doneOutcome r) (withNumbered d readout (now (bytes .entry)) (number .0) pattern) (now (bytes .entry)) (now (bytes .exit)) ⌝ }
-{
-    if !part::is_known(d) {
-        return DoneAnswer::Refused(Refusal::UnknownDevice);
-    }
-    if bytes.len() != bytes_of(d, readout) {
-        return DoneAnswer::Refused(Refusal::WrongLength);
-    }
-    if settings::internal::count_of(d) <= number.0 {
-        return DoneAnswer::Refused(Refusal::NoSuchSetting);
-    }
-    let s = settings::internal::setting_of(d, number);
-    let kind = setting_values::internal::kind_of(d, s);
-    if !values::internal::fits(kind, pattern) {
-        return DoneAnswer::Refused(Refusal::NoSuchValue);
-    }
-    let v = values::internal::value_in(kind, pattern);
-    set(d, readout, bytes, s, v)
 }
 
 // What the calls of `both_ways` answered.

@@ -1,16 +1,14 @@
-// Reading and setting a setting, in an image and in a readout, by name and value or by number and pattern.
+// Reading and setting a setting, in an image and in a readout, by name and value.
 // The definitions stand in specs/Edit.antt; demand 3 as one record in specs/Demand.antt.
 ghost use mathlib.Core.Path.{_≡_};
-ghost use Rattle.part.specs.Answer.{numberOutcome};
 ghost use Rattle.readout.specs.Readout.{doneOutcome, Written};
 ghost use Rattle.setting_values.specs.Operations.{valueOutcome};
-ghost use Rattle.edit.specs.Edit.{inImage, inReadout, readIn, setIn, withValue, readPattern, setPattern, withNumbered};
+ghost use Rattle.setting_bits.specs.SettingBits.{inImage, inReadout};
+ghost use Rattle.edit.specs.Edit.{readIn, setIn, withValue};
 use part::Device;
-use part::NumberAnswer;
 use readout::DoneAnswer;
 use setting_values::ValueAnswer;
 use settings::Setting;
-use settings::SettingNumber;
 use values::Value;
 
 pub mod internal;
@@ -29,25 +27,6 @@ pub fn set_in_image(d: Device, image: &mut [u8], s: Setting, v: Value) -> DoneAn
     internal::set(d, false, image, s, v)
 }
 
-// The pattern of a setting in an image, by its number. Refused: 1, 2, 4.
-pub fn read_pattern_in_image(d: Device, image: &[u8], number: SettingNumber) -> NumberAnswer
-    ensures { λ r. ⌜ numberOutcome r ≡ readPattern d inImage (now (image .entry)) (number .0) ⌝ }
-{
-    internal::read_numbered(d, false, image, number)
-}
-
-// A setting set to a pattern in an image, by its number. Refused: 1, 2, 4, 5.
-pub fn set_pattern_in_image(
-    d: Device,
-    image: &mut [u8],
-    number: SettingNumber,
-    pattern: u32,
-) -> DoneAnswer
-    ensures { λ r. ⌜ Written (setPattern d inImage (now (image .entry)) (number .0) pattern) (doneOutcome r) (withNumbered d inImage (now (image .entry)) (number .0) pattern) (now (image .entry)) (now (image .exit)) ⌝ }
-{
-    internal::set_numbered(d, false, image, number, pattern)
-}
-
 // The value of a setting in a readout. Refused: 1, 2, 4, 6.
 pub fn read_in_readout(d: Device, readout: &[u8], s: Setting) -> ValueAnswer
     ensures { λ r. ⌜ valueOutcome r ≡ readIn d inReadout (now (readout .entry)) s ⌝ }
@@ -60,23 +39,4 @@ pub fn set_in_readout(d: Device, readout: &mut [u8], s: Setting, v: Value) -> Do
     ensures { λ r. ⌜ Written (setIn d inReadout (now (readout .entry)) s v) (doneOutcome r) (withValue d inReadout (now (readout .entry)) s v) (now (readout .entry)) (now (readout .exit)) ⌝ }
 {
     internal::set(d, true, readout, s, v)
-}
-
-// The pattern of a setting in a readout, by its number. Refused: 1, 2, 4, 6.
-pub fn read_pattern_in_readout(d: Device, readout: &[u8], number: SettingNumber) -> NumberAnswer
-    ensures { λ r. ⌜ numberOutcome r ≡ readPattern d inReadout (now (readout .entry)) (number .0) ⌝ }
-{
-    internal::read_numbered(d, true, readout, number)
-}
-
-// A setting set to a pattern in a readout, by its number. Refused: 1, 2, 4, 5, 6.
-pub fn set_pattern_in_readout(
-    d: Device,
-    readout: &mut [u8],
-    number: SettingNumber,
-    pattern: u32,
-) -> DoneAnswer
-    ensures { λ r. ⌜ Written (setPattern d inReadout (now (readout .entry)) (number .0) pattern) (doneOutcome r) (withNumbered d inReadout (now (readout .entry)) (number .0) pattern) (now (readout .entry)) (now (readout .exit)) ⌝ }
-{
-    internal::set_numbered(d, true, readout, number, pattern)
 }

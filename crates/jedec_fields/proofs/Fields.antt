@@ -2,7 +2,7 @@
 --   rest-whole                  what a slice from an offset on holds
 --   pieces-star, pieces-none    a text cut at its first `*`, or holding none
 --   blanks-skipped              blanks before a field do not change the fields
---   at-etx, at-field, at-none   what stands at the first byte that is no blank
+--   nothing-left, the-end, no-star, a-field   what stands at the first byte that is no blank
 use mathlib.Core.Path.{_≡_, refl, sym, _∙_, ap}
 use mathlib.Core.Bool.{Bool, true, false, true≢false}
 use mathlib.Core.List.{List, [], _∷_}
@@ -11,12 +11,13 @@ use Prim.Native.Nat.{ℕ, zero, suc, _+_, _-_, _≤_, _<_}
 use native.Mathlib.Omega.{arith}
 use native.Mathlib.Nat.{add-zero, le-refl, not-suc-le-zero}
 use lib.Dec.{eqb}
-use lib.ListN.{length, take, drop, length-drop}
-use lib.Seq.{take-all, length-take-le}
+use lib.ListN.{length, getD, take, drop, length-drop, drop-of-length-le}
+use lib.Seq.{take-all, length-take-le, drop-cons, drop-drop}
 use borrow.Author.Tests.{ne-eqb}
 use Rattle.jedec.specs.Characters.{etx, star, isBlank}
 use Rattle.jedec.specs.Cut.{onFirst, pieces, blanksBefore, Cut, startsWith, orEnd, fieldsFrom}
-use Rattle.jedec_fields.specs.Fields.{untilStar, fieldsAt}
+use Rattle.jedec_fields.specs.Fields.{untilStar, fieldsAt, cutOf, Stands}
+use Rattle.jedec_fields.specs.declared.Next.the-variants.{Field, End, Early}
 
 -- what a slice from an offset on holds
 pub rest-whole : (k : ℕ) (l : List ℕ) → take (length l - k) (drop k l) ≡ drop k l
@@ -75,7 +76,7 @@ unfolding fieldsAt pieces
 blank-skipped at b bytes h =
     rw (ne-eqb b star (solid b star refl h)) (blank-on-first at b (pieces bytes .ended) (pieces bytes .rest) h)
 
-pub blanks-skipped : (at : ℕ) (bytes : List ℕ) → fieldsAt at bytes ≡ fieldsAt (at + blanksBefore bytes) (drop (blanksBefore bytes) bytes)
+blanks-skipped : (at : ℕ) (bytes : List ℕ) → fieldsAt at bytes ≡ fieldsAt (at + blanksBefore bytes) (drop (blanksBefore bytes) bytes)
 unfolding blanksBefore
 blanks-skipped at [] = rw (add-zero at)
 blanks-skipped at (b ∷ bytes) = go (isBlank b) refl (blanks-skipped (at + 1) bytes)
@@ -88,7 +89,7 @@ blanks-skipped at (b ∷ bytes) = go (isBlank b) refl (blanks-skipped (at + 1) b
     go false e shorter = rw (e, add-zero at)
 
 -- what the blanks stop at is no blank
-pub after-blanks : (bytes : List ℕ) (b : ℕ) (rest : List ℕ) → drop (blanksBefore bytes) bytes ≡ b ∷ rest → isBlank b ≡ false
+after-blanks : (bytes : List ℕ) (b : ℕ) (rest : List ℕ) → drop (blanksBefore bytes) bytes ≡ b ∷ rest → isBlank b ≡ false
 unfolding blanksBefore
 after-blanks [] b rest e = let z : _≡_ {A = ℕ} 0 1 = cc in absurd (omega arith)
 after-blanks (a ∷ bytes) b rest e = go (isBlank a) refl (after-blanks bytes b rest)
@@ -113,7 +114,7 @@ plain-take (suc u) b bytes h n = plain-first b (take u bytes) h n
 plain-or-end : (at : ℕ) (p : List ℕ) (other : Cut) → Plain p → orEnd at p other ≡ other
 plain-or-end at p other e = rw (e .0, e .1)
 
-pub at-etx : (at : ℕ) (bytes : List ℕ) → fieldsAt at (3 ∷ bytes) ≡ record { fields = []; end = some at }
+at-etx : (at : ℕ) (bytes : List ℕ) → fieldsAt at (3 ∷ bytes) ≡ record { fields = []; end = some at }
 unfolding fieldsAt pieces fieldsFrom blanksBefore
 at-etx at bytes = go (pieces bytes .ended) (pieces bytes .rest)
   where
@@ -122,13 +123,13 @@ at-etx at bytes = go (pieces bytes .ended) (pieces bytes .rest)
     go (p ∷ ps) rest = rw (add-zero at)
 
 module _ (at b : ℕ) (bytes : List ℕ) (h : isBlank b ≡ false) (n : b ≡ 3 → ⊥) where
-  pub at-none : length (b ∷ bytes) ≤ untilStar (b ∷ bytes) → fieldsAt at (b ∷ bytes) ≡ record { fields = []; end = none }
+  at-none : length (b ∷ bytes) ≤ untilStar (b ∷ bytes) → fieldsAt at (b ∷ bytes) ≡ record { fields = []; end = none }
   unfolding fieldsAt fieldsFrom
   at-none l =
       let u : Uncut (b ∷ bytes) = pieces-none (b ∷ bytes) l in
       rw (u .ended, u .rest) (plain-or-end at (b ∷ bytes) _ (plain-first b bytes h n))
 
-  pub at-field : (u : ℕ) → u ≡ untilStar (b ∷ bytes) → u < length (b ∷ bytes)
+  at-field : (u : ℕ) → u ≡ untilStar (b ∷ bytes) → u < length (b ∷ bytes)
       → fieldsAt at (b ∷ bytes)
       ≡ record {
         fields = (record { start = at; bytes = take u (b ∷ bytes) }) ∷ fieldsAt (at + u + 1) (drop (u + 1) (b ∷ bytes)) .fields;
@@ -141,3 +142,52 @@ module _ (at b : ℕ) (bytes : List ℕ) (h : isBlank b ≡ false) (n : b ≡ 3 
       let k : length (take u (b ∷ bytes)) ≡ u = length-take-le u (b ∷ bytes) (omega arith) in
       let s : u + 1 ≡ suc u = omega arith in
       rw (s, c .ended, c .rest, p .0, p .1, k, add-zero at)
+
+-- what stands next, from the first byte on that is no blank
+nothing : (at : ℕ) → fieldsAt at [] ≡ record { fields = []; end = none }
+unfolding fieldsAt pieces fieldsFrom blanksBefore
+nothing at = refl
+
+module _ (text : List ℕ) (at start : ℕ) (e : start ≡ at + blanksBefore (drop at text)) where
+  -- the fields from the first byte on that is no blank
+  from-start : fieldsAt at (drop at text) ≡ fieldsAt start (drop start text)
+  from-start = blanks-skipped at (drop at text) ∙ rw (drop-drop (blanksBefore (drop at text)) at text, ← e)
+
+  pub nothing-left : start ≡ length text → Stands text at Early
+  nothing-left l =
+      let past : length text ≤ start = omega arith in
+      record { cut = sym (from-start ∙ rw (drop-of-length-le text past) (nothing start)); inside = tt }
+
+  module _ (l : start ≤ length text) (n : start ≡ length text → ⊥) where
+    first-there : drop start text ≡ getD text start 0 ∷ drop (suc start) text
+    first-there = drop-cons text start 0 (omega arith)
+
+    pub the-end : getD text start 0 ≡ 3 → Stands text at (End start)
+    the-end f = record { cut = sym (from-start ∙ rw (first-there, f) (at-etx start (drop (suc start) text))); inside = omega arith }
+
+    no-blank : isBlank (getD text start 0) ≡ false
+    no-blank =
+        after-blanks (drop at text) (getD text start 0) (drop (suc start) text)
+        (drop-drop (blanksBefore (drop at text)) at text ∙ ap (λ (k : ℕ). drop k text) (sym e) ∙ first-there)
+
+    module _ (m : getD text start 0 ≡ 3 → ⊥) (star : ℕ) (s : star ≡ start + untilStar (drop start text)) where
+      long : length (getD text start 0 ∷ drop (suc start) text) ≡ length text - start
+      long = ap length (sym first-there) ∙ length-drop start text
+
+      pub no-star : star ≡ length text → Stands text at Early
+      no-star g =
+          let u : untilStar (getD text start 0 ∷ drop (suc start) text) ≡ length text - start = rw (← first-there) (omega arith) in
+          record {
+            cut = sym (from-start ∙ rw first-there (at-none start (getD text start 0) (drop (suc start) text) no-blank m (omega (arith, long, u))));
+            inside = tt;
+          }
+
+      pub a-field : star ≤ length text → (star ≡ length text → ⊥) → Stands text at (Field start star)
+      a-field k g =
+          let w : star - start ≡ untilStar (getD text start 0 ∷ drop (suc start) text) = rw (← first-there) (omega arith) in
+          let there : start + (star - start) + 1 ≡ star + 1 = omega arith in
+          let next : start + (star - start + 1) ≡ star + 1 = omega arith in
+          let beyond : drop (star - start + 1) (drop start text) ≡ drop (star + 1) text = drop-drop (star - start + 1) start text ∙ ap (λ (j : ℕ). drop j text) next in
+          let field : fieldsAt start (drop start text) ≡ cutOf text (Field start star) =
+          rw (← first-there, there, beyond) at (at-field start (getD text start 0) (drop (suc start) text) no-blank m (star - start) w (omega (arith, long))) in
+          record { cut = sym (from-start ∙ field); inside = (omega arith, omega arith, omega arith) }

@@ -2,28 +2,29 @@
 --   marks-again, marks-end               whether bytes hold STX or ETX
 --   star-, blanks-, unbroken-            bytes counted up to the first that stops the count
 --   Reading                              digits read
---   states-again, states-end             states counted
+--   Leads                                digits read over the first bytes
+--   states-few                           at most one state a byte
 --   tail-on, tail-digit                  what follows ETX
 use mathlib.Core.Path.{_≡_, refl, sym, _∙_, ap}
 use mathlib.Core.Bool.{Bool, true, false, cond, not, _&&_, _||_, or-assoc, or-false, true≢false}
-use mathlib.Core.List.{List, [], _∷_}
+use mathlib.Core.List.{List, [], _∷_, _++_}
 use mathlib.Core.Option.{Option}
 use mathlib.Core.Option.Option.{none, some}
 use Prim.Native.Nat.{ℕ, suc, _+_, _*_, _-_, _^_, _≤_, _<_}
 use native.Mathlib.Omega.{arith}
-use native.Mathlib.Nat.{pow-zero, pow-suc, pow-le-pow-right, add-zero, zero-add, lt-of-lt-of-le}
+use native.Mathlib.Nat.{pow-zero, pow-suc, pow-le-pow-right, add-zero, lt-of-lt-of-le}
 use native.Mathlib.Numerals.{add-one}
 use lib.Arith.{digits-lt}
-use lib.Dec.{eqb, leb}
-use lib.ListN.{length, getD, drop, drop-of-length-le}
-use lib.Seq.{drop-cons}
-use borrow.Author.Tests.{eqb-true, eq-eqb, ne-eqb, leb-true, not-true, not-false}
-use Rattle.part.proofs.Facts.{either}
+use lib.Dec.{eqb, leb, ltb}
+use lib.ListN.{length, getD, take, drop, drop-of-length-le}
+use lib.Seq.{take-suc, drop-cons}
+use borrow.Author.Tests.{eq-eqb, ne-eqb, leb-true, ltb-true, lt-ltb, not-true, not-false}
+use Rattle.part.proofs.Facts.{and-iff}
 use Rattle.jedec.specs.Characters.{isBlank, isMark, between, decimalValue, hexValue, andThen, digitsRead}
 use Rattle.jedec.specs.Cut.{holdsMark, blanksBefore, Tail, tailFrom}
 use Rattle.jedec.specs.Cut.Tail.{given, wrong}
 use Rattle.jedec.specs.Judge.{unbroken, before, statesIn}
-use Rattle.jedec_fields.specs.Fields.{valueOr, countOf, orEmpty, untilStar}
+use Rattle.jedec_fields.specs.Fields.{valueOr, DigitsStand, orEmpty, untilStar}
 
 -- STX or ETX
 pub marks-again : (bytes : List ℕ) (i : ℕ) (found m all : Bool) → i < length bytes → m ≡ isMark (getD bytes i 0)
@@ -163,60 +164,75 @@ module _ (base : ℕ) (digit : ℕ → Option ℕ) (bytes : List ℕ) where
   pub reading-small : (x i k : ℕ) → Reading base digit bytes x i → 0 < base → i ≤ k → x < base ^ k
   reading-small x i k r p l = lt-of-lt-of-le (r .small) (pow-le-pow-right p l)
 
--- states counted
-plus : Bool → ℕ → Option (List ℕ) → Option ℕ
-plus good n none = none
-plus true n (some states) = some (n + length states)
-plus false n (some states) = none
-
-pub counted : (good : Bool) (n : ℕ) (bytes : List ℕ) (i : ℕ) → Option ℕ
-counted good n bytes i = plus good n (statesIn (drop i bytes))
-
--- no blank is a state
-apart : (b : ℕ) → isBlank b ≡ true → (eqb b 48 || eqb b 49) ≡ true → ⊥
-apart b h s = either (eqb b 48) (eqb b 49) s (λ e. is 48 refl (eqb-true b 48 e)) (λ e. is 49 refl (eqb-true b 49 e))
+-- digits read over the first bytes
+digits-snoc : (base : ℕ) (digit : ℕ → Option ℕ) (a : List ℕ) (x b : ℕ)
+    → digitsRead base digit x (a ++ (b ∷ [])) ≡ andThen (digitsRead base digit x a) (λ v. andThen (digit b) (λ y. some (v * base + y)))
+unfolding digitsRead
+digits-snoc base digit [] x b = refl
+digits-snoc base digit (c ∷ a) x b = go (digit c) (λ y. digits-snoc base digit a (x * base + y) b)
   where
-    is : (k : ℕ) → isBlank k ≡ false → b ≡ k → ⊥
-    is k n e = true≢false (sym h ∙ ap isBlank e ∙ n)
+    go : (o : Option ℕ)
+        → ((y : ℕ) → digitsRead base digit (x * base + y) (a ++ (b ∷ [])) ≡ andThen (digitsRead base digit (x * base + y) a) (λ v. andThen (digit b) (λ z. some (v * base + z))))
+        → andThen o (λ y. digitsRead base digit (x * base + y) (a ++ (b ∷ []))) ≡ andThen (andThen o (λ y. digitsRead base digit (x * base + y) a)) (λ v. andThen (digit b) (λ z. some (v * base + z)))
+    go none ih = refl
+    go (some y) ih = ih y
 
-states-step : (good : Bool) (n v : ℕ) (bl s : Bool) → (bl ≡ true → s ≡ true → ⊥) → (o : Option (List ℕ)) (all : Option ℕ)
-    → plus good n (cond bl o (cond s (andThen o (before v)) none)) ≡ all → plus (good && (s || bl)) (n + cond s 1 0) o ≡ all
-unfolding plus
-states-step good n v true true ne o all h = absurd (ne refl refl)
-states-step good n v false true ne none all h = h
-states-step true n v false true ne (some states) all h = ap some (omega arith) ∙ h
-states-step false n v false true ne (some states) all h = h
-states-step good n v true false ne none all h = h
-states-step true n v true false ne (some states) all h = ap some (omega arith) ∙ h
-states-step false n v true false ne (some states) all h = h
-states-step good n v false false ne none all h = h
-states-step true n v false false ne (some states) all h = h
-states-step false n v false false ne (some states) all h = h
+pub record Leads (bytes : List ℕ) (x i : ℕ) : Type 0 where
+  pub inside : i ≤ length bytes
+  pub few : i ≤ 7
+  pub small : x < 10 ^ i
+  pub reads : digitsRead 10 decimalValue 0 (take i bytes) ≡ some x
 
-pub states-start : (bytes : List ℕ) → counted true 0 bytes 0 ≡ countOf (statesIn bytes)
-unfolding counted plus
-states-start bytes = go (statesIn bytes)
-  where
-    go : (o : Option (List ℕ)) → plus true 0 o ≡ countOf o
-    go none = refl
-    go (some states) = ap some (zero-add (length states))
+pub leads-start : (bytes : List ℕ) → Leads bytes 0 0
+unfolding digitsRead
+leads-start bytes = record { inside = omega arith; few = omega arith; small = omega arith; reads = refl }
 
-pub states-again : (bytes : List ℕ) (i n k : ℕ) (good bl : Bool) (all : Option ℕ) → i < length bytes → bl ≡ isBlank (getD bytes i 0)
-    → k ≡ cond (eqb (getD bytes i 0) 48 || eqb (getD bytes i 0) 49) 1 0 → counted good n bytes i ≡ all
-    → counted (good && (eqb (getD bytes i 0) 48 || eqb (getD bytes i 0) 49 || bl)) (n + k) bytes (i + 1) ≡ all
-unfolding counted statesIn
-states-again bytes i n k good bl all l e f h =
-    let b = getD bytes i 0 in
-    rw (e, f, add-one)
-    (states-step good n (b - 48) (isBlank b) (eqb b 48 || eqb b 49) (apart b) (statesIn (drop (suc i) bytes)) all (rw (drop-cons bytes i 0 l) at h))
+module _ (bytes : List ℕ) (x i : ℕ) (r : Leads bytes x i) where
+  leads-small : x < 10 ^ 7
+  leads-small = lt-of-lt-of-le (r .small) (pow-le-pow-right (omega arith) (r .few))
 
-pub states-end : (bytes : List ℕ) (i n : ℕ) (good : Bool) (all : Option ℕ) → length bytes ≤ i → good ≡ true → counted good n bytes i ≡ all → some n ≡ all
-unfolding counted plus statesIn
-states-end bytes i n good all l e h = ap some (sym (add-zero n)) ∙ (rw (e, drop-of-length-le bytes l) at h)
+  module _ (both : (ltb i 7 && ltb i (length bytes)) ≡ true) where
+    here : (i < 7) × (i < length bytes)
+    here = let p = and-iff (ltb i 7) (ltb i (length bytes)) .0 both in (ltb-true i 7 (p .0), ltb-true i (length bytes) (p .1))
 
-pub states-wrong : (bytes : List ℕ) (i n : ℕ) (good : Bool) (all : Option ℕ) → length bytes ≤ i → good ≡ false → counted good n bytes i ≡ all → none ≡ all
-unfolding counted plus statesIn
-states-wrong bytes i n good all l e h = rw (e, drop-of-length-le bytes l) at h
+    pub leads-there : i < length bytes
+    leads-there = here .1
+
+    pub leads-falls : 7 - (i + 1) < 7 - i
+    leads-falls = omega (arith, here .0)
+
+    pub leads-room : x * 10 < 2 ^ 32
+    leads-room = omega (arith, leads-small)
+
+    module _ (y : ℕ) (e : y ≡ valueOr 16 (decimalValue (getD bytes i 0))) where
+      pub leads-sum : (y ≡ 16 → ⊥) → x * 10 + y < 2 ^ 32
+      leads-sum h = let less : y < 10 = rw e (decimal-digit (getD bytes i 0) .below (λ w. h (e ∙ w))) in omega (arith, leads-small)
+
+      pub leads-on : (y ≡ 16 → ⊥) → Leads bytes (x * 10 + y) (i + 1)
+      leads-on h =
+          let d = decimal-digit (getD bytes i 0) in
+          let ne : valueOr 16 (decimalValue (getD bytes i 0)) ≡ 16 → ⊥ = λ z. h (e ∙ z) in
+          let is : decimalValue (getD bytes i 0) ≡ some y = d .some-there ne ∙ ap some (sym e) in
+          let less : y < 10 = rw e (d .below ne) in
+          record {
+            inside = omega (arith, here .1);
+            few = omega (arith, here .0);
+            small = rw (add-one i, pow-suc 10 i) (digits-lt (r .small) less);
+            reads = rw (add-one i, take-suc bytes i 0 (here .1), digits-snoc 10 decimalValue (take i bytes) 0 (getD bytes i 0), r .reads, is);
+          }
+
+      pub leads-stop : y ≡ 16 → DigitsStand bytes (record { value = x; length = i })
+      leads-stop h =
+          record { inside = r .inside; few = r .few; reads = r .reads; stops = λ l m. decimal-digit (getD bytes i 0) .none-there (sym e ∙ h) }
+
+  pub leads-end : (ltb i 7 && ltb i (length bytes)) ≡ false → DigitsStand bytes (record { value = x; length = i })
+  leads-end n =
+      record {
+        inside = r .inside;
+        few = r .few;
+        reads = r .reads;
+        stops = λ l m. absurd (true≢false (sym (rw (lt-ltb i 7 m, lt-ltb i (length bytes) l)) ∙ n));
+      }
 
 -- at most one state a byte
 pub states-few : (bytes : List ℕ) → length (orEmpty (statesIn bytes)) ≤ length bytes

@@ -2,25 +2,31 @@
 -- A field is judged without a list of its states: they are read off its bytes.
 use Prim.Native.Nat.{ℕ, suc, _+_, _-_, _≤_, _<_}
 use mathlib.Core.Path.{_≡_}
-use mathlib.Core.Bool.{cond}
+use mathlib.Core.Bool.{false, cond}
 use mathlib.Core.List.{List, [], _∷_}
 use mathlib.Core.Option.{Option}
 use mathlib.Core.Option.Option.{none, some}
 use lib.Dec.{eqb}
-use lib.ListN.{length, take, drop}
-use Rattle.jedec.specs.Characters.{star}
-use Rattle.jedec.specs.Cut.{pieces, Cut, fieldsFrom, Tail}
+use lib.ListN.{length, getD, take, drop}
+use Rattle.jedec.specs.Characters.{star, decimalValue, digitsRead}
+use Rattle.jedec.specs.Cut.{pieces, Cut, fieldsFrom, holdsMark, Tail}
 use Rattle.jedec.specs.Cut.Tail.{given, wrong}
-use Rattle.jedec.specs.Judge.{Judged, statesIn}
+use Rattle.jedec.specs.Judge.{Judged, statesIn, listIn, judge}
 use Rattle.jedec.specs.Judge.Judged.{count, start, list, sum, skipped, bad}
 use Rattle.jedec_fields.specs.declared.Digits.{Digits}
 use Rattle.jedec_fields.specs.declared.Digits.the-variants as digits
+use Rattle.jedec_fields.specs.declared.LeadingDigits.{LeadingDigits}
 use Rattle.jedec_fields.specs.declared.Counted.{Counted}
 use Rattle.jedec_fields.specs.declared.Counted.the-variants as counted
 use Rattle.jedec_fields.specs.declared.FieldSays.{FieldSays}
 use Rattle.jedec_fields.specs.declared.FieldSays.the-variants as says
 use Rattle.jedec_fields.specs.declared.Next.{Next}
 use Rattle.jedec_fields.specs.declared.Next.the-variants as next
+use Rattle.jedec_fields.specs.declared.StatesRun.{StatesRun}
+use Rattle.jedec_fields.specs.declared.Listed.{Listed}
+use Rattle.jedec_fields.specs.declared.Listed.the-variants as listed
+use Rattle.jedec_fields.specs.declared.Judged.{Judged as Judgement}
+use Rattle.jedec_fields.specs.declared.Judged.the-variants as judgement
 use Rattle.jedec_fields.specs.declared.TailSays.{TailSays}
 use Rattle.jedec_fields.specs.declared.TailSays.the-variants as tail
 
@@ -32,6 +38,13 @@ valueOr other (some x) = x
 abbrev pub numberOf : Digits → Option ℕ
 numberOf (digits.Number x) = some x
 numberOf digits.Wrong = none
+
+-- the first bytes that are digits write a number, and are at most seven; fewer only before a byte that is no digit
+pub record DigitsStand (bytes : List ℕ) (r : LeadingDigits) : Type 0 where
+  pub inside : r .length ≤ length bytes
+  pub few : r .length ≤ 7
+  pub reads : digitsRead 10 decimalValue 0 (take (r .length) bytes) ≡ some (r .value)
+  pub stops : r .length < length bytes → r .length < 7 → decimalValue (getD bytes (r .length) 0) ≡ none
 
 -- how many states there are, if there are any; the states, or none
 abbrev pub countOf : Option (List ℕ) → Option ℕ
@@ -48,6 +61,13 @@ orEmpty (some states) = states
 
 unfoldable pub statesOf : List ℕ → List ℕ
 statesOf bytes = orEmpty (statesIn bytes)
+
+-- the first bytes that are 0, 1 and blanks write so many states, and are all of the bytes unless these write none
+pub record RunStands (bytes : List ℕ) (r : StatesRun) : Type 0 where
+  pub inside : r .length ≤ length bytes
+  pub few : r .count ≤ r .length
+  pub writes : countOf (statesIn (take (r .length) bytes)) ≡ some (r .count)
+  pub stops : r .length < length bytes → statesIn bytes ≡ none
 
 -- what an answer about a field says, with what follows the field's first letter
 abbrev pub judgedAfter : (after : List ℕ) → FieldSays → Judged
@@ -106,6 +126,32 @@ Inside text at next.Early = Unit {0}
 pub record Stands (text : List ℕ) (at : ℕ) (r : Next) : Type 0 where
   pub cut : cutOf text r ≡ fieldsAt at (drop at text)
   pub inside : Inside text at r
+
+-- a good L field, by what follows the L
+pub record ListAt (after : List ℕ) (first skip number long : ℕ) : Type 0 where
+  pub inside : long < length after
+  pub until : untilStar after ≡ long
+  pub unmarked : holdsMark (take long after) ≡ false
+  pub says : Says (take long after) (listIn (take long after)) (says.List first skip number)
+
+abbrev pub ListStands : (after : List ℕ) → Listed → Type 0
+ListStands after (listed.Field first skip number long) = ListAt after first skip number long
+ListStands after listed.Other = Unit {0}
+
+-- what stands next, and what a field says
+abbrev pub nextOf : Judgement → Next
+nextOf (judgement.Field from to fs) = next.Field from to
+nextOf (judgement.End etx) = next.End etx
+nextOf judgement.Early = next.Early
+
+abbrev pub SaysThere : (text : List ℕ) → Judgement → Type 0
+SaysThere text (judgement.Field from to fs) = Says (drop 1 (take (to - from) (drop from text))) (judge (take (to - from) (drop from text))) fs
+SaysThere text (judgement.End etx) = Unit {0}
+SaysThere text judgement.Early = Unit {0}
+
+pub record JudgedStands (text : List ℕ) (at : ℕ) (r : Judgement) : Type 0 where
+  pub stands : Stands text at (nextOf r)
+  pub judged : SaysThere text r
 
 abbrev pub tailOf : TailSays → Tail
 tailOf (tail.Given x) = given x

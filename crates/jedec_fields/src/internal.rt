@@ -5,14 +5,19 @@ ghost use Prim.Native.Nat.{_+_, _≤_};
 ghost use lib.ListN.{length, drop};
 ghost use Rattle.jedec.specs.Cut.{blanksBefore, tailFrom};
 ghost use Rattle.jedec.specs.Judge.{judge};
-ghost use Rattle.jedec_fields.specs.Fields.{untilStar, Says, Stands, TailStands};
+ghost use Rattle.jedec_fields.specs.Fields.{untilStar, Says, Stands, ListStands, JudgedStands, TailStands};
 use super::FieldSays;
+use super::Judged;
+use super::Listed;
 use super::Next;
 use super::TailSays;
 use super::by_letters;
 use super::hex_value;
 use super::holds_mark;
+use super::leading_digits;
+use super::states_run;
 use jedec::is_blank;
+use jedec_runs::internal::blank_at;
 
 // The offset of the next `*` from an offset on, or the length.
 pub fn next_star(text: &[u8], at: usize) -> usize
@@ -71,6 +76,77 @@ pub fn judge_field(field: &[u8]) -> FieldSays
         return FieldSays::Bad;
     }
     by_letters(field)
+}
+
+// A good L field, found and judged at once by what follows the L.
+fn listed(bytes: &[u8]) -> Listed
+    ensures { λ r. ⌜ ListStands (now (bytes .entry)) r ⌝ }
+{
+    let digits = leading_digits(bytes);
+    if digits.length == 0 {
+        return Listed::Other;
+    }
+    if blank_at(bytes, digits.length) == 0 {
+        return Listed::Other;
+    }
+    let skip = digits.length + 1;
+    let run = states_run(&bytes[skip..]);
+    let length = skip + run.length;
+    if length == bytes.len() {
+        return Listed::Other;
+    }
+    if bytes[length] != 42 {
+        return Listed::Other;
+    }
+    if run.count == 0 {
+        return Listed::Other;
+    }
+    Listed::Field {
+        first: digits.value,
+        skip,
+        count: run.count,
+        length,
+    }
+}
+
+// What stands next from an offset on, judged. Most fields of a text are good L fields, and each byte of these is looked at once.
+pub fn next_judged(text: &[u8], at: usize) -> Judged
+    requires { ⌜ at ≤ length (now text) ⌝ }
+    ensures { λ r. ⌜ JudgedStands (now (text .entry)) at r ⌝ }
+{
+    let first = skip_blanks(text, at);
+    if first < text.len() {
+        if text[first] == 76 {
+            let after = first + 1;
+            let list = listed(&text[after..]);
+            if let Listed::Field {
+                first: fuse,
+                skip,
+                count,
+                length,
+            } = list {
+                let star = after + length;
+                return Judged::Field {
+                    start: first,
+                    star,
+                    says: FieldSays::List {
+                        first: fuse,
+                        skip,
+                        count,
+                    },
+                };
+            }
+        }
+    }
+    let next = next_field(text, at);
+    match next {
+        Next::Early => Judged::Early,
+        Next::End(etx) => Judged::End(etx),
+        Next::Field { start, star } => {
+            let says = judge_field(&text[start..star]);
+            Judged::Field { start, star, says }
+        }
+    }
 }
 
 // After the four digits only blanks may stand.

@@ -9,8 +9,10 @@ ghost use Rattle.jedec.specs.Characters.{isMark, decimalValue, hexValue, number
 ghost use Rattle.jedec.specs.Cut.{holdsMark};
 ghost use Rattle.jedec.specs.Judge.Judged.{sum};
 ghost use Rattle.jedec.specs.Judge.{orBad, unbroken, statesIn, startIn, listIn, afterQ, byLetters};
-ghost use Rattle.jedec_fields.specs.Fields.{valueOr, numberOf, countOf, countIn, Says};
+ghost use Rattle.jedec_fields.specs.Fields.{valueOr, numberOf, DigitsStand, countOf, countIn, RunStands, Says};
 use jedec::is_blank;
+use jedec_runs::internal::blank_at;
+use jedec_runs::internal::states_at;
 
 pub mod internal;
 
@@ -20,10 +22,22 @@ pub enum Digits {
     Wrong,
 }
 
+// Decimal digits from the first byte on, and the number that they write.
+pub struct LeadingDigits {
+    pub value: u32,
+    pub length: usize,
+}
+
 // How many states some bytes write, or that they write none.
 pub enum Counted {
     States(usize),
     Wrong,
+}
+
+// Bytes from the first on that are 0, 1 and blanks, and how many states they write.
+pub struct StatesRun {
+    pub length: usize,
+    pub count: usize,
 }
 
 // What a field says. Of an L field: its first fuse, how many bytes after the L stand before the states, and how many states there are.
@@ -45,6 +59,29 @@ pub enum Next {
     Field { start: usize, star: usize },
     End(usize),
     Early,
+}
+
+// What stands next in a text, with what a field says.
+pub enum Judged {
+    Field {
+        start: usize,
+        star: usize,
+        says: FieldSays,
+    },
+    End(usize),
+    Early,
+}
+
+// An L field by what follows the L: its first fuse, how many bytes stand before the states, how many states there are, and how many bytes
+// stand before its `*`.
+pub enum Listed {
+    Field {
+        first: u32,
+        skip: usize,
+        count: usize,
+        length: usize,
+    },
+    Other,
 }
 
 // What follows ETX: a transmission sum, or the offset of the first wrong byte.
@@ -100,27 +137,41 @@ pub fn holds_mark(bytes: &[u8]) -> bool
     found
 }
 
-// The number that 1 to 7 decimal digits write.
-fn number_in(bytes: &[u8]) -> Digits
-    ensures { λ r. ⌜ numberOf r ≡ numberIn (now (bytes .entry)) ⌝ }
+// The first bytes that are decimal digits, at most seven, and the number that they write.
+pub fn leading_digits(bytes: &[u8]) -> LeadingDigits
+    ensures { λ r. ⌜ DigitsStand (now (bytes .entry)) r ⌝ }
 {
-    if bytes.len() == 0 {
-        return Digits::Wrong;
-    }
-    if 7 < bytes.len() {
-        return Digits::Wrong;
-    }
     let mut x: u32 = 0;
     let mut i: usize = 0;
-    while i < bytes.len() {
+    while (i < 7) & (i < bytes.len()) {
         let y = decimal_value(bytes[i]);
         if y == 16 {
-            return Digits::Wrong;
+            return LeadingDigits {
+                value: x,
+                length: i,
+            };
         }
         x = x * 10 + y;
         i += 1;
     }
-    Digits::Number(x)
+    LeadingDigits {
+        value: x,
+        length: i,
+    }
+}
+
+// The number that 1 to 7 decimal digits write.
+fn number_in(bytes: &[u8]) -> Digits
+    ensures { λ r. ⌜ numberOf r ≡ numberIn (now (bytes .entry)) ⌝ }
+{
+    let digits = leading_digits(bytes);
+    if digits.length == 0 {
+        return Digits::Wrong;
+    }
+    if digits.length != bytes.len() {
+        return Digits::Wrong;
+    }
+    Digits::Number(digits.value)
 }
 
 // The number that four hex digits write.
@@ -157,32 +208,37 @@ fn unbroken(bytes: &[u8]) -> usize
     i
 }
 
-// 1 for what holds.
-fn one_if(t: bool) -> usize
-    ensures { λ r. ⌜ (r ≡ cond t 1 0) × (r ≤ 1) ⌝ }
+// How many of the first bytes are 0, 1 and blanks, and how many states they write.
+pub fn states_run(bytes: &[u8]) -> StatesRun
+    ensures { λ r. ⌜ RunStands (now (bytes .entry)) r ⌝ }
 {
-    if t {
-        return 1;
+    let mut n: usize = 0;
+    let mut i: usize = 0;
+    while i < bytes.len() {
+        let count = states_at(bytes, i);
+        let taken = count + blank_at(bytes, i + count);
+        if taken == 0 {
+            return StatesRun {
+                length: i,
+                count: n,
+            };
+        }
+        n += count;
+        i += taken;
     }
-    0
+    StatesRun {
+        length: i,
+        count: n,
+    }
 }
 
 // How many states some bytes write, if they hold nothing but 0, 1 and blanks.
 fn states_in(bytes: &[u8]) -> Counted
     ensures { λ r. ⌜ countIn r ≡ countOf (statesIn (now (bytes .entry))) ⌝ }
 {
-    let mut good = true;
-    let mut n: usize = 0;
-    let mut i: usize = 0;
-    while i < bytes.len() {
-        let b = bytes[i];
-        let state = (b == 48) | (b == 49);
-        n += one_if(state);
-        good = good & (state | is_blank(b));
-        i += 1;
-    }
-    if good {
-        return Counted::States(n);
+    let run = states_run(bytes);
+    if run.length == bytes.len() {
+        return Counted::States(run.count);
     }
     Counted::Wrong
 }

@@ -1,27 +1,31 @@
--- Laws of putting states into an image a byte at a time:
---   states-blank, states-solid   the first byte of some that write states
---   pending                      an image whose byte has new low bits that are not stored yet; put-next, put-stored: one state more
-use mathlib.Core.Path.{_≡_, refl, sym, _∙_, ap}
+-- Laws of putting states into an image, up to eight at a time:
+--   rest-written, some-taken     the states of bytes of which some are taken
+--   pending                      an image whose byte has new low bits that are not stored yet
+--   put-few, put-over            up to eight states more, which fill the byte or not
+use mathlib.Core.Path.{_≡_, refl, sym, _∙_, ap, ap₂, subst}
 use mathlib.Core.Bool.{Bool, true, false, cond, _||_}
-use mathlib.Core.List.{List, [], _∷_}
+use mathlib.Core.List.{List, [], _∷_, _++_, append-assoc}
 use mathlib.Core.Option.{Option}
 use mathlib.Core.Option.Option.{none, some}
 use Prim.Native.Nat.{ℕ, zero, suc, _+_, _*_, _-_, _/_, _%_, _^_, _≤_, _<_}
 use native.Mathlib.Omega.{arith}
-use native.Mathlib.Nat.{add-mul, mul-assoc, mul-comm, pow-suc, add-comm, add-zero, div-one, mul-one, div-eq-of-lt, zero-add}
+use native.Mathlib.Nat.{add-mul, mul-assoc, mul-comm, pow-suc, add-comm, add-zero, div-one, mul-one, zero-mul, div-eq-of-lt, zero-add, mod-lt}
 use native.Mathlib.Numerals.{add-one}
 use lib.Arith.{digits-div, digits-mod, digits-lt}
 use lib.Dec.{eqb}
-use lib.ListN.{length, getD, set}
-use lib.Pow.{split, high, low, shr-shr}
-use lib.Seq.{set-getD, set-set, getD-set-same}
+use lib.ListN.{length, getD, set, replicate, take, drop, length-set, take-append-drop, replicate-append-replicate}
+use lib.Pow.{pow-pos, pow-add, split, high, low, shr-shr, shr-lt}
+use lib.Seq.{drop-drop, set-getD, set-set, getD-set-same}
 use borrow.Author.Tests.{eqb-true}
 use Rattle.part.proofs.Facts.{either}
+use Rattle.cells.specs.Cells.{cut, total}
+use Rattle.cells.proofs.Laws.{cut-append, cut-low, total-replicate}
 use Rattle.image.specs.Bits.{putBit, withBit}
 use Rattle.jedec.specs.Characters.{isBlank, andThen}
 use Rattle.jedec.specs.Judge.{before, statesIn}
+use Rattle.jedec_runs.proofs.Words.{states-append, states-none}
 use Rattle.jedec_fields.specs.Fields.{orEmpty, statesOf}
-use Rattle.jedec_image.specs.States.{withState}
+use Rattle.jedec_image.specs.States.{withState, withStates}
 
 -- bytes that write states, all of them
 abbrev pub Written : List ℕ → Type 0
@@ -99,6 +103,139 @@ module _ (image : List ℕ) (index bit l s : ℕ) (inside : index < length image
 pub put-stored : (image : List ℕ) (index l : ℕ) → getD image index 0 < 2 ^ 8 → pending image index 8 l ≡ set image index l
 unfolding pending
 put-stored image index l h = ap (set image index) (rw (div-eq-of-lt h) (zero-add l))
+
+-- so many states more
+more-low : (low x bit : ℕ) → low + x % 2 ^ 1 * 2 ^ bit + x / 2 ^ 1 * 2 ^ (bit + 1) ≡ low + x * 2 ^ bit
+more-low low x bit =
+    let p : 2 ^ (bit + 1) ≡ 2 ^ bit * 2 = ap (λ (k : ℕ). 2 ^ k) (add-one bit) ∙ pow-suc 2 bit in
+    let a : x / 2 ^ 1 * (2 ^ bit * 2) ≡ x / 2 ^ 1 * 2 * 2 ^ bit = ap (λ (y : ℕ). x / 2 ^ 1 * y) (mul-comm (2 ^ bit) 2) ∙ sym (mul-assoc (x / 2 ^ 1) 2 (2 ^ bit)) in
+    let d : (x / 2 ^ 1 * 2 + x % 2 ^ 1) * 2 ^ bit ≡ x / 2 ^ 1 * 2 * 2 ^ bit + x % 2 ^ 1 * 2 ^ bit = add-mul (x / 2 ^ 1 * 2) (x % 2 ^ 1) (2 ^ bit) in
+    let w : x / 2 ^ 1 * 2 + x % 2 ^ 1 ≡ x = split x 1 in
+    rw (p, a) (omega (arith, (rw w at d)))
+
+one-less : (x : ℕ) → x < 2 ^ 0 → x ≡ 0
+one-less x h = omega arith
+
+same-put : (image : List ℕ) (index bit bit′ l l′ at at′ : ℕ) (rest : List ℕ) → bit ≡ bit′ → l ≡ l′ → at ≡ at′
+    → withStates (pending image index bit l) at rest ≡ withStates (pending image index bit′ l′) at′ rest
+same-put image index bit bit′ l l′ at at′ rest e f g = rw (e, f, g)
+
+pub put-few : (k : ℕ) (image : List ℕ) (index bit l x : ℕ) (rest : List ℕ) → bit + k ≤ 8 → index * 8 + bit + k ≤ length image * 8 → l < 2 ^ bit → x < 2 ^ k
+    → withStates (pending image index bit l) (index * 8 + bit) (cut (replicate k 1) x ++ rest) ≡ withStates (pending image index (bit + k) (l + x * 2 ^ bit)) (index * 8 + bit + k) rest
+unfolding withStates cut
+put-few zero image index bit l x rest h fits under small =
+    let z : l ≡ l + x * 2 ^ bit = sym (rw (one-less x small, zero-mul (2 ^ bit)) (add-zero l)) in
+    same-put image index bit (bit + 0) l (l + x * 2 ^ bit) (index * 8 + bit) (index * 8 + bit + 0) rest (sym (add-zero bit)) z (sym (add-zero (index * 8 + bit)))
+put-few (suc k) image index bit l x rest h fits under small =
+    let inside : index < length image = omega arith in
+    let e : bit < 8 = omega arith in
+    let s : x % 2 ^ 1 < 2 = omega arith in
+    let half : x / 2 ^ 1 < 2 ^ k = shr-lt k 1 (rw (add-one k) small) in
+    let next : bit + 1 + k ≤ 8 = omega arith in
+    let room : index * 8 + (bit + 1) + k ≤ length image * 8 = omega arith in
+    ap (λ (p : List ℕ). withStates p (index * 8 + bit + 1) (cut (replicate k 1) (x / 2 ^ 1) ++ rest)) (put-next image index bit l (x % 2 ^ 1) inside e under)
+    ∙ ap (λ (n : ℕ). withStates (pending image index (bit + 1) (l + x % 2 ^ 1 * 2 ^ bit)) n (cut (replicate k 1) (x / 2 ^ 1) ++ rest)) (omega arith)
+    ∙ put-few k image index (bit + 1) (l + x % 2 ^ 1 * 2 ^ bit) (x / 2 ^ 1) rest next room (under-next image index bit l (x % 2 ^ 1) inside e under s) half
+    ∙ same-put image index (bit + 1 + k) (bit + suc k) _ (l + x * 2 ^ bit) (index * 8 + (bit + 1) + k) (index * 8 + bit + suc k) rest (omega arith) (more-low l x bit) (omega arith)
+
+pub group-under : (l x bit k : ℕ) → l < 2 ^ bit → x < 2 ^ k → l + x * 2 ^ bit < 2 ^ (bit + k)
+group-under l x bit k h g = rw (add-comm l (x * 2 ^ bit), pow-add 2 bit k, mul-comm (2 ^ bit) (2 ^ k)) (digits-lt g h)
+
+-- .. of which some fill the byte, and the others stand in the next
+module _ (image : List ℕ) (index bit l x k : ℕ) (rest : List ℕ) (eight : bit < 8) (few : k ≤ 8) (full : 8 ≤ bit + k) (fits : index * 8 + bit + k ≤ length image * 8) (under : l < 2 ^ bit) (small : x < 2 ^ k) (octet : getD image index 0 < 2 ^ 8) where
+  into : ℕ
+  into = 8 - bit
+
+  over : ℕ
+  over = bit + k - 8
+
+  stored : ℕ
+  stored = l + x % 2 ^ into * 2 ^ bit
+
+  in-byte : bit + into ≡ 8
+  unfolding into
+  in-byte = omega arith
+
+  stored-small : stored < 2 ^ 8
+  unfolding stored
+  stored-small = subst (λ (n : ℕ). l + x % 2 ^ into * 2 ^ bit < 2 ^ n) in-byte (group-under l (x % 2 ^ into) bit into under (mod-lt x (pow-pos into)))
+
+  in-two : l + x * 2 ^ bit ≡ x / 2 ^ into * 2 ^ 8 + stored
+  unfolding stored
+  in-two =
+      let p : 2 ^ 8 ≡ 2 ^ into * 2 ^ bit = ap (λ (n : ℕ). 2 ^ n) (sym in-byte) ∙ pow-add 2 bit into ∙ mul-comm (2 ^ bit) (2 ^ into) in
+      let a : x / 2 ^ into * (2 ^ into * 2 ^ bit) ≡ x / 2 ^ into * 2 ^ into * 2 ^ bit = sym (mul-assoc (x / 2 ^ into) (2 ^ into) (2 ^ bit)) in
+      let d : (x / 2 ^ into * 2 ^ into + x % 2 ^ into) * 2 ^ bit ≡ x / 2 ^ into * 2 ^ into * 2 ^ bit + x % 2 ^ into * 2 ^ bit = add-mul (x / 2 ^ into * 2 ^ into) (x % 2 ^ into) (2 ^ bit) in
+      let w : x * 2 ^ bit ≡ x / 2 ^ into * 2 ^ into * 2 ^ bit + x % 2 ^ into * 2 ^ bit = ap (λ (y : ℕ). y * 2 ^ bit) (sym (split x into)) ∙ d in
+      let q : x / 2 ^ into * 2 ^ 8 ≡ x / 2 ^ into * 2 ^ into * 2 ^ bit = ap (λ (y : ℕ). x / 2 ^ into * y) p ∙ a in
+      omega arith
+
+  stored-is : (l + x * 2 ^ bit) % 2 ^ 8 ≡ stored
+  stored-is = ap (λ (y : ℕ). y % 2 ^ 8) in-two ∙ low (x / 2 ^ into) 8 stored-small
+
+  over-is : (l + x * 2 ^ bit) / 2 ^ 8 ≡ x / 2 ^ into
+  over-is = ap (λ (y : ℕ). y / 2 ^ 8) in-two ∙ high (x / 2 ^ into) 8 stored-small
+
+  parts : cut (replicate k 1) x ≡ cut (replicate into 1) (x % 2 ^ into) ++ cut (replicate over 1) (x / 2 ^ into)
+  unfolding into over
+  parts =
+      let whole : k ≡ into + over = omega arith in
+      let bits : total (replicate into 1) ≡ into = total-replicate into 1 ∙ mul-one into in
+      ap (λ (n : ℕ). cut (replicate n 1) x) whole
+      ∙ ap (λ (ws : List ℕ). cut ws x) (sym (replicate-append-replicate into over 1))
+      ∙ cut-append (replicate into 1) (replicate over 1) x
+      ∙ ap (λ (n : ℕ). cut (replicate into 1) x ++ cut (replicate over 1) (x / 2 ^ n)) bits
+      ∙ ap (λ (ws : List ℕ). ws ++ cut (replicate over 1) (x / 2 ^ into)) (sym (cut-low (replicate into 1) x 0) ∙ ap (λ (n : ℕ). cut (replicate into 1) (x % 2 ^ n)) (zero-add (total (replicate into 1)) ∙ bits))
+
+  pub put-over : withStates (pending image index bit l) (index * 8 + bit) (cut (replicate k 1) x ++ rest)
+      ≡ withStates (pending (set image index ((l + x * 2 ^ bit) % 2 ^ 8)) (index + 1) (bit + k - 8) ((l + x * 2 ^ bit) / 2 ^ 8)) ((index + 1) * 8 + (bit + k - 8)) rest
+  unfolding stored into over
+  put-over =
+      let image′ = set image index stored in
+      let second = cut (replicate over 1) (x / 2 ^ into) in
+      let upto : bit + into ≤ 8 = omega arith in
+      let room : index * 8 + bit + into ≤ length image * 8 = omega arith in
+      let room′ : (index + 1) * 8 + 0 + over ≤ length image′ * 8 = rw (length-set image index stored) (omega arith) in
+      let half : x / 2 ^ into < 2 ^ over = shr-lt over into (rw (← wide) small) in
+      ap (λ (ss : List ℕ). withStates (pending image index bit l) (index * 8 + bit) (ss ++ rest)) parts
+      ∙ ap (withStates (pending image index bit l) (index * 8 + bit)) (append-assoc (cut (replicate into 1) (x % 2 ^ into)) second rest)
+      ∙ put-few into image index bit l (x % 2 ^ into) (second ++ rest) upto room under (mod-lt x (pow-pos into))
+      ∙ ap₂ (λ (p : List ℕ) (n : ℕ). withStates p n (second ++ rest))
+      (ap (λ (n : ℕ). pending image index n stored) in-byte ∙ put-stored image index stored octet ∙ sym (pending-none image′ (index + 1)))
+      next
+      ∙ put-few over image′ (index + 1) 0 0 (x / 2 ^ into) rest less room′ (omega arith) half
+      ∙ same-put image′ (index + 1) (0 + over) (bit + k - 8) (0 + x / 2 ^ into * 2 ^ 0) ((l + x * 2 ^ bit) / 2 ^ 8) ((index + 1) * 8 + 0 + over) ((index + 1) * 8 + (bit + k - 8)) rest
+      (zero-add over) (zero-add _ ∙ mul-one (x / 2 ^ into) ∙ sym over-is) (omega arith)
+      ∙ ap (λ (b : ℕ). withStates (pending (set image index b) (index + 1) (bit + k - 8) ((l + x * 2 ^ bit) / 2 ^ 8)) ((index + 1) * 8 + (bit + k - 8)) rest) (sym stored-is)
+    where
+      wide : k ≡ over + into
+      wide = omega arith
+
+      next : index * 8 + bit + into ≡ (index + 1) * 8 + 0
+      next = omega arith
+
+      less : 0 + over ≤ 8
+      less = omega arith
+
+-- the states of bytes of which some are taken
+pub rest-written : (bytes : List ℕ) (i k : ℕ) (states : List ℕ) → Written (drop i bytes) → statesIn (take k (drop i bytes)) ≡ some states
+    → (statesOf (drop i bytes) ≡ states ++ statesOf (drop (i + k) bytes)) × Written (drop (i + k) bytes)
+unfolding statesOf
+rest-written bytes i k states w e = rw (← drop-drop k i bytes) (go (statesIn (drop k (drop i bytes))) refl)
+  where
+    whole : take k (drop i bytes) ++ drop k (drop i bytes) ≡ drop i bytes
+    whole = take-append-drop k (drop i bytes)
+
+    go : (o : Option (List ℕ)) → statesIn (drop k (drop i bytes)) ≡ o
+        → (orEmpty (statesIn (drop i bytes)) ≡ states ++ orEmpty (statesIn (drop k (drop i bytes)))) × (statesIn (drop k (drop i bytes)) ≡ some (orEmpty (statesIn (drop k (drop i bytes)))))
+    go none f =
+        let bad : statesIn (drop i bytes) ≡ none = ap statesIn (sym whole) ∙ states-none (take k (drop i bytes)) (drop k (drop i bytes)) states e f in
+        let no : none ≡ some _ = sym bad ∙ w in
+        let z : _≡_ {A = ℕ} 0 1 = cc in
+        absurd (omega arith)
+    go (some more) f =
+        let all : statesIn (drop i bytes) ≡ some (states ++ more) = ap statesIn (sym whole) ∙ states-append (take k (drop i bytes)) (drop k (drop i bytes)) states e more f in
+        (rw (all, f), rw f)
 
 pub none-written : statesOf [] ≡ []
 unfolding statesOf statesIn

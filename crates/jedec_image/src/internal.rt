@@ -10,7 +10,9 @@ ghost use Rattle.jedec.specs.Rules.{stateGiven, imageWith};
 ghost use Rattle.jedec_fields.specs.Fields.{statesOf};
 ghost use Rattle.jedec_image.specs.States.{withStates};
 use cells::internal::low_bits;
-use jedec::is_blank;
+use jedec_runs::internal::bits_at;
+use jedec_runs::internal::blank_at;
+use jedec_runs::internal::states_at;
 
 // A byte of which the lowest bits have a state, and the others are 0.
 fn byte_of(state: u32, bits: u32) -> u8
@@ -48,20 +50,16 @@ pub fn put_states(bytes: &[u8], image: &mut [u8], fuse: usize)
     let mut low = low_bits(image[index] as u64, bit);
     let mut i: usize = 0;
     while i < bytes.len() {
-        let b = bytes[i];
-        i += 1;
-        if is_blank(b) {
-            continue;
+        let count = states_at(bytes, i);
+        low += bits_at(bytes, i, count) << bit;
+        bit += count as u32;
+        i += count + blank_at(bytes, i + count);
+        if 8 <= bit {
+            image[index] = low_bits(low, 8) as u8;
+            low = low >> 8;
+            index += 1;
+            bit -= 8;
         }
-        low += ((b - 48) as u64) << bit;
-        bit += 1;
-        if bit < 8 {
-            continue;
-        }
-        image[index] = low as u8;
-        index += 1;
-        bit = 0;
-        low = 0;
     }
     if 0 < bit {
         let above = image[index] as u64 >> bit;

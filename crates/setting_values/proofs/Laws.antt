@@ -17,10 +17,11 @@ use Rattle.part.specs.Outcome.Outcome.{accepted}
 use Rattle.part.specs.Device.{known, isLarge}
 use Rattle.part.specs.declared.Device.{Device}
 use Rattle.part.proofs.Conversions.{passed, result}
-use Rattle.settings.specs.Settings.{bitsOf, hasSetting}
+use Rattle.settings.specs.Settings.{hasSetting}
 use Rattle.settings.specs.declared.GlobalField.the-variants.{FoeMux, Usercode}
 use Rattle.settings.specs.declared.Setting.{Setting}
 use Rattle.settings.specs.declared.Setting.the-variants.{Global}
+use Rattle.setting_places.specs.Places.{bitsOf}
 use Rattle.values.specs.Values.{valueIn, bitsIn, bits2, named, smallFoeMuxes, largeFoeMuxes, goe}
 use Rattle.values.specs.Patterns.{patternIn}
 use Rattle.values.specs.declared.Value.{Value}

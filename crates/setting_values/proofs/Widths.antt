@@ -8,7 +8,7 @@ use borrow.Author.Tests.{eqb-true}
 use Rattle.part.specs.declared.Device.{Device}
 use Rattle.part.proofs.Tables.{below-all}
 use Rattle.settings.specs.Fields.{macrocellFields, macrocellIndex}
-use Rattle.settings.specs.Settings.{rows, globalBits, bitsOf, hasSetting}
+use Rattle.settings.specs.Settings.{hasSetting}
 use Rattle.settings.specs.Order.{macrocellFieldAt}
 use Rattle.settings.specs.declared.MacrocellField.{MacrocellField}
 use Rattle.settings.specs.declared.GlobalField.{GlobalField}
@@ -16,6 +16,7 @@ use Rattle.settings.specs.declared.GlobalField.the-variants.{FsrInv, FclkInv, F
 use Rattle.settings.specs.declared.Setting.{Setting}
 use Rattle.settings.specs.declared.Setting.the-variants.{Literal, WireAnd, Macrocell, Block, Global}
 use Rattle.settings.proofs.Numbers.{macrocell-at, has-macrocell}
+use Rattle.setting_places.specs.Places.{rows, globalBits, bitsOf}
 use Rattle.values.specs.Values.{bitsIn}
 use Rattle.setting_values.specs.Kinds.{macrocellKind, globalKind, kindOf}
 

@@ -9,9 +9,9 @@ use Rattle.part.specs.Outcome.{Outcome}
 use Rattle.part.specs.Outcome.Outcome.{accepted, refused}
 use Rattle.part.specs.Answer.{number, value}
 use Rattle.part.specs.declared.Device.{Device}
-use Rattle.settings.specs.Settings.{bitsOf}
 use Rattle.settings.specs.Operations.{ifSetting}
 use Rattle.settings.specs.declared.Setting.{Setting}
+use Rattle.setting_places.specs.Places.{bitsOf}
 use Rattle.values.specs.Patterns.{patternIn}
 use Rattle.values.specs.declared.Value.{Value}
 use Rattle.setting_values.specs.Kinds.{kindOf, valueOf}

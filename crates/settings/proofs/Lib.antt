@@ -2,7 +2,5 @@
 -- Assumes nothing.
 pub mod Order
 pub mod Numbers
-pub mod Places
-pub mod OnFuses
 pub mod Asked
 pub mod Laws

@@ -30,6 +30,11 @@ use Rattle.part.proofs.Tables.{allBelow, below-all, Each, each-below}
 use Rattle.settings.proofs.Order.{Within, position-below, at-position, at-within, position-at, earlier-below, below-earlier}
 use Rattle.settings.proofs.Order.Within.{nil, more}
 
+-- a known device has a block 0
+pub block-0 : (d : Device) → known d ≡ true → 0 < blocksOf d
+block-0 d k =
+    by-count (λ n. 0 < n) (omega arith) (omega arith) (omega arith) (omega arith) (omega arith) (omega arith) (blocksOf d) (known-count d k)
+
 -- a device has 2 or 4 FOE
 pub by-class : (d : Device) (Q : ℕ → Type 0) → Q 2 → Q 4 → Q (foes d)
 by-class d Q small large = go (isLarge d)

@@ -1,8 +1,6 @@
 -- What each answer of the code says: document 01's number and value for every refusal, and the result.
--- A bit that a setting does not have, and a fuse that no setting has, are no refusals: they are `none`.
+-- Assumes nothing.
 use Prim.Native.Nat.{ℕ}
-use mathlib.Core.Option.{Option}
-use mathlib.Core.Option.Option.{none, some}
 use Rattle.part.specs.Outcome.{Outcome}
 use Rattle.part.specs.Outcome.Outcome.{accepted, refused}
 use Rattle.part.specs.Answer.{number, value}
@@ -11,10 +9,6 @@ use Rattle.settings.specs.declared.SettingAnswer.{SettingAnswer}
 use Rattle.settings.specs.declared.SettingAnswer.the-variants as setting
 use Rattle.settings.specs.declared.SettingNumberAnswer.{SettingNumberAnswer}
 use Rattle.settings.specs.declared.SettingNumberAnswer.the-variants as settingNumber
-use Rattle.settings.specs.declared.BitAnswer.{BitAnswer}
-use Rattle.settings.specs.declared.BitAnswer.the-variants as bit
-use Rattle.settings.specs.declared.NamedAnswer.{NamedAnswer}
-use Rattle.settings.specs.declared.NamedAnswer.the-variants as named
 
 abbrev pub settingOutcome : SettingAnswer → Outcome Setting
 settingOutcome (setting.Setting s) = accepted s
@@ -23,13 +17,3 @@ settingOutcome (setting.Refused r) = refused (number r) (value r)
 abbrev pub settingNumberOutcome : SettingNumberAnswer → Outcome ℕ
 settingNumberOutcome (settingNumber.Number x) = accepted (x .0)
 settingNumberOutcome (settingNumber.Refused r) = refused (number r) (value r)
-
-abbrev pub bitOutcome : BitAnswer → Outcome (Option ℕ)
-bitOutcome (bit.Fuse f) = accepted (some (f .0))
-bitOutcome bit.NoSuchBit = accepted none
-bitOutcome (bit.Refused r) = refused (number r) (value r)
-
-abbrev pub namedOutcome : NamedAnswer → Outcome (Option (Setting × ℕ))
-namedOutcome (named.Bit s b) = accepted (some (s, b))
-namedOutcome named.Unnamed = accepted none
-namedOutcome (named.Refused r) = refused (number r) (value r)

@@ -3,7 +3,5 @@
 pub mod Fields
 pub mod Settings
 pub mod Order
-pub mod Back
 pub mod Answer
 pub mod Operations
-pub mod Cases

@@ -1,18 +1,14 @@
--- The operations on settings, with their refusals: 1 for an unknown device, 3 for a fuse at or over the count, 4 for a setting that
--- the device does not have.
+-- The operations on settings and their numbers, with their refusals: 1 for an unknown device, 4 for a setting that the device does
+-- not have.
 use Prim.Native.Nat.{ℕ}
 use mathlib.Core.Bool.{cond}
-use mathlib.Core.Option.{Option}
-use mathlib.Core.Option.Option.{none, some}
 use lib.Dec.{ltb}
 use Rattle.part.specs.Outcome.{Outcome}
 use Rattle.part.specs.Outcome.Outcome.{accepted, refused}
-use Rattle.part.specs.Device.{fuseCount}
 use Rattle.part.specs.Convert.{ifKnown}
 use Rattle.part.specs.declared.Device.{Device}
-use Rattle.settings.specs.Settings.{hasSetting, bitsOf, fuseOf}
+use Rattle.settings.specs.Settings.{hasSetting}
 use Rattle.settings.specs.Order.{countOf, numberOf, settingOf}
-use Rattle.settings.specs.Back.{settingAt}
 use Rattle.settings.specs.declared.Setting.{Setting}
 
 -- refusal 1, and 4 exactly where the device has no such setting
@@ -27,13 +23,3 @@ settingOfNumber d number = ifKnown d (cond (ltb number (countOf d)) (accepted (s
 
 unfoldable pub numberOfSetting : Device → Setting → Outcome ℕ
 numberOfSetting d s = ifSetting d s (accepted (numberOf d s))
-
-unfoldable pub bitsOfSetting : Device → Setting → Outcome ℕ
-bitsOfSetting d s = ifSetting d s (accepted (bitsOf s))
-
--- a bit at or over the setting's width has no fuse
-unfoldable pub fuseOfBit : Device → Setting → ℕ → Outcome (Option ℕ)
-fuseOfBit d s bit = ifSetting d s (accepted (cond (ltb bit (bitsOf s)) (some (fuseOf d s bit)) none))
-
-unfoldable pub settingAtFuse : Device → ℕ → Outcome (Option (Setting × ℕ))
-settingAtFuse d fuse = ifKnown d (cond (ltb fuse (fuseCount d)) (accepted (settingAt d fuse)) (refused 3 0))

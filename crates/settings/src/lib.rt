@@ -1,11 +1,10 @@
-// The named settings of a part: their groups and fields, their numbers, the fuses of each, and the setting at a fuse.
+// The named settings of a part: their groups and fields, which of them a device has, and their numbers.
 // The definitions that the contracts cite stand in specs/, the laws about them in proofs/Laws.antt.
 ghost use mathlib.Core.Path.{_≡_};
 ghost use Rattle.part.specs.Answer.{numberOutcome};
-ghost use Rattle.settings.specs.Answer.{settingOutcome, settingNumberOutcome, bitOutcome, namedOutcome};
-ghost use Rattle.settings.specs.Operations.{countOfSettings, settingOfNumber, numberOfSetting, bitsOfSetting, fuseOfBit, settingAtFuse};
+ghost use Rattle.settings.specs.Answer.{settingOutcome, settingNumberOutcome};
+ghost use Rattle.settings.specs.Operations.{countOfSettings, settingOfNumber, numberOfSetting};
 use part::Device;
-use part::FuseNumber;
 use part::NumberAnswer;
 use part::Refusal;
 
@@ -100,20 +99,6 @@ pub enum SettingNumberAnswer {
     Refused(Refusal),
 }
 
-// The fuse of a bit of a setting; `NoSuchBit` where the bit is at or over the setting's width.
-pub enum BitAnswer {
-    Fuse(FuseNumber),
-    NoSuchBit,
-    Refused(Refusal),
-}
-
-// The setting that a fuse belongs to, and which of its bits the fuse is.
-pub enum NamedAnswer {
-    Bit(Setting, u32),
-    Unnamed,
-    Refused(Refusal),
-}
-
 // How many settings the device has. Refused: 1.
 pub fn setting_count(d: Device) -> NumberAnswer
     ensures { λ r. ⌜ numberOutcome r ≡ countOfSettings d ⌝ }
@@ -148,59 +133,4 @@ pub fn number_of_setting(d: Device, s: Setting) -> SettingNumberAnswer
         return SettingNumberAnswer::Refused(Refusal::NoSuchSetting);
     }
     SettingNumberAnswer::Number(internal::number_of(d, s))
-}
-
-// How many bits a setting has. Refused: 1, 4.
-pub fn bits_of_setting(d: Device, s: Setting) -> NumberAnswer
-    ensures { λ r. ⌜ numberOutcome r ≡ bitsOfSetting d s ⌝ }
-{
-    if !part::is_known(d) {
-        return NumberAnswer::Refused(Refusal::UnknownDevice);
-    }
-    if !internal::has_setting(d, s) {
-        return NumberAnswer::Refused(Refusal::NoSuchSetting);
-    }
-    NumberAnswer::Number(internal::bits_of(d, s))
-}
-
-// The fuse of a bit of a setting, lowest bit first. Refused: 1, 4.
-pub fn fuse_of_bit(d: Device, s: Setting, bit: u32) -> BitAnswer
-    ensures { λ r. ⌜ bitOutcome r ≡ fuseOfBit d s bit ⌝ }
-{
-    if !part::is_known(d) {
-        return BitAnswer::Refused(Refusal::UnknownDevice);
-    }
-    if !internal::has_setting(d, s) {
-        return BitAnswer::Refused(Refusal::NoSuchSetting);
-    }
-    if internal::bits_of(d, s) <= bit {
-        return BitAnswer::NoSuchBit;
-    }
-    BitAnswer::Fuse(internal::fuse_of(d, s, bit))
-}
-
-// The setting and the bit at a fuse. Refused: 1, 3.
-pub fn setting_at_fuse(d: Device, fuse: FuseNumber) -> NamedAnswer
-    ensures { λ r. ⌜ namedOutcome r ≡ settingAtFuse d (fuse .0) ⌝ }
-{
-    if !part::is_known(d) {
-        return NamedAnswer::Refused(Refusal::UnknownDevice);
-    }
-    if part::internal::fuse_count(d) <= fuse.0 {
-        return NamedAnswer::Refused(Refusal::NoSuchFuse);
-    }
-    let place = part::internal::place_of_fuse(d, fuse);
-    let candidate = internal::candidate_at(d, place);
-    let s = candidate.setting;
-    if !internal::has_setting(d, s) {
-        return NamedAnswer::Unnamed;
-    }
-    if internal::bits_of(d, s) <= candidate.bit {
-        return NamedAnswer::Unnamed;
-    }
-    let found = internal::fuse_of(d, s, candidate.bit);
-    if found.0 != fuse.0 {
-        return NamedAnswer::Unnamed;
-    }
-    NamedAnswer::Bit(s, candidate.bit)
 }

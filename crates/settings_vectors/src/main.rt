@@ -1,12 +1,12 @@
-// Prints what `settings` and `setting_values` answer: document 01's cases, and digests over all settings and fuses.
+// Prints what `settings`, `setting_places` and `setting_values` answer: document 01's cases, and digests over all settings and fuses.
 // The file stdout beside src/ is what the independent program prints.
 ghost use Prim.Native.Nat.{_≤_};
 use part::Device;
 use part::NumberAnswer;
 use part::Refusal;
 use part::SizesAnswer;
+use setting_places::BitAnswer;
 use setting_values::ValueAnswer;
-use settings::BitAnswer;
 use settings::BlockField;
 use settings::GlobalField;
 use settings::MacrocellField;
@@ -327,11 +327,11 @@ fn number_of(digest: u64, d: Device, s: Setting) -> u64 {
 }
 
 fn width_of(digest: u64, d: Device, s: Setting) -> u64 {
-    vectors::taken_in(digest, number_word(settings::bits_of_setting(d, s)))
+    vectors::taken_in(digest, number_word(setting_places::bits_of_setting(d, s)))
 }
 
 fn fuse_of(digest: u64, d: Device, s: Setting, bit: u32) -> u64 {
-    vectors::taken_in(digest, bit_word(settings::fuse_of_bit(d, s, bit)))
+    vectors::taken_in(digest, bit_word(setting_places::fuse_of_bit(d, s, bit)))
 }
 
 // The fuse of each bit, and of the bit after the last.
@@ -404,7 +404,7 @@ fn values_of(digest: u64, d: Device, s: Setting, width: u32) -> u64 {
 // All that is known of a setting: what it is, its fuses, its values.
 fn of_setting(digest: u64, d: Device, s: Setting) -> u64 {
     let described = description(number_of(digest, d, s), s);
-    let width = accepted(settings::bits_of_setting(d, s));
+    let width = accepted(setting_places::bits_of_setting(d, s));
     let with_fuses = fuses_of(width_of(described, d, s), d, s, width);
     values_of(with_fuses, d, s, width)
 }
@@ -525,7 +525,7 @@ fn offers_of_number(digest: u64, d: Device, number: u32) -> u64 {
     let answer = settings::setting_of_number(SAMPLE, SettingNumber(number));
     match answer {
         SettingAnswer::Setting(s) => {
-            let width = accepted(settings::bits_of_setting(SAMPLE, s));
+            let width = accepted(setting_places::bits_of_setting(SAMPLE, s));
             offers_of_setting(digest, d, s, width)
         }
         SettingAnswer::Refused(_) => digest,
@@ -713,7 +713,10 @@ fn document_case(name: &[u8], s: Setting, bit: u32, fuse: u32) {
         b" number",
         setting_number_word(settings::number_of_setting(SMALLEST, s)),
     );
-    vectors::put(b" fuse", bit_word(settings::fuse_of_bit(SMALLEST, s, bit)));
+    vectors::put(
+        b" fuse",
+        bit_word(setting_places::fuse_of_bit(SMALLEST, s, bit)),
+    );
     vectors::put(b" back", at_fuse(SMALLEST, fuse));
     vectors::end_line();
 }

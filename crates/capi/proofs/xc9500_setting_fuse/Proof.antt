@@ -5,12 +5,14 @@ use Prim.Native.Nat.{ℕ}
 use Rattle.part.specs.Answer.{number, value}
 use Rattle.part.specs.declared.Device.{Device}
 use Rattle.part.specs.declared.Refusal.{Refusal}
-use Rattle.settings.specs.Answer.{settingOutcome, bitOutcome}
-use Rattle.settings.specs.Operations.{settingOfNumber, fuseOfBit}
+use Rattle.settings.specs.Answer.{settingOutcome}
+use Rattle.settings.specs.Operations.{settingOfNumber}
 use Rattle.settings.specs.declared.Setting.{Setting}
 use Rattle.settings.specs.declared.SettingAnswer.{SettingAnswer}
 use Rattle.settings.specs.declared.SettingAnswer.the-variants as setting
-use Rattle.settings.specs.declared.BitAnswer.{BitAnswer}
+use Rattle.setting_places.specs.Answer.{bitOutcome}
+use Rattle.setting_places.specs.Operations.{fuseOfBit}
+use Rattle.setting_places.specs.declared.BitAnswer.{BitAnswer}
 use Rattle.capi.specs.Packed.{packed, refusalWord, itself, orNone, through}
 use borrow.Author.Needs.{needs}
 use Rattle.capi.proofs.xc9500_setting_fuse.Statement.{statement}

@@ -6,41 +6,24 @@ use mathlib.Core.Option.{Option}
 use mathlib.Core.Option.Option.{none, some}
 use Prim.Native.Nat.{ℕ, _-_, _≤_}
 use native.Mathlib.Omega.{arith}
-use lib.ListN.{length, take, drop, length-drop}
-use lib.Seq.{length-take-le}
+use lib.ListN.{length, take, drop}
 use Rattle.jedec.specs.Characters.{numberIn}
-use Rattle.jedec.specs.Judge.{Judged, unbroken, statesIn, statesFrom, listIn}
-use Rattle.jedec_fields.specs.Fields.{numberOf, countOf, countIn, orEmpty, statesOf, Says}
+use Rattle.jedec.specs.Judge.{unbroken, statesIn, statesFrom, listIn}
+use Rattle.jedec_fields.specs.Fields.{numberOf, countOf, countIn, orEmpty, Says}
 use Rattle.jedec_fields.specs.declared.FieldSays.the-variants.{List as ListAt, Bad}
 use Rattle.jedec_fields.specs.declared.Digits.{Digits}
 use Rattle.jedec_fields.specs.declared.Digits.the-variants.{Number, Wrong}
 use Rattle.jedec_fields.specs.declared.Counted.{Counted}
 use Rattle.jedec_fields.specs.declared.Counted.the-variants as counted
 use Rattle.jedec_fields.proofs.Fields.{rest-whole}
-use Rattle.jedec_fields.proofs.Runs.{states-few}
+use Rattle.jedec_fields.proofs.Lists.{none-counted, some-counted, so-long, a-list}
 use borrow.Author.Needs.{needs}
 use Rattle.jedec_fields.proofs.list_in.Statement.{statement}
 use Rattle.jedec_fields.proofs.list_in.Tie as tie
 
-so-long : (bytes : List ℕ) (u : ℕ) → u ≤ length bytes → u ≡ length (take u bytes)
-so-long bytes u l = sym (length-take-le u bytes l)
-
--- states that a count speaks of
-none-counted : (o : Option (List ℕ)) → none ≡ countOf o → o ≡ none
-none-counted none e = refl
-none-counted (some states) e = let z : _≡_ {A = ℕ} 0 1 = cc in absurd (omega arith)
-
-some-counted : (o : Option (List ℕ)) (n : ℕ) → some n ≡ countOf o → (o ≡ some (orEmpty o)) × (length (orEmpty o) ≡ n)
-some-counted none n e = let z : _≡_ {A = ℕ} 0 1 = cc in absurd (omega arith)
-some-counted (some states) n e = let h : n ≡ length states = cc in (refl, sym h)
-
 empty-bad : (states : List ℕ) (first : ℕ) → length states ≡ 0 → statesFrom (some states) first ≡ statesFrom none first
 empty-bad [] first e = refl
 empty-bad (s ∷ states) first e = absurd (omega arith)
-
-full-list : (states : List ℕ) (first : ℕ) → (length states ≡ 0 → ⊥) → Judged.list first states ≡ statesFrom (some states) first
-full-list [] first e = absurd (e refl)
-full-list (s ∷ states) first e = refl
 
 module _ (bytes : List ℕ) (u : ℕ) (e : u ≡ unbroken bytes) (l : u ≤ length bytes) (o : Digits) (f : numberOf o ≡ numberIn (take u bytes)) where
   no-number : o ≡ Wrong → Says bytes (listIn bytes) Bad
@@ -63,20 +46,8 @@ module _ (bytes : List ℕ) (u : ℕ) (e : u ≡ unbroken bytes) (l : u ≤ leng
       unfolding listIn
       no-states z = record { is = rw (← e, ← f, w) (sym (ap (λ (x : Option (List ℕ)). statesFrom x first) (found .0) ∙ empty-bad (orEmpty (statesIn (drop u bytes))) first (found .1 ∙ z))); fits = tt }
 
-      a-list : (n ≡ 0 → ⊥) → Says bytes (listIn bytes) (ListAt first u n)
-      unfolding listIn statesOf
-      a-list z =
-          record {
-            is = rw (← e, ← f, w) (full-list (orEmpty (statesIn (drop u bytes))) first (λ y. z (sym (found .1) ∙ y)) ∙ sym (ap (λ (x : Option (List ℕ)). statesFrom x first) (found .0)));
-            fits =
-                record {
-                  inside = l;
-                  found = found .0;
-                  many = found .1;
-                  few = omega (arith, found .1, states-few (drop u bytes), length-drop u bytes);
-                  any = omega arith;
-                };
-          }
+      a-good-list : (n ≡ 0 → ⊥) → Says bytes (listIn bytes) (ListAt first u n)
+      a-good-list z = a-list bytes u first n e l (rw w at f) (rw v at counts) z
 
 unbroken-requires : tie.Need-unbroken-requires
 unbroken-requires c κs = search needs
@@ -121,7 +92,7 @@ returns-3 : tie.Need-returns-3
 returns-3 c = search (needs, wrong-states)
 
 returns-4 : tie.Need-returns-4
-returns-4 c = search (needs, a-list)
+returns-4 c = search (needs, a-good-list)
 
 pub list-in-spec : {M : Type 1} → statement M
 list-in-spec =

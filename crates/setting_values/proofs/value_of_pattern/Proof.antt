@@ -9,9 +9,10 @@ use Rattle.part.specs.Outcome.Outcome.{accepted, refused}
 use Rattle.part.specs.Device.{known}
 use Rattle.part.specs.declared.Device.{Device}
 use Rattle.part.proofs.Devices.{is-known, is-unknown}
-use Rattle.settings.specs.Settings.{bitsOf, hasSetting}
+use Rattle.settings.specs.Settings.{hasSetting}
 use Rattle.settings.specs.declared.Setting.{Setting}
 use Rattle.settings.proofs.Asked.{has, has-not}
+use Rattle.setting_places.specs.Places.{bitsOf}
 use Rattle.values.specs.Values.{bitsIn, valueIn}
 use Rattle.values.specs.declared.Value.{Value}
 use Rattle.values.specs.declared.Kind.{Kind}

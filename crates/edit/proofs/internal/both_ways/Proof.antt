@@ -14,7 +14,8 @@ use Rattle.readout.specs.Readout.{Written, written, toReadout, readoutOf, toIma
 use Rattle.readout.proofs.Laws.{readout-accepted, accepted-iff, Within}
 use Rattle.settings.specs.declared.Setting.{Setting}
 use Rattle.values.specs.declared.Value.{Value}
-use Rattle.edit.specs.Edit.{inImage, inReadout, withValue, readIn, setIn}
+use Rattle.setting_bits.specs.SettingBits.{inImage, inReadout}
+use Rattle.edit.specs.Edit.{withValue, readIn, setIn}
 use Rattle.edit.specs.Demand.{BothWays, Made}
 use Rattle.edit.proofs.NotRefused.{not-refused, its-length}
 use Rattle.edit.proofs.SameReadout.{same-readout}

@@ -20,8 +20,9 @@ use Rattle.values.specs.Values.{valueIn}
 use Rattle.values.specs.declared.Value.{Value}
 use Rattle.values.specs.declared.Kind.{Kind}
 use Rattle.setting_values.specs.Kinds.{kindOf}
-use Rattle.edit.specs.Edit.{bytesOf, patternAt, strayIn, readIn}
-use Rattle.edit.proofs.Steps.{bytes-between}
+use Rattle.setting_bits.specs.SettingBits.{bytesOf, patternAt}
+use Rattle.setting_bits.proofs.Steps.{bytes-between}
+use Rattle.edit.specs.Edit.{strayIn, readIn}
 use borrow.Author.Needs.{needs}
 use Rattle.edit.proofs.internal.read.Statement.{statement}
 use Rattle.edit.proofs.internal.read.Tie as tie

@@ -25,8 +25,9 @@ use Rattle.values.specs.declared.Kind.{Kind}
 use Rattle.values.specs.declared.internal.Found.{Found}
 use Rattle.values.specs.declared.internal.Found.the-variants.{Pattern, NoSuchValue}
 use Rattle.setting_values.specs.Kinds.{kindOf}
-use Rattle.edit.specs.Edit.{bytesOf, strayIn, setIn, withPattern, withValue}
-use Rattle.edit.proofs.Steps.{bytes-between}
+use Rattle.setting_bits.specs.SettingBits.{bytesOf, withPattern}
+use Rattle.setting_bits.proofs.Steps.{bytes-between}
+use Rattle.edit.specs.Edit.{strayIn, setIn, withValue}
 use borrow.Author.Needs.{needs}
 use Rattle.edit.proofs.internal.set.Statement.{statement}
 use Rattle.edit.proofs.internal.set.Tie as tie

@@ -8,7 +8,8 @@ use lib.ListN.{length}
 use Rattle.part.specs.Device.{readoutBytes}
 use Rattle.part.specs.declared.Device.{Device}
 use Rattle.settings.specs.declared.Setting.{Setting}
-use Rattle.edit.specs.Edit.{bytesOf, strayOf, strayIn}
+use Rattle.setting_bits.specs.SettingBits.{bytesOf, strayOf}
+use Rattle.edit.specs.Edit.{strayIn}
 use borrow.Author.Needs.{needs}
 use Rattle.edit.proofs.internal.stray_in.Statement.{statement}
 use Rattle.edit.proofs.internal.stray_in.Tie as tie

@@ -1,22 +1,23 @@
 -- `put_states` meets its contract: what is stored, with the new low bits of one byte, and the states still to come.
 -- Assumes nothing.
-use mathlib.Core.Path.{_≡_, refl, sym, _∙_, ap}
-use mathlib.Core.Bool.{Bool, true, false}
-use mathlib.Core.List.{List, [], _∷_}
+use mathlib.Core.Path.{_≡_, refl, sym, _∙_, ap, subst}
+use mathlib.Core.List.{List, [], _∷_, _++_}
+use mathlib.Core.Option.Option.{none, some}
 use Prim.Native.Nat.{ℕ, zero, suc, _+_, _*_, _-_, _/_, _%_, _^_, _≤_, _<_}
 use native.Mathlib.Omega.{arith}
-use native.Mathlib.Nat.{mod-lt, mod-eq-of-lt, div-add-mod'}
-use native.Mathlib.Numerals.{add-one}
-use lib.ListN.{length, getD, set, drop, length-set, drop-of-length-le}
+use native.Mathlib.Nat.{mod-lt, mod-eq-of-lt, div-add-mod', mul-one}
+use lib.ListN.{length, getD, set, drop, replicate, length-set, length-append, length-replicate, drop-of-length-le}
 use lib.Arith.{digits-lt}
 use lib.Pow.{pow-pos, pow-add, pow-mono, shl-exact, shr-lt}
-use lib.Seq.{drop-cons}
 use mir.Syntax.{w8}
 use mir.Val.{Fits}
-use Rattle.jedec.specs.Characters.{isBlank}
+use Rattle.cells.specs.Cells.{cut, join}
+use Rattle.cells.proofs.Laws.{cut-length, join-small, total-replicate}
+use Rattle.jedec_runs.specs.Runs.{IsBlankAt, StatesAt}
+use Rattle.jedec_runs.proofs.Words.{Taken, taken-at}
 use Rattle.jedec_fields.specs.Fields.{statesOf}
 use Rattle.jedec_image.specs.States.{withStates}
-use Rattle.jedec_image.proofs.Puts.{Written, states-blank, Solid, states-solid, none-written, pending, pending-none, pending-own, put-next, under-next, put-stored}
+use Rattle.jedec_image.proofs.Puts.{Written, rest-written, none-written, pending, pending-none, pending-own, group-under, put-few, put-over}
 use borrow.Author.Needs.{needs}
 use Rattle.jedec_image.proofs.internal.put_states.Statement.{statement}
 use Rattle.jedec_image.proofs.internal.put_states.Tie as tie
@@ -67,98 +68,84 @@ module _ (bytes image₀ : List ℕ) (fuse : ℕ) (image : List ℕ) (index bit 
   octet-wide : getD image index 0 < 2 ^ 64
   octet-wide = byte-wide image index (r .octets)
 
-  module _ (l : i < length bytes) (t : Bool) (e : t ≡ isBlank (getD bytes i 0)) where
-    here : Written (getD bytes i 0 ∷ drop (i + 1) bytes)
-    here = rw (add-one i) (rw (drop-cons bytes i 0 l) at (r .left))
+  module _ (count : ℕ) (there : StatesAt bytes i count) (bits : ℕ) (e : bits ≡ join (replicate count 1) (drop i bytes)) where
+    bits-small : bits < 2 ^ count
+    bits-small = rw e (subst (λ (n : ℕ). join (replicate count 1) (drop i bytes) < 2 ^ n) (total-replicate count 1 ∙ mul-one count) (join-small (replicate count 1) (drop i bytes)))
 
-    cut : drop i bytes ≡ getD bytes i 0 ∷ drop (i + 1) bytes
-    cut = rw (add-one i) (drop-cons bytes i 0 l)
+    exact : bits * 2 ^ bit % 2 ^ 64 ≡ bits * 2 ^ bit
+    exact = shl-exact count bit 64 bits-small (omega (arith, r .small, there .few))
 
-    blank-passed : t ≡ true → Puts bytes image₀ fuse image index bit low (i + 1)
-    blank-passed h =
-        let p = states-blank (getD bytes i 0) (drop (i + 1) bytes) here (sym e ∙ h) in
-        let gone : statesOf (drop i bytes) ≡ statesOf (drop (i + 1) bytes) = ap statesOf cut ∙ p .0 in
-        record {
-          upto = omega arith;
-          small = r .small;
-          under = r .under;
-          left = p .1;
-          fits = rw (← gone) (r .fits);
-          same = r .same;
-          octets = r .octets;
-          so-far = rw (← gone) (r .so-far);
-        }
+    next-under : low + bits * 2 ^ bit % 2 ^ 64 < 2 ^ (bit + count)
+    next-under = rw exact (group-under low bits bit count (r .under) bits-small)
 
-    module _ (h : t ≡ false) where
-      solid : Solid (getD bytes i 0) (drop (i + 1) bytes) here
-      solid = states-solid (getD bytes i 0) (drop (i + 1) bytes) here (sym e ∙ h)
+    room : low + bits * 2 ^ bit % 2 ^ 64 < 2 ^ 64
+    room = let m : bit + count ≤ 64 = omega (arith, r .small, there .few) in omega (arith, next-under, pow-mono m)
 
-      digit : 48 ≤ getD bytes i 0
-      digit = solid .low
+    module _ (z : ℕ) (l : i < length bytes) (o : (k : ℕ) → Fits w8 (getD bytes k 0)) (blank : IsBlankAt bytes (i + count) z) where
+      s : Taken bytes i count (count + z)
+      s = taken-at bytes i count z l o there blank
 
-      digit-wide : getD bytes i 0 - 48 < 2 ^ 64
-      digit-wide = omega (arith, solid .bit)
+      inside : i + (count + z) ≤ length bytes
+      inside = s .inside
 
-      first : statesOf (drop i bytes) ≡ (getD bytes i 0 - 48) ∷ statesOf (drop (i + 1) bytes)
-      first = ap statesOf cut ∙ solid .first
+      rest : (statesOf (drop i bytes) ≡ cut (replicate count 1) bits ++ statesOf (drop (i + (count + z)) bytes)) × Written (drop (i + (count + z)) bytes)
+      rest = rest-written bytes i (count + z) (cut (replicate count 1) bits) (r .left) (s .writes ∙ rw e)
 
-      fits-first : index * 8 + bit + suc (length (statesOf (drop (i + 1) bytes))) ≤ length image * 8
-      fits-first = rw first at (r .fits)
+      -- a byte is taken, since every byte left is a state or a blank
+      falls : length bytes - (i + (count + z)) < length bytes - i
+      falls = go (count + z) refl
+        where
+          go : (k : ℕ) → count + z ≡ k → length bytes - (i + k) < length bytes - i
+          go zero f =
+              let no : none ≡ some (statesOf (drop i bytes)) = sym (s .stops f) ∙ r .left in
+              let y : _≡_ {A = ℕ} 0 1 = cc in
+              absurd (omega arith)
+          go (suc k) f = omega arith
 
-      there : index < length image
-      there = omega (arith, fits-first)
+      many : length (statesOf (drop i bytes)) ≡ count + length (statesOf (drop (i + (count + z)) bytes))
+      many = ap length (rest .0) ∙ length-append (cut (replicate count 1) bits) (statesOf (drop (i + (count + z)) bytes)) ∙ rw (cut-length (replicate count 1) bits, length-replicate {A = ℕ} count 1)
 
-      exact : (getD bytes i 0 - 48) * 2 ^ bit % 2 ^ 64 ≡ (getD bytes i 0 - 48) * 2 ^ bit
-      exact = shl-exact 1 bit 64 (solid .bit) (omega (arith, r .small))
+      so-far-next : withStates (pending image index bit low) (index * 8 + bit) (cut (replicate count 1) bits ++ statesOf (drop (i + (count + z)) bytes)) ≡ withStates image₀ fuse (statesOf bytes)
+      so-far-next = rw (rest .0) at (r .so-far)
 
-      next-under : low + (getD bytes i 0 - 48) * 2 ^ bit % 2 ^ 64 < 2 ^ (bit + 1)
-      next-under = rw exact (under-next image index bit low (getD bytes i 0 - 48) there (r .small) (r .under) (solid .bit))
+      fits-next : index * 8 + bit + count + length (statesOf (drop (i + (count + z)) bytes)) ≤ length image * 8
+      fits-next = omega (arith, many, r .fits)
 
-      next-small : low + (getD bytes i 0 - 48) * 2 ^ bit % 2 ^ 64 < 2 ^ 8
-      next-small = let m : bit + 1 ≤ 8 = omega (arith, r .small) in omega (arith, next-under, pow-mono m)
-
-      room : low + (getD bytes i 0 - 48) * 2 ^ bit % 2 ^ 64 < 2 ^ 64
-      room = omega (arith, next-small)
-
-      whole-byte : low + (getD bytes i 0 - 48) * 2 ^ bit % 2 ^ 64 < 2 ^ 8
-      whole-byte = next-small
-
-      next : withStates (pending image index (bit + 1) (low + (getD bytes i 0 - 48) * 2 ^ bit % 2 ^ 64)) (index * 8 + bit + 1) (statesOf (drop (i + 1) bytes)) ≡ withStates image₀ fuse (statesOf bytes)
-      unfolding withStates
-      next =
-          let was : withStates (pending image index bit low) (index * 8 + bit) ((getD bytes i 0 - 48) ∷ statesOf (drop (i + 1) bytes)) ≡ withStates image₀ fuse (statesOf bytes) = rw first at (r .so-far) in
-          rw (exact, ← put-next image index bit low (getD bytes i 0 - 48) there (r .small) (r .under)) was
-
-      bit-added : bit + 1 < 8 → Puts bytes image₀ fuse image index (bit + 1) (low + (getD bytes i 0 - 48) * 2 ^ bit % 2 ^ 64) (i + 1)
-      bit-added m =
-          let sum : index * 8 + (bit + 1) ≡ index * 8 + bit + 1 = omega arith in
+      bits-added : bit + count < 8 → Puts bytes image₀ fuse image index (bit + count) (low + bits * 2 ^ bit % 2 ^ 64) (i + (count + z))
+      bits-added m =
+          let place : index * 8 + (bit + count) ≡ index * 8 + bit + count = omega arith in
           record {
-            upto = omega arith;
+            upto = inside;
             small = m;
             under = next-under;
-            left = solid .rest;
-            fits = omega (arith, fits-first);
+            left = rest .1;
+            fits = omega (arith, fits-next);
             same = r .same;
             octets = r .octets;
-            so-far = rw sum next;
+            so-far = rw (exact, place) (sym (put-few count image index bit low bits (statesOf (drop (i + (count + z)) bytes)) (omega arith) (omega (arith, fits-next)) (r .under) bits-small) ∙ so-far-next);
           }
 
-      byte-stored : 8 ≤ bit + 1 → Puts bytes image₀ fuse (set image index (low + (getD bytes i 0 - 48) * 2 ^ bit % 2 ^ 64)) (index + 1) 0 0 (i + 1)
-      byte-stored m =
-          let full : bit + 1 ≡ 8 = omega (arith, r .small) in
-          let sum : (index + 1) * 8 + 0 ≡ index * 8 + bit + 1 = omega arith in
-          let stored : pending image index (bit + 1) (low + (getD bytes i 0 - 48) * 2 ^ bit % 2 ^ 64) ≡ set image index (low + (getD bytes i 0 - 48) * 2 ^ bit % 2 ^ 64) =
-          rw full (put-stored image index (low + (getD bytes i 0 - 48) * 2 ^ bit % 2 ^ 64) (r .octets index .fits)) in
-          record {
-            upto = omega arith;
-            small = omega arith;
-            under = omega arith;
-            left = solid .rest;
-            fits = rw length-set (omega (arith, fits-first));
-            same = kept-set _;
-            octets = set-octets image index (low + (getD bytes i 0 - 48) * 2 ^ bit % 2 ^ 64) (r .octets) next-small;
-            so-far = rw (pending-none, sum, ← stored) next;
-          }
+      module _ (m : 8 ≤ bit + count) where
+        index-there : index < length image
+        index-there = omega (arith, fits-next)
+
+        byte-stored : (octet : ℕ) → octet ≡ (low + bits * 2 ^ bit % 2 ^ 64) % 2 ^ 8
+            → Puts bytes image₀ fuse (set image index octet) (index + 1) (bit + count - 8) ((low + bits * 2 ^ bit % 2 ^ 64) / 2 ^ 8) (i + (count + z))
+        byte-stored octet f =
+            let size : length (set image index octet) ≡ length image = length-set image index octet in
+            let wide : bit + count - 8 + 8 ≡ bit + count = omega arith in
+            record {
+              upto = inside;
+              small = omega (arith, r .small, there .few);
+              under = shr-lt (bit + count - 8) 8 (rw wide next-under);
+              left = rest .1;
+              fits = omega (arith, fits-next);
+              same = size ∙ r .same;
+              octets = set-octets image index octet (r .octets) (rw f (mod-lt _ (pow-pos 8)));
+              so-far =
+                  rw (f, exact)
+                  (sym (put-over image index bit low bits count (statesOf (drop (i + (count + z)) bytes)) (r .small) (there .few) m (omega (arith, fits-next)) (r .under) bits-small (r .octets index .fits)) ∙ so-far-next);
+            }
 
   module _ (l : length bytes ≤ i) where
     done : pending image index bit low ≡ withStates image₀ fuse (statesOf bytes)
@@ -218,29 +205,14 @@ low-bits-requires c κs = search needs
 loop-holds : tie.Need-loop-holds Inv-loop μ-loop
 loop-holds c = search (needs, starts)
 
-shared-slice-read-b : tie.Need-shared-slice-read-b Inv-loop μ-loop
-shared-slice-read-b c = search needs
+states-at-requires : tie.Need-states-at-requires Inv-loop μ-loop
+states-at-requires c κs = search needs
 
-add-i : tie.Need-add-i Inv-loop μ-loop
-add-i c = search needs
-
-is-blank-requires : tie.Need-is-blank-requires Inv-loop μ-loop
-is-blank-requires c κs = search needs
-
-loop-less : tie.Need-loop-less Inv-loop μ-loop
-loop-less c = search needs
-
-loop-again : tie.Need-loop-again Inv-loop μ-loop
-loop-again c = search (needs, blank-passed)
-
-sub-low : tie.Need-sub-low Inv-loop μ-loop
-sub-low c = search (needs, digit)
+bits-at-requires : tie.Need-bits-at-requires Inv-loop μ-loop
+bits-at-requires c κs = search needs
 
 cast-low : tie.Need-cast-low Inv-loop μ-loop
-cast-low c = record { fits = search (needs, digit-wide) }
-
-cast-low-2 : tie.Need-cast-low-2 Inv-loop μ-loop
-cast-low-2 c = search needs
+cast-low c = search needs
 
 shl-low : tie.Need-shl-low Inv-loop μ-loop
 shl-low c = search needs
@@ -248,29 +220,47 @@ shl-low c = search needs
 add-low : tie.Need-add-low Inv-loop μ-loop
 add-low c = record { fits = search (needs, room) }
 
+cast-bit-2 : tie.Need-cast-bit-2 Inv-loop μ-loop
+cast-bit-2 c = search needs
+
 add-bit : tie.Need-add-bit Inv-loop μ-loop
 add-bit c = search needs
 
-loop-less-2 : tie.Need-loop-less-2 Inv-loop μ-loop
-loop-less-2 c = search needs
+add-blank-at : tie.Need-add-blank-at Inv-loop μ-loop
+add-blank-at c = search needs
 
-loop-again-2 : tie.Need-loop-again-2 Inv-loop μ-loop
-loop-again-2 c = search (needs, bit-added)
+blank-at-requires : tie.Need-blank-at-requires Inv-loop μ-loop
+blank-at-requires c κs = search needs
+
+add-i : tie.Need-add-i Inv-loop μ-loop
+add-i c = search needs
+
+add-i-2 : tie.Need-add-i-2 Inv-loop μ-loop
+add-i-2 c = search (needs, inside)
+
+low-bits-requires-2 : tie.Need-low-bits-requires-2 Inv-loop μ-loop
+low-bits-requires-2 c κs = search needs
 
 cast-image : tie.Need-cast-image Inv-loop μ-loop
-cast-image c = record { fits = search (needs, whole-byte) }
+cast-image c = search needs
 
 slice-write-image : tie.Need-slice-write-image Inv-loop μ-loop
-slice-write-image c = search (needs, there)
+slice-write-image c = search (needs, index-there)
 
 add-index : tie.Need-add-index Inv-loop μ-loop
 add-index c = search needs
 
-loop-less-3 : tie.Need-loop-less-3 Inv-loop μ-loop
-loop-less-3 c = search needs
+loop-less : tie.Need-loop-less Inv-loop μ-loop
+loop-less c = search (needs, falls)
 
-loop-again-3 : tie.Need-loop-again-3 Inv-loop μ-loop
-loop-again-3 c = search (needs, byte-stored)
+loop-again : tie.Need-loop-again Inv-loop μ-loop
+loop-again c = search (needs, byte-stored)
+
+loop-less-2 : tie.Need-loop-less-2 Inv-loop μ-loop
+loop-less-2 c = search (needs, falls)
+
+loop-again-2 : tie.Need-loop-again-2 Inv-loop μ-loop
+loop-again-2 c = search (needs, bits-added)
 
 slice-read-above : tie.Need-slice-read-above Inv-loop μ-loop
 slice-read-above c = search (needs, there-yet)
@@ -322,24 +312,25 @@ put-states-spec =
     cast-low-bits
     low-bits-requires
     loop-holds
-    shared-slice-read-b
-    add-i
-    is-blank-requires
-    loop-less
-    loop-again
-    sub-low
+    states-at-requires
+    bits-at-requires
     cast-low
-    cast-low-2
     shl-low
     add-low
+    cast-bit-2
     add-bit
-    loop-less-2
-    loop-again-2
+    add-blank-at
+    blank-at-requires
+    add-i
+    add-i-2
+    low-bits-requires-2
     cast-image
     slice-write-image
     add-index
-    loop-less-3
-    loop-again-3
+    loop-less
+    loop-again
+    loop-less-2
+    loop-again-2
     slice-read-above
     cast-above
     cast-above-2

@@ -14,10 +14,11 @@ use Rattle.jedec.specs.Cut.{Cut}
 use Rattle.jedec.specs.Judge.{judge}
 use Rattle.jedec.specs.Rules.{Known, nothing, inOrder, after, allFields, misplaced, stateGiven, imageWith}
 use Rattle.jedec.specs.Meaning.{withEnd, withFields, ofCut}
-use Rattle.jedec_fields.specs.Fields.{judgedAfter, Fits, Says, fieldsAt, cutOf, Inside, Stands}
+use Rattle.jedec_fields.specs.Fields.{judgedAfter, Fits, Says, fieldsAt, cutOf, Inside, nextOf, JudgedStands}
 use Rattle.jedec_fields.specs.declared.FieldSays.{FieldSays}
 use Rattle.jedec_fields.specs.declared.FieldSays.the-variants as says
-use Rattle.jedec_fields.specs.declared.Next.{Next}
+use Rattle.jedec_fields.specs.declared.Judged.{Judged}
+use Rattle.jedec_fields.specs.declared.Judged.the-variants as judged
 use Rattle.jedec_fields.specs.declared.Next.the-variants as next
 use Rattle.jedec_image.specs.States.{lastEnd}
 use Rattle.jedec_image.proofs.Images.{image-length, start-holds}
@@ -67,26 +68,26 @@ module _ (fuses : ℕ) (text : List ℕ) (from : ℕ) (image₀ image : List ℕ
   of-size : length image ≡ (fuses + 7) / 8
   of-size = r .size
 
-  module _ (n : Next) (s : Stands text at n) where
+  module _ (n : Judged) (s : JudgedStands text at n) where
     -- the outcome by what stands next
-    by-next : (m : Next) → n ≡ m → ofRest fuses text (r .k) (cutOf text m) ≡ ofCut fuses text (fieldsAt from (drop from text))
-    by-next m w = ap (ofRest fuses text (r .k)) (ap (cutOf text) (sym w) ∙ s .cut) ∙ r .rest
+    by-next : (m : Judged) → n ≡ m → ofRest fuses text (r .k) (cutOf text (nextOf m)) ≡ ofCut fuses text (fieldsAt from (drop from text))
+    by-next m w = ap (ofRest fuses text (r .k)) (ap (λ (x : Judged). cutOf text (nextOf x)) (sym w) ∙ s .stands .cut) ∙ r .rest
 
-    early : n ≡ next.Early → Reads (ofCut fuses text (fieldsAt from (drop from text))) (refused 7 (length text)) image
+    early : n ≡ judged.Early → Reads (ofCut fuses text (fieldsAt from (drop from text))) (refused 7 (length text)) image
     unfolding allFields
-    early w = refused-reads _ 7 (length text) image (sym (by-next next.Early w))
+    early w = refused-reads _ 7 (length text) image (sym (by-next judged.Early w))
 
-    etx-there : (etx : ℕ) → n ≡ next.End etx → etx < length text
-    etx-there etx w = rw w at (s .inside)
+    etx-there : (etx : ℕ) → n ≡ judged.End etx → etx < length text
+    etx-there etx w = rw w at (s .stands .inside)
 
-    the-end : (etx : ℕ) (answer : Outcome (Unit {0})) → n ≡ next.End etx → ((k : Known) → Given fuses p k image → Reads (withEnd fuses text k (some etx)) answer image)
+    the-end : (etx : ℕ) (answer : Outcome (Unit {0})) → n ≡ judged.End etx → ((k : Known) → Given fuses p k image → Reads (withEnd fuses text k (some etx)) answer image)
         → Reads (ofCut fuses text (fieldsAt from (drop from text))) answer image
     unfolding allFields
-    the-end etx answer w f = rw (← by-next (next.End etx) w) (f (r .k) (r .given))
+    the-end etx answer w f = rw (← by-next (judged.End etx) w) (f (r .k) (r .given))
 
-    module _ (start star : ℕ) (w : n ≡ next.Field start star) where
+    module _ (start star : ℕ) (fs : FieldSays) (w : n ≡ judged.Field start star fs) where
       there : Inside text at (next.Field start star)
-      there = rw w at (s .inside)
+      there = rw w at (s .stands .inside)
 
       start-first : start ≤ star
       start-first = there .1
@@ -103,51 +104,53 @@ module _ (fuses : ℕ) (text : List ℕ) (from : ℕ) (image₀ image : List ℕ
       falls : length text - (star + 1) < length text - at
       falls = omega (arith, there .0, there .1, there .2)
 
-      module _ (fs : FieldSays) (j : Says (drop 1 (take (star - start) (drop start text))) (judge (take (star - start) (drop start text))) fs) where
-        abbrev field : List ℕ
-        field = take (star - start) (drop start text)
+      abbrev field : List ℕ
+      field = take (star - start) (drop start text)
 
-        order : mayStand p fs ≡ inOrder (r .k) (judge field)
-        order = in-order fuses p (r .k) image (drop 1 field) fs (r .given) ∙ ap (inOrder (r .k)) (j .is)
+      j : Says (drop 1 field) (judge field) fs
+      j = rw w at (s .judged)
 
-        a-bad-field : (t : Bool) → t ≡ mayStand p fs → not t ≡ true → Reads (ofCut fuses text (fieldsAt from (drop from text))) (refused 7 start) image
+      order : mayStand p fs ≡ inOrder (r .k) (judge field)
+      order = in-order fuses p (r .k) image (drop 1 field) fs (r .given) ∙ ap (inOrder (r .k)) (j .is)
+
+      a-bad-field : (t : Bool) → t ≡ mayStand p fs → not t ≡ true → Reads (ofCut fuses text (fieldsAt from (drop from text))) (refused 7 start) image
+      unfolding allFields
+      a-bad-field t e h =
+          let bad : inOrder (r .k) (judge field) ≡ false = sym order ∙ sym e ∙ not-true t h in
+          refused-reads _ 7 start image (sym (by-next (judged.Field start star fs) w) ∙ rw bad)
+
+      few-states : length text ≤ 1048576 → Few fs
+      few-states l = few fs (j .fits)
+        where
+          few : (x : FieldSays) → Fits (drop 1 (take (star - start) (drop start text))) x → Few x
+          few (says.Count n) f = tt
+          few (says.Start x) f = tt
+          few (says.List first skip number) f = omega (arith, f .few, length-drop 1 (take (star - start) (drop start text)), length-take (star - start) (drop start text), length-drop start text)
+          few (says.Sum x) f = tt
+          few says.Skipped f = tt
+          few says.Bad f = tt
+
+      module _ (q : Progress) (e : q ≡ afterField fuses p start fs) where
+        goes-in : PutFits fuses (drop 1 (take (star - start) (drop start text))) fs (q .misplaced)
+        goes-in = rw e (put-fits fuses p start (drop 1 field) fs (j .fits))
+
+        one-more : (t : Bool) (image′ : List ℕ) → t ≡ mayStand p fs → not t ≡ false
+            → image′ ≡ putField fuses (drop 1 (take (star - start) (drop start text))) fs (q .misplaced) image → Walks fuses text from image₀ image′ q (star + 1)
         unfolding allFields
-        a-bad-field t e h =
-            let bad : inOrder (r .k) (judge field) ≡ false = sym order ∙ sym e ∙ not-true t h in
-            refused-reads _ 7 start image (sym (by-next (next.Field start star) w) ∙ rw bad)
-
-        few-states : length text ≤ 1048576 → Few fs
-        few-states l = few fs (j .fits)
-          where
-            few : (x : FieldSays) → Fits (drop 1 (take (star - start) (drop start text))) x → Few x
-            few (says.Count n) f = tt
-            few (says.Start x) f = tt
-            few (says.List first skip number) f = omega (arith, f .few, length-drop 1 (take (star - start) (drop start text)), length-take (star - start) (drop start text), length-drop start text)
-            few (says.Sum x) f = tt
-            few says.Skipped f = tt
-            few says.Bad f = tt
-
-        module _ (q : Progress) (e : q ≡ afterField fuses p start fs) where
-          goes-in : PutFits fuses (drop 1 (take (star - start) (drop start text))) fs (q .misplaced)
-          goes-in = rw e (put-fits fuses p start (drop 1 field) fs (j .fits))
-
-          one-more : (t : Bool) (image′ : List ℕ) → t ≡ mayStand p fs → not t ≡ false
-              → image′ ≡ putField fuses (drop 1 (take (star - start) (drop start text))) fs (q .misplaced) image → Walks fuses text from image₀ image′ q (star + 1)
-          unfolding allFields
-          one-more t image′ f h i =
-              let good : inOrder (r .k) (judge field) ≡ true = sym order ∙ sym f ∙ not-false t h in
-              let good-here : inOrder (r .k) (judgedAfter (drop 1 field) fs) ≡ true = ap (inOrder (r .k)) (j .is) ∙ good in
-              let known : Given fuses q (after (r .k) start (judge field)) image′ =
-              rw (i, e, ← j .is) (given-after fuses p (r .k) image (drop 1 field) start (r .given) fs (j .fits) good-here) in
-              let long : length image′ ≡ length image = rw i (put-length fuses (drop 1 field) fs (q .misplaced) image (r .size)) in
-              record {
-                k = after (r .k) start (judge field);
-                given = known;
-                size = long ∙ r .size;
-                same = long ∙ r .same;
-                inside = omega (arith, there .2);
-                rest = (rw good at (by-next (next.Field start star) w));
-              }
+        one-more t image′ f h i =
+            let good : inOrder (r .k) (judge field) ≡ true = sym order ∙ sym f ∙ not-false t h in
+            let good-here : inOrder (r .k) (judgedAfter (drop 1 field) fs) ≡ true = ap (inOrder (r .k)) (j .is) ∙ good in
+            let known : Given fuses q (after (r .k) start (judge field)) image′ =
+            rw (i, e, ← j .is) (given-after fuses p (r .k) image (drop 1 field) start (r .given) fs (j .fits) good-here) in
+            let long : length image′ ≡ length image = rw i (put-length fuses (drop 1 field) fs (q .misplaced) image (r .size)) in
+            record {
+              k = after (r .k) start (judge field);
+              given = known;
+              size = long ∙ r .size;
+              same = long ∙ r .same;
+              inside = omega (arith, there .2);
+              rest = (rw good at (by-next (judged.Field start star fs) w));
+            }
 
 abbrev Inv-loop : tie.InvT-loop
 Inv-loop fuses text from image₀ p₀ at₀ image p at = Walks fuses text from image₀ image p at
@@ -158,8 +161,8 @@ abbrev μ-loop : tie.MeasureT-loop
 loop-holds : tie.Need-loop-holds Inv-loop μ-loop
 loop-holds c = search (needs, starts)
 
-next-field-requires : tie.Need-next-field-requires Inv-loop μ-loop
-next-field-requires c κs = search (needs, in-text)
+next-judged-requires : tie.Need-next-judged-requires Inv-loop μ-loop
+next-judged-requires c κs = search (needs, in-text)
 
 enum-told : tie.Need-enum-told Inv-loop μ-loop
 enum-told c = search needs
@@ -187,18 +190,6 @@ returns-2 c = search (needs, the-end)
 
 enum-known-next-2 : tie.Need-enum-known-next-2 Inv-loop μ-loop
 enum-known-next-2 c = search needs
-
-sub-judge-field : tie.Need-sub-judge-field Inv-loop μ-loop
-sub-judge-field c = search (needs, start-first)
-
-part-judge-field-start : tie.Need-part-judge-field-start Inv-loop μ-loop
-part-judge-field-start c = search (needs, start-first)
-
-part-judge-field-end : tie.Need-part-judge-field-end Inv-loop μ-loop
-part-judge-field-end c = search (needs, star-there)
-
-judge-field-requires : tie.Need-judge-field-requires Inv-loop μ-loop
-judge-field-requires c κs = search needs
 
 cast-place : tie.Need-cast-place Inv-loop μ-loop
 cast-place c = record { fits = search (needs, start-small) }
@@ -243,7 +234,7 @@ walk-spec =
     Inv-loop
     μ-loop
     loop-holds
-    next-field-requires
+    next-judged-requires
     enum-told
     cast-length
     same-length
@@ -253,10 +244,6 @@ walk-spec =
     same-length-2
     returns-2
     enum-known-next-2
-    sub-judge-field
-    part-judge-field-start
-    part-judge-field-end
-    judge-field-requires
     cast-place
     may-stand-requires
     same-length-3

@@ -2,8 +2,7 @@
 -- Assumes nothing.
 use native.Mathlib.Omega.{arith}
 use Rattle.part.proofs.Devices.{blocks-small}
-use Rattle.settings.proofs.Numbers.{whole}
-use Rattle.settings.proofs.Places.{block-0}
+use Rattle.settings.proofs.Numbers.{block-0, whole}
 use borrow.Author.Needs.{needs}
 use Rattle.settings.proofs.internal.wire_and_at.Statement.{statement}
 use Rattle.settings.proofs.internal.wire_and_at.Tie as tie

@@ -1,0 +1,3 @@
+-- Laws about reading and setting by setting number and pattern.
+-- Assumes nothing.
+pub mod Laws

@@ -1,0 +1,3 @@
+-- The definitions that the contracts of `edit_by_number` cite.
+-- Assumes nothing.
+pub mod ByNumber

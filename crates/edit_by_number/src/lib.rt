@@ -1,0 +1,51 @@
+// Reading and setting a setting, in an image and in a readout, by setting number and pattern.
+// The definitions stand in specs/ByNumber.antt.
+ghost use mathlib.Core.Path.{_≡_};
+ghost use Rattle.part.specs.Answer.{numberOutcome};
+ghost use Rattle.readout.specs.Readout.{doneOutcome, Written};
+ghost use Rattle.setting_bits.specs.SettingBits.{inImage, inReadout};
+ghost use Rattle.edit_by_number.specs.ByNumber.{readPattern, setPattern, withNumbered};
+use part::Device;
+use part::NumberAnswer;
+use readout::DoneAnswer;
+use settings::SettingNumber;
+
+pub mod internal;
+
+// The pattern of a setting in an image, by its number. Refused: 1, 2, 4.
+pub fn read_pattern_in_image(d: Device, image: &[u8], number: SettingNumber) -> NumberAnswer
+    ensures { λ r. ⌜ numberOutcome r ≡ readPattern d inImage (now (image .entry)) (number .0) ⌝ }
+{
+    internal::read_numbered(d, false, image, number)
+}
+
+// A setting set to a pattern in an image, by its number. Refused: 1, 2, 4, 5.
+pub fn set_pattern_in_image(
+    d: Device,
+    image: &mut [u8],
+    number: SettingNumber,
+    pattern: u32,
+) -> DoneAnswer
+    ensures { λ r. ⌜ Written (setPattern d inImage (now (image .entry)) (number .0) pattern) (doneOutcome r) (withNumbered d inImage (now (image .entry)) (number .0) pattern) (now (image .entry)) (now (image .exit)) ⌝ }
+{
+    internal::set_numbered(d, false, image, number, pattern)
+}
+
+// The pattern of a setting in a readout, by its number. Refused: 1, 2, 4, 6.
+pub fn read_pattern_in_readout(d: Device, readout: &[u8], number: SettingNumber) -> NumberAnswer
+    ensures { λ r. ⌜ numberOutcome r ≡ readPattern d inReadout (now (readout .entry)) (number .0) ⌝ }
+{
+    internal::read_numbered(d, true, readout, number)
+}
+
+// A setting set to a pattern in a readout, by its number. Refused: 1, 2, 4, 5, 6.
+pub fn set_pattern_in_readout(
+    d: Device,
+    readout: &mut [u8],
+    number: SettingNumber,
+    pattern: u32,
+) -> DoneAnswer
+    ensures { λ r. ⌜ Written (setPattern d inReadout (now (readout .entry)) (number .0) pattern) (doneOutcome r) (withNumbered d inReadout (now (readout .entry)) (number .0) pattern) (now (readout .entry)) (now (readout .exit)) ⌝ }
+{
+    internal::set_numbered(d, true, readout, number, pattern)
+}

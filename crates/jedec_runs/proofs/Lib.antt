@@ -1,0 +1,3 @@
+-- The laws about states taken several at a time.
+-- Assumes nothing.
+pub mod Words

@@ -1,0 +1,3 @@
+-- The definitions that the contracts of `jedec_runs` cite.
+-- Assumes nothing.
+pub mod Runs

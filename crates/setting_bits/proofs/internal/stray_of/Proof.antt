@@ -1,0 +1,91 @@
+-- `stray_of` meets its contract: no byte of 8 bits has one above; of a setting of one bit, its byte is looked at.
+-- Assumes nothing.
+use mathlib.Core.Path.{_≡_}
+use mathlib.Core.Bool.{true, cond, not, _&&_}
+use mathlib.Core.List.{List}
+use Prim.Native.Nat.{ℕ, _/_, _^_, _<_}
+use native.Mathlib.Omega.{arith}
+use lib.Dec.{eqb, ltb}
+use lib.ListN.{length, getD}
+use Rattle.part.specs.Device.{known, readoutBytes}
+use Rattle.part.specs.Place.{hasByte, widthOf, indexOfByte}
+use Rattle.part.specs.declared.Device.{Device}
+use Rattle.part.specs.declared.Place.{Place}
+use Rattle.part.proofs.Laws.{width-small}
+use Rattle.settings.specs.Settings.{hasSetting}
+use Rattle.settings.specs.declared.Setting.{Setting}
+use Rattle.setting_places.specs.Places.{placeOf, bitsOf, fuseOf}
+use Rattle.setting_bits.specs.SettingBits.{inReadout, strayAmong, strayOf}
+use Rattle.setting_bits.proofs.Edits.{inside, fuse-below}
+use Rattle.setting_bits.proofs.Steps.{its-byte, its-index, its-test}
+use Rattle.setting_bits.proofs.Strays.{none-stray}
+use borrow.Author.Needs.{needs}
+use Rattle.setting_bits.proofs.internal.stray_of.Statement.{statement}
+use Rattle.setting_bits.proofs.internal.stray_of.Tie as tie
+
+module _ (d : Device) (readout : List ℕ) (s : Setting) (k : known d ≡ true) (h : hasSetting d s ≡ true) (one : bitsOf s ≡ 1)
+    (p : Place) (e : p ≡ placeOf s 0) where
+  there : 0 < bitsOf s
+  there = omega arith
+
+  byte-there : hasByte d (p .byte) ≡ true
+  byte-there = rw e (its-byte d k s h 0 there)
+
+  index-in : (index : ℕ) → length readout ≡ readoutBytes d → index ≡ indexOfByte d (p .byte) → index < length readout
+  index-in index q g = rw (q, its-index d k readout s h 0 there p e index g) (inside d inReadout (fuseOf d s 0) k (fuse-below d k s h 0 there))
+
+  looked : (index above w r : ℕ) → length readout ≡ readoutBytes d → index ≡ indexOfByte d (p .byte) → w ≡ widthOf (p .byte)
+      → above ≡ getD readout index 0 / 2 ^ w → r ≡ cond (not (eqb above 0) && ltb index (length readout)) index (length readout)
+      → r ≡ strayOf d readout s
+  unfolding strayAmong
+  looked index above w r q g v m f =
+      let at = its-index d k readout s h 0 there p e index g in
+      let test = its-test d k readout s h 0 there p e index g above (length readout) w v m q in
+      rw (one, ← test, ← at, ← q) f
+
+width-in : (p : Place) (w : ℕ) → w ≡ widthOf (p .byte) → w < 32
+width-in p w e = omega (arith, width-small (p .byte))
+
+some-bit : (s : Setting) → bitsOf s ≡ 1 → 0 < bitsOf s
+some-bit s one = omega arith
+
+in-whole-bytes-requires : tie.Need-in-whole-bytes-requires
+in-whole-bytes-requires c κs = search needs
+
+returns : tie.Need-returns
+returns c = none-stray (c .before .before .before .args .d) (c .before .before .before .pre .0) (c .before .before .before .args .s) (c .before .before .before .pre .1) (c .before .before .before .args .readout .now) (λ i. c .before .before .shared-slice-known .given i .fits) (c .before .before .before .pre .2) (c .before .in-whole-bytes .ensures .0 (c .if1 .taken))
+
+place-of-requires : tie.Need-place-of-requires
+place-of-requires c κs = search (needs, some-bit, c .before .in-whole-bytes .ensures .1)
+
+index-of-byte-requires : tie.Need-index-of-byte-requires
+index-of-byte-requires c κs = search (needs, byte-there, c .before .before .in-whole-bytes .ensures .1)
+
+cast-index : tie.Need-cast-index
+cast-index c = search needs
+
+width-of-requires : tie.Need-width-of-requires
+width-of-requires c κs = search needs
+
+above-width-requires : tie.Need-above-width-requires
+above-width-requires c κs = (search (needs, index-in, c .before .before .before .before .in-whole-bytes .ensures .1), search (needs, width-in))
+
+lower-requires : tie.Need-lower-requires
+lower-requires c κs = search needs
+
+returns-2 : tie.Need-returns-2
+returns-2 c = search (needs, looked, c .before .before .before .before .before .before .in-whole-bytes .ensures .1)
+
+pub stray-of-spec : {M : Type 1} → statement M
+stray-of-spec =
+    tie.close
+    (tie.spec
+    in-whole-bytes-requires
+    returns
+    place-of-requires
+    index-of-byte-requires
+    cast-index
+    width-of-requires
+    above-width-requires
+    lower-requires
+    returns-2)

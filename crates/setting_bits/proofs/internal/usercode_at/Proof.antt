@@ -1,0 +1,103 @@
+-- `usercode_at` meets its contract: a pair more of the pattern at each turn.
+-- Assumes nothing.
+use mathlib.Core.Path.{_≡_, refl, _∙_, ap}
+use mathlib.Core.Bool.{Bool, true}
+use mathlib.Core.List.{List}
+use Prim.Native.Nat.{ℕ, _+_, _*_, _-_, _%_, _^_, _<_, _≤_}
+use native.Mathlib.Omega.{arith}
+use mir.Syntax.{w32}
+use mir.Val.{Fits}
+use lib.ListN.{length}
+use Rattle.part.specs.Device.{known}
+use Rattle.part.specs.declared.Device.{Device}
+use Rattle.image.specs.Bits.{bitAt, gathered}
+use Rattle.settings.specs.Settings.{hasSetting}
+use Rattle.setting_places.specs.Places.{bitsOf, fuseOf}
+use Rattle.setting_bits.specs.SettingBits.{bytesOf, byteOf, bitIn, patternAt}
+use Rattle.setting_bits.proofs.Steps.{bitsRead}
+use Rattle.setting_bits.proofs.Usercode.{usercode, spot-in, spot-low, pair-more}
+use borrow.Author.Needs.{needs}
+use Rattle.setting_bits.proofs.internal.usercode_at.Statement.{statement}
+use Rattle.setting_bits.proofs.internal.usercode_at.Tie as tie
+
+-- what has been read so far
+record Read (d : Device) (form : Bool) (bytes : List ℕ) (pattern pair : ℕ) : Type 0 where
+  upto : pair ≤ 16
+  so-far : pattern ≡ bitsRead d form bytes usercode (2 * pair)
+
+start : (d : Device) (form : Bool) (bytes : List ℕ) → Read d form bytes 0 0
+unfolding gathered
+start d form bytes = record { upto = omega arith; so-far = refl }
+
+module _ (d : Device) (form : Bool) (bytes : List ℕ) (pattern pair : ℕ) (r : Read d form bytes pattern pair) where
+  module _ (k : known d ≡ true) (h : hasSetting d usercode ≡ true) (l : pair < 16) (index bit : ℕ)
+      (x : index ≡ byteOf d form (fuseOf d usercode (2 * pair))) (y : bit ≡ bitIn d form (fuseOf d usercode (2 * pair))) where
+    index-in : length bytes ≡ bytesOf d form → index < length bytes
+    index-in e = spot-in d k h pair l form index bit x y bytes e
+
+    bit-in : bit < 7
+    bit-in = spot-low d k h pair l form index bit x y
+
+    module _ (states : ℕ) (g : states ≡ bitAt bytes index bit + 2 * bitAt bytes index (bit + 1)) where
+      fits : Fits w32 (pattern + states * 2 ^ (2 * pair) % 2 ^ 32)
+      fits = record { fits = pair-more d k h pair l form index bit x y bytes pattern states (r .so-far) g .1 }
+
+      more : Read d form bytes (pattern + states * 2 ^ (2 * pair) % 2 ^ 32) (pair + 1)
+      more = record { upto = omega arith; so-far = pair-more d k h pair l form index bit x y bytes pattern states (r .so-far) g .0 }
+
+  end : 16 ≤ pair → pattern ≡ patternAt d form bytes usercode
+  unfolding patternAt bitsOf
+  end l = let last : 2 * pair ≡ 32 = omega (arith, r .upto) in r .so-far ∙ ap (bitsRead d form bytes usercode) last
+
+abbrev Inv-loop : tie.InvT-loop
+Inv-loop d readout bytes pattern₀ pair₀ pattern pair = Read d readout bytes pattern pair
+
+abbrev μ-loop : tie.MeasureT-loop
+μ-loop d readout bytes pattern₀ pair₀ pattern pair = 16 - pair
+
+loop-holds : tie.Need-loop-holds Inv-loop μ-loop
+loop-holds c = search (needs, start)
+
+usercode-spot-requires : tie.Need-usercode-spot-requires Inv-loop μ-loop
+usercode-spot-requires c κs = search needs
+
+pair-of-requires : tie.Need-pair-of-requires Inv-loop μ-loop
+pair-of-requires c κs = (search (needs, index-in), search (needs, bit-in))
+
+mul-pattern : tie.Need-mul-pattern Inv-loop μ-loop
+mul-pattern c = search needs
+
+shl-pattern : tie.Need-shl-pattern Inv-loop μ-loop
+shl-pattern c = search needs
+
+add-pattern : tie.Need-add-pattern Inv-loop μ-loop
+add-pattern c = search (needs, fits)
+
+add-pair : tie.Need-add-pair Inv-loop μ-loop
+add-pair c = search needs
+
+loop-less : tie.Need-loop-less Inv-loop μ-loop
+loop-less c = search needs
+
+loop-again : tie.Need-loop-again Inv-loop μ-loop
+loop-again c = search (needs, more)
+
+returns : tie.Need-returns Inv-loop μ-loop
+returns c = search (needs, end)
+
+pub usercode-at-spec : {M : Type 1} → statement M
+usercode-at-spec =
+    tie.close
+    (tie.spec
+    Inv-loop
+    μ-loop
+    loop-holds
+    usercode-spot-requires
+    pair-of-requires
+    mul-pattern
+    shl-pattern
+    add-pattern
+    add-pair
+    loop-less
+    loop-again
+    returns)

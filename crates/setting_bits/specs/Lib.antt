@@ -1,0 +1,3 @@
+-- The definitions that the contracts of `setting_bits` cite.
+-- Assumes nothing.
+pub mod SettingBits

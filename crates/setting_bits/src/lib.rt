@@ -1,0 +1,3 @@
+// The bits of a setting in an image or a readout: where each stands, the states that stand there, and a change of them.
+// The functions stand in `internal`: they serve the crates above.
+pub mod internal;

@@ -1,0 +1,7 @@
+-- The definitions that the contracts of `setting_places` cite, in document 01's order.
+-- Assumes nothing.
+pub mod Places
+pub mod Back
+pub mod Answer
+pub mod Operations
+pub mod Cases
