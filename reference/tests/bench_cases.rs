@@ -1,5 +1,5 @@
 // The stored cases of the bench program, held to the one of this package.
-// They are there for the bench program of the library, which is not built yet.
+// The gate runs them with the bench program of the library.
 
 use std::path::Path;
 use std::process::Command;

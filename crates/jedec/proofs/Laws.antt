@@ -5,8 +5,10 @@
 --   assembled-accepted  a text put together in that form, with fields in order and right counts and sums, is accepted
 --   read-back           what the writer writes of an image is accepted and gives that image
 --   seven-back, count-back, sum-back   seven digits, a plain count and four hex digits are read back as the number that was written
+--   values-small        a refusal has a number of 7 to 11, and its value is no larger than the longest text
 pub use Rattle.jedec.proofs.Cases.{cases-hold}
 pub use Rattle.jedec.proofs.Conditions.{accepted-iff}
 pub use Rattle.jedec.proofs.Forms.{assembled-accepted}
 pub use Rattle.jedec.proofs.ReadBack.{read-back}
 pub use Rattle.jedec.proofs.Numbers.{seven-back, count-back, sum-back}
+pub use Rattle.jedec.proofs.Places.{values-small}

@@ -7,4 +7,5 @@ pub mod Cutting
 pub mod Forms
 pub mod Judging
 pub mod ReadBack
+pub mod Places
 pub mod Laws

@@ -94,7 +94,7 @@ text-length d image =
     length-append up (fourHex (sum16 up)) ∙ rw (up-to-length d image, hex-length (sum16 up)) (omega (arith, text-size d))
 
 -- what is stored from the first byte on is what the list then starts with
-stored-first : (out bytes : List ℕ) (n : ℕ) → length bytes ≡ n → n ≤ length out → sets out 0 bytes ≡ bytes ++ drop n out
+pub stored-first : (out bytes : List ℕ) (n : ℕ) → length bytes ≡ n → n ≤ length out → sets out 0 bytes ≡ bytes ++ drop n out
 stored-first out bytes n e h = sets-eq bytes out 0 (omega arith) ∙ rw (zero-add (length bytes), e)
 
 pub text-of : (d : Device) (image out one two three four : List ℕ) (digits end fuses last hex : ℕ) → textBytes d ≤ length out → digits ≡ decimalDigits (fuseCount d)

@@ -280,7 +280,7 @@ fn hex_digit(x: u64) -> u64
 }
 
 // The four upper-case digits of a sum.
-fn four_hex(sum: u16) -> u64
+pub fn four_hex(sum: u16) -> u64
     ensures { λ r. ⌜ r ≡ number (fourHex sum) ⌝ }
 {
     let x = sum as u64;

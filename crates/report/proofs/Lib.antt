@@ -1,0 +1,6 @@
+-- The laws about the report.
+-- Assumes nothing.
+pub mod Lines
+pub mod Choice
+pub mod Answers
+pub mod Laws

@@ -1,0 +1,107 @@
+-- What the bench program writes for its input: document 01, "Bench cases". "The bench program reads standard input (at most 65,536 bytes, more
+-- is 7 at 65536), takes n = 4 where the first QF field reads 41472, else 2, and writes .. exactly these lines"; for a refusal, `refused N at V`.
+use Prim.Native.Nat.{ℕ, _+_}
+use mathlib.Core.Bool.{cond}
+use mathlib.Core.List.{List, [], _∷_, _++_}
+use mathlib.Core.Option.{Option, orElse}
+use mathlib.Core.Option.Option.{none, some}
+use lib.Dec.{eqb, ltb}
+use lib.ListN.{length, drop}
+use Rattle.part.specs.Outcome.{Outcome}
+use Rattle.part.specs.Outcome.Outcome.{accepted, refused}
+use Rattle.part.specs.Device.{blocksOf, fuseCount}
+use Rattle.part.specs.declared.Device.{Device}
+use Rattle.image.specs.Image.{sum16, zerosBelow}
+use Rattle.jedec.specs.Characters.{lf, countDigits, fourHex}
+use Rattle.jedec.specs.Cut.{pieces, Field, fieldsFrom}
+use Rattle.jedec.specs.Judge.{Judged, judge}
+use Rattle.jedec.specs.Judge.Judged.{count, start, list, sum, skipped, bad}
+use Rattle.jedec.specs.Meaning.{meaning}
+
+-- "at most 65,536 bytes"
+abbrev pub most : ℕ
+most = 65536
+
+-- a device of so many blocks, in the small class
+abbrev pub ofBlocks : ℕ → Device
+ofBlocks n = record { blocks = n; class = 0 }
+
+-- the fields of a text, by what stands before each `*`: STX and the design text are no field
+abbrev pub fieldsIn : (ended : List (List ℕ)) → (rest : List ℕ) → List Field
+fieldsIn [] rest = []
+fieldsIn (design ∷ ended) rest = fieldsFrom (length design + 1) ended rest .fields
+
+-- what a field reads as a QF field: the fuse count that it is judged to give. One of bad form reads none; its text is refused 7 for any device
+abbrev pub countIn : Judged → Option ℕ
+countIn (count n) = some n
+countIn (start s) = none
+countIn (list first states) = none
+countIn (sum x) = none
+countIn skipped = none
+countIn bad = none
+
+-- what the first QF field reads
+unfoldable pub firstCount : List Field → Option ℕ
+firstCount [] = none
+firstCount (f ∷ fields) = orElse (countIn (judge (f .bytes))) (firstCount fields)
+
+-- "n = 4 where the first QF field reads 41472, else 2"
+abbrev pub blocksBy : Option ℕ → ℕ
+blocksBy none = 2
+blocksBy (some n) = cond (eqb n (fuseCount (ofBlocks 4))) 4 2
+
+unfoldable pub blocksFor : (text : List ℕ) → ℕ
+blocksFor text = blocksBy (firstCount (fieldsIn (pieces text .ended) (pieces text .rest)))
+
+-- what the text means for that device; "more is 7 at 65536"
+unfoldable pub outcomeOf : (text : List ℕ) → Outcome (List ℕ)
+outcomeOf text = cond (ltb most (length text)) (refused 7 most) (meaning (fuseCount (ofBlocks (blocksFor text))) text)
+
+-- `blocks `, `fuses `, `zero `, `sum `, `refused `, ` at `
+abbrev pub wordBlocks : List ℕ
+wordBlocks = 98 ∷ 108 ∷ 111 ∷ 99 ∷ 107 ∷ 115 ∷ 32 ∷ []
+
+abbrev pub wordFuses : List ℕ
+wordFuses = 102 ∷ 117 ∷ 115 ∷ 101 ∷ 115 ∷ 32 ∷ []
+
+abbrev pub wordZero : List ℕ
+wordZero = 122 ∷ 101 ∷ 114 ∷ 111 ∷ 32 ∷ []
+
+abbrev pub wordSum : List ℕ
+wordSum = 115 ∷ 117 ∷ 109 ∷ 32 ∷ []
+
+abbrev pub wordRefused : List ℕ
+wordRefused = 114 ∷ 101 ∷ 102 ∷ 117 ∷ 115 ∷ 101 ∷ 100 ∷ 32 ∷ []
+
+abbrev pub wordAt : List ℕ
+wordAt = 32 ∷ 97 ∷ 116 ∷ 32 ∷ []
+
+-- a line: a word, digits, LF
+abbrev pub line : (word digits : List ℕ) → List ℕ
+line word digits = word ++ digits ++ lf ∷ []
+
+-- the four lines of an image
+unfoldable pub countLines : Device → (image : List ℕ) → List ℕ
+countLines d image =
+    line wordBlocks (countDigits (blocksOf d))
+    ++ line wordFuses (countDigits (fuseCount d))
+    ++ line wordZero (countDigits (zerosBelow image (fuseCount d)))
+    ++ line wordSum (fourHex (sum16 image))
+
+-- the line of a refusal
+unfoldable pub refusalLine : (number value : ℕ) → List ℕ
+refusalLine number value = wordRefused ++ countDigits number ++ line wordAt (countDigits value)
+
+abbrev pub linesOf : Device → Outcome (List ℕ) → List ℕ
+linesOf d (accepted image) = countLines d image
+linesOf d (refused number value) = refusalLine number value
+
+unfoldable pub reportOf : (text : List ℕ) → List ℕ
+reportOf text = linesOf (ofBlocks (blocksFor text)) (outcomeOf text)
+
+-- some bytes put at the start of a room: how many they are, or refusal 12 with the bytes needed; what the room then holds
+abbrev pub bytesPut : (bytes room : List ℕ) → Outcome ℕ
+bytesPut bytes room = cond (ltb (length room) (length bytes)) (refused 12 (length bytes)) (accepted (length bytes))
+
+abbrev pub atStart : (bytes room : List ℕ) → List ℕ
+atStart bytes room = bytes ++ drop (length bytes) room
