@@ -14,6 +14,7 @@ mod jedec_reader;
 mod jedec_writer;
 mod layout;
 pub mod random;
+mod reader_vectors;
 mod setting;
 mod settings_vectors;
 mod text_vectors;

@@ -9,6 +9,7 @@ use crate::image::{
     zero_count,
 };
 use crate::jedec_writer::text_bytes;
+use crate::reader_vectors::reader_vectors;
 use crate::settings_vectors::settings_vectors;
 use crate::text_vectors::text_vectors;
 use std::fmt::Write;
@@ -23,6 +24,7 @@ pub const PROGRAMS: &[Program] = &[
     ("settings_vectors", settings_vectors),
     ("edit_vectors", edit_vectors),
     ("text_vectors", text_vectors),
+    ("reader_vectors", reader_vectors),
 ];
 
 /// A digest of many words: for each, 1000003 times the digest plus the word, modulo a prime.
@@ -141,9 +143,14 @@ fn part_vectors() -> String {
 pub(crate) fn fill(bytes: &mut [u8], seed: u64) {
     let mut word = seed;
     for byte in bytes {
-        word = (word * 1_103_515_245 + 12_345) % (1 << 31);
+        word = next(word);
         *byte = (word >> 16) as u8;
     }
+}
+
+/// The word after a word in a fixed row of numbers that look random.
+pub(crate) fn next(word: u64) -> u64 {
+    (word * 1_103_515_245 + 12_345) % (1 << 31)
 }
 
 /// The digest of the bytes that a call was lent, and its answer.

@@ -3,6 +3,7 @@
 ghost use Prim.Native.Nat.{_≤_};
 use part::Device;
 use part::SizesAnswer;
+use vectors::at_most;
 
 // OE_MUX of macrocell 0 of block 0, of the smallest part.
 const OE_MUX: u32 = 15563;
@@ -118,15 +119,6 @@ fn answers(blocks: u32, class: u32, image: &mut [u8], readout: &mut [u8]) {
     on_any_bytes(blocks, class, image, readout);
     on_its_readout(blocks, class, &image[..], readout);
     vectors::end_line();
-}
-
-fn at_most(n: usize, limit: usize) -> usize
-    ensures { λ r. ⌜ r ≤ limit ⌝ }
-{
-    if n < limit {
-        return n;
-    }
-    limit
 }
 
 fn with_lengths(blocks: u32, class: u32, image: &mut [u8], readout: &mut [u8], i: usize, r: usize) {

@@ -3,6 +3,7 @@
 ghost use Prim.Native.Nat.{_≤_};
 use part::Device;
 use part::SizesAnswer;
+use vectors::at_most;
 
 // The answer of a call, and the digest of the bytes that were lent to it.
 fn passage(name: &[u8], answer: u64, bytes: &[u8]) {
@@ -56,15 +57,6 @@ fn answers(blocks: u32, class: u32, image: &mut [u8], readout: &mut [u8]) {
     and_back(blocks, class, &readout[..], image);
     strays(blocks, class, readout, image);
     vectors::end_line();
-}
-
-fn at_most(n: usize, limit: usize) -> usize
-    ensures { λ r. ⌜ r ≤ limit ⌝ }
-{
-    if n < limit {
-        return n;
-    }
-    limit
 }
 
 fn with_lengths(blocks: u32, class: u32, image: &mut [u8], readout: &mut [u8], i: usize, r: usize) {

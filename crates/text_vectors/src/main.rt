@@ -5,21 +5,13 @@ ghost use Prim.Native.Nat.{_≤_};
 ghost use lib.ListN.{length};
 use part::Device;
 use part::SizesAnswer;
+use vectors::at_most;
 
 // Room for the longest text and a few bytes after it.
 fn room_for_text() -> [u8; 411300]
     ensures { λ r. ⌜ 411300 ≡ length r ⌝ }
 {
     [0; 411300]
-}
-
-fn at_most(n: usize, limit: usize) -> usize
-    ensures { λ r. ⌜ r ≤ limit ⌝ }
-{
-    if n < limit {
-        return n;
-    }
-    limit
 }
 
 fn one_less(n: u32) -> u32 {

@@ -1,5 +1,6 @@
 // What the programs that run vectors share: a digest of many answers in one number, and the printing of a line.
 // Nothing here is proved of what is printed: it is compared with what the independent program prints.
+ghost use Prim.Native.Nat.{_≤_};
 
 const PRIME: u64 = 4294967291;
 
@@ -50,4 +51,14 @@ pub fn put(word: &[u8], n: u64) {
 
 pub fn end_line() {
     io::write_all(libc::STDOUT_FILENO, b"\n");
+}
+
+// A number, or a limit that it is over.
+pub fn at_most(n: usize, limit: usize) -> usize
+    ensures { λ r. ⌜ r ≤ limit ⌝ }
+{
+    if n < limit {
+        return n;
+    }
+    limit
 }

@@ -1,0 +1,39 @@
+-- `read_short_image` is safe: the part that it lends is within the whole.
+-- Assumes nothing.
+use lib.Seq.{length-take-le}
+use borrow.Author.Needs.{needs}
+use Rattle.reader_vectors.proofs.read_short_image.Statement.{statement}
+use Rattle.reader_vectors.proofs.read_short_image.Tie as tie
+
+at-most-requires : tie.Need-at-most-requires
+at-most-requires c κs = search needs
+
+slice-aggregate-read : tie.Need-slice-aggregate-read
+slice-aggregate-read c = search (needs, length-take-le)
+
+slice-relend-prefix-read : tie.Need-slice-relend-prefix-read
+slice-relend-prefix-read c = search needs
+
+slice-aggregate-read-2 : tie.Need-slice-aggregate-read-2
+slice-aggregate-read-2 c = search (needs, length-take-le)
+
+read-requires : tie.Need-read-requires
+read-requires c κs = search needs
+
+same-length : tie.Need-same-length
+same-length c = search needs
+
+returns : tie.Need-returns
+returns c = search needs
+
+pub read-short-image-spec : {M : Type 1} → statement M
+read-short-image-spec =
+    tie.close
+    (tie.spec
+    at-most-requires
+    slice-aggregate-read
+    slice-relend-prefix-read
+    slice-aggregate-read-2
+    read-requires
+    same-length
+    returns)

@@ -1,0 +1,51 @@
+-- `with_sizes` is safe: the parts that it lends are within the whole.
+-- Assumes nothing.
+use lib.Seq.{length-take-le}
+use borrow.Author.Needs.{needs}
+use Rattle.reader_vectors.proofs.with_sizes.Statement.{statement}
+use Rattle.reader_vectors.proofs.with_sizes.Tie as tie
+
+at-most-requires : tie.Need-at-most-requires
+at-most-requires c κs = search needs
+
+at-most-requires-2 : tie.Need-at-most-requires-2
+at-most-requires-2 c κs = search needs
+
+slice-relend-prefix-on-text : tie.Need-slice-relend-prefix-on-text
+slice-relend-prefix-on-text c = search needs
+
+slice-aggregate-on-text : tie.Need-slice-aggregate-on-text
+slice-aggregate-on-text c = search (needs, length-take-le)
+
+slice-relend-prefix-on-text-2 : tie.Need-slice-relend-prefix-on-text-2
+slice-relend-prefix-on-text-2 c = search needs
+
+slice-aggregate-on-text-2 : tie.Need-slice-aggregate-on-text-2
+slice-aggregate-on-text-2 c = search (needs, length-take-le)
+
+on-text-requires : tie.Need-on-text-requires
+on-text-requires c κs = search needs
+
+same-length : tie.Need-same-length
+same-length c = search needs
+
+same-length-2 : tie.Need-same-length-2
+same-length-2 c = search needs
+
+returns : tie.Need-returns
+returns c = search needs
+
+pub with-sizes-spec : {M : Type 1} → statement M
+with-sizes-spec =
+    tie.close
+    (tie.spec
+    at-most-requires
+    at-most-requires-2
+    slice-relend-prefix-on-text
+    slice-aggregate-on-text
+    slice-relend-prefix-on-text-2
+    slice-aggregate-on-text-2
+    on-text-requires
+    same-length
+    same-length-2
+    returns)
