@@ -1,0 +1,195 @@
+// A whole program that links the archive from Rust: it reads a JEDEC text, reads and sets a setting, writes the text again and makes the readout.
+// link_from_rust TEXT NEW_TEXT; the part has two function blocks and the small class.
+
+use std::{env, fs};
+
+// The functions of include/xc9500.h that are used here: a slice is a pointer and a length.
+#[link(name = "capi", kind = "static")]
+extern "C" {
+    fn xc9500_fuse_sum(blocks: u32, class: u32, image: *const u8, image_len: usize) -> u64;
+    fn xc9500_zero_count(blocks: u32, class: u32, image: *const u8, image_len: usize) -> u64;
+    fn xc9500_image_to_readout(
+        blocks: u32,
+        class: u32,
+        image: *const u8,
+        image_len: usize,
+        readout: *mut u8,
+        readout_len: usize,
+    ) -> u64;
+    fn xc9500_image_to_text(
+        blocks: u32,
+        class: u32,
+        image: *const u8,
+        image_len: usize,
+        text: *mut u8,
+        text_len: usize,
+    ) -> u64;
+    fn xc9500_text_to_image(
+        blocks: u32,
+        class: u32,
+        text: *const u8,
+        text_len: usize,
+        image: *mut u8,
+        image_len: usize,
+    ) -> u64;
+    fn xc9500_setting_at_fuse(blocks: u32, class: u32, fuse: u32) -> u64;
+    fn xc9500_read_in_image(
+        blocks: u32,
+        class: u32,
+        image: *const u8,
+        image_len: usize,
+        setting: u32,
+    ) -> u64;
+    fn xc9500_read_in_readout(
+        blocks: u32,
+        class: u32,
+        readout: *const u8,
+        readout_len: usize,
+        setting: u32,
+    ) -> u64;
+    fn xc9500_set_in_image(
+        blocks: u32,
+        class: u32,
+        image: *mut u8,
+        image_len: usize,
+        setting: u32,
+        pattern: u32,
+    ) -> u64;
+}
+
+const BLOCKS: u32 = 2;
+const SMALL: u32 = 0;
+const IMAGE_BYTES: usize = BLOCKS as usize * (72 * 108 + BLOCKS as usize * 18 * 36) / 8;
+const READOUT_BYTES: usize = BLOCKS as usize * (72 * 15 + BLOCKS as usize * 18 * 5);
+const NONE: u64 = (1 << 56) - 1;
+
+/// The result in the word of a call, or the refusal with its number and value.
+fn result(call: &str, word: u64) -> Result<u64, String> {
+    let (number, value) = (word >> 56, word & NONE);
+    if number == 0 {
+        Ok(value)
+    } else {
+        Err(format!("{call}: refused {number}, value {value}"))
+    }
+}
+
+// Safe in all calls: the functions take any numbers, and each slice is whole and lent to the call alone.
+fn text_to_image(text: &[u8], image: &mut [u8]) -> Result<u64, String> {
+    let word = unsafe {
+        xc9500_text_to_image(
+            BLOCKS,
+            SMALL,
+            text.as_ptr(),
+            text.len(),
+            image.as_mut_ptr(),
+            image.len(),
+        )
+    };
+    result("text_to_image", word)
+}
+
+fn image_to_text(image: &[u8], text: &mut [u8]) -> u64 {
+    unsafe {
+        xc9500_image_to_text(
+            BLOCKS,
+            SMALL,
+            image.as_ptr(),
+            image.len(),
+            text.as_mut_ptr(),
+            text.len(),
+        )
+    }
+}
+
+fn set_in_image(image: &mut [u8], setting: u32, pattern: u32) -> u64 {
+    unsafe {
+        xc9500_set_in_image(
+            BLOCKS,
+            SMALL,
+            image.as_mut_ptr(),
+            image.len(),
+            setting,
+            pattern,
+        )
+    }
+}
+
+fn report(what: &str, image: &[u8]) -> Result<(), String> {
+    let zero = unsafe { xc9500_zero_count(BLOCKS, SMALL, image.as_ptr(), image.len()) };
+    let sum = unsafe { xc9500_fuse_sum(BLOCKS, SMALL, image.as_ptr(), image.len()) };
+    let (zero, sum) = (result("zero_count", zero)?, result("fuse_sum", sum)?);
+    println!("{what}: zero {zero}, sum {sum:04X}");
+    Ok(())
+}
+
+fn main() -> Result<(), String> {
+    let names: Vec<_> = env::args_os().skip(1).collect();
+    let [source, target] = &names[..] else {
+        return Err("usage: link_from_rust TEXT NEW_TEXT".to_string());
+    };
+
+    // Text to image.
+    let text = fs::read(source).map_err(|error| format!("the text: {error}"))?;
+    let mut image = [0; IMAGE_BYTES];
+    text_to_image(&text, &mut image)?;
+    report("read", &image)?;
+
+    // The setting that has fuse 3138, by its number: OE_MUX of macrocell 0 of block 0.
+    let named = result("setting_at_fuse", unsafe {
+        xc9500_setting_at_fuse(BLOCKS, SMALL, 3138)
+    })?;
+    if named == NONE {
+        return Err("no setting has fuse 3138".to_string());
+    }
+    let setting = (named / 32) as u32;
+    let word = unsafe { xc9500_read_in_image(BLOCKS, SMALL, image.as_ptr(), image.len(), setting) };
+    println!(
+        "setting {setting}: pattern {}",
+        result("read_in_image", word)?
+    );
+
+    // It has three bits: 7 is a pattern of it, and 8 is refused and changes nothing.
+    result("set_in_image", set_in_image(&mut image, setting, 7))?;
+    report("set to 7", &image)?;
+    println!(
+        "set to 8: refused {}",
+        set_in_image(&mut image, setting, 8) >> 56
+    );
+
+    // Image to text: a refusal 12 says how many bytes are needed. Then that text to an image.
+    let needed = image_to_text(&image, &mut []);
+    if needed >> 56 != 12 {
+        return Err("image_to_text: no room was enough".to_string());
+    }
+    let mut text = vec![0; (needed & NONE) as usize];
+    let length = result("image_to_text", image_to_text(&image, &mut text))? as usize;
+    fs::write(target, &text[..length]).map_err(|error| format!("the new text: {error}"))?;
+    let mut again = [0; IMAGE_BYTES];
+    text_to_image(&text[..length], &mut again)?;
+    if again != image {
+        return Err("the new text is of another image".to_string());
+    }
+    println!("new text: {length} bytes");
+
+    // Image to readout, where the setting reads the same.
+    let mut readout = [0; READOUT_BYTES];
+    let word = unsafe {
+        xc9500_image_to_readout(
+            BLOCKS,
+            SMALL,
+            image.as_ptr(),
+            image.len(),
+            readout.as_mut_ptr(),
+            readout.len(),
+        )
+    };
+    result("image_to_readout", word)?;
+    let word =
+        unsafe { xc9500_read_in_readout(BLOCKS, SMALL, readout.as_ptr(), readout.len(), setting) };
+    println!(
+        "readout: {} bytes, pattern {}",
+        readout.len(),
+        result("read_in_readout", word)?
+    );
+    Ok(())
+}
