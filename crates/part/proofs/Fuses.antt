@@ -2,14 +2,14 @@
 -- Stated once for every block count.
 use mathlib.Core.Path.{_≡_, _∙_}
 use mathlib.Core.Bool.{true, false}
-use Prim.Native.Nat.{ℕ, _+_, _*_, _-_, _/_, _%_, _<_}
+use Prim.Native.Nat.{ℕ, _+_, _*_, _-_, _/_, _%_, _≤_, _<_}
 use native.Mathlib.Omega.{arith}
 use native.Mathlib.Nat.{div-lt-iff-lt-mul, div-add-mod', mod-lt}
 use lib.Arith.{digits-div, digits-mod, digits-lt}
 use lib.Dec.{ltb}
 use borrow.Author.Tests.{lt-ltb, le-ltb}
-use Rattle.part.specs.Device.{fuseCount, blockFuses, mainStart, wireAndStart}
-use Rattle.part.specs.Place.{hasPlace, hasByte, widthOf, fuseOfPlace, placeOfFuse, placeInBlock}
+use Rattle.part.specs.Device.{fuseCount, blockFuses, mainFuses, mainStart, wireAndStart}
+use Rattle.part.specs.Place.{hasPlace, hasByte, widthOf, fuseOfPlace, placeInMain, placeInWireAnd, placeInBlock, placeOfFuse}
 use Rattle.part.specs.declared.Device.{Device}
 use Rattle.part.specs.declared.Place.{Place}
 use Rattle.part.specs.declared.BytePlace.{BytePlace}
@@ -83,3 +83,13 @@ in-byte d (WireAnd block subarea row column) bit h hb =
 pub of-place : (d : Device) (p : Place) → hasPlace d p ≡ true → Found d p
 unfolding hasPlace
 of-place d p h = let facts = simp tests at h in in-byte d (p .byte) (p .bit) (facts .0) (facts .1)
+
+-- the place of a fuse, by what is left of it in its block
+module _ (d : Device) (f block rest : ℕ) (e : block ≡ f / blockFuses d) (g : rest ≡ f % blockFuses d) (p : Place) where
+  pub place-in-main : p ≡ placeInMain block rest → rest < mainFuses → p ≡ placeOfFuse d f
+  unfolding placeOfFuse
+  place-in-main h l = h ∙ rw (← e, ← g, lt-ltb rest mainFuses l)
+
+  pub place-in-wire-and : p ≡ placeInWireAnd block (rest - mainFuses) → mainFuses ≤ rest → p ≡ placeOfFuse d f
+  unfolding placeOfFuse
+  place-in-wire-and h l = h ∙ rw (← e, ← g, le-ltb rest mainFuses l)

@@ -2,9 +2,12 @@
 // A function here may require that the device is known or has the place; nothing here is part of the public interface.
 ghost use mathlib.Core.Path.{_≡_};
 ghost use mathlib.Core.Bool.{true};
-ghost use Prim.Native.Nat.{_+_, _*_, _/_, _^_, _<_, _≤_};
+ghost use Prim.Native.Nat.{_+_, _*_, _/_, _%_, _^_, _<_, _≤_};
+ghost use Rattle.part.specs.Outcome.Outcome.{accepted};
+ghost use Rattle.part.specs.Answer.{addressOutcome};
 ghost use Rattle.part.specs.Device.{known, blocksOf, isLarge, columnWidth, columnStart, mainFuses, subareaFuses, inBlock, inDevice, blockFuses, fuseCount, imageBytes, readoutBytes, textBytes, decimalDigits};
-ghost use Rattle.part.specs.Place.{hasByte, widthOf, columnOf, bitOf, firstFuse, placeOfFuse, field, addressOfByte, byteOfAddress, indexOfByte};
+ghost use Rattle.part.specs.Place.{hasByte, widthOf, columnOf, bitOf, firstFuse, placeInMain, placeInWireAnd, placeOfFuse, field, addressOfByte, byteOfAddress, indexOfByte};
+use super::AddressAnswer;
 use super::BytePlace;
 use super::Device;
 use super::DeviceAddress;
@@ -23,7 +26,7 @@ const MAIN_ROW_FUSES: u32 = 9 * 8 + 6 * 6;
 
 const WIRE_AND_ROW_FUSES: u32 = 8 + 4 * 7;
 
-const MAIN_FUSES: u32 = 72 * 108;
+pub const MAIN_FUSES: u32 = 72 * 108;
 
 const SUBAREA_FUSES: u32 = 18 * 36;
 
@@ -284,38 +287,65 @@ fn block_of_fuse(d: Device, f: u32) -> u32
     ((f as u64 * reciprocal(d)) >> 34) as u32
 }
 
-// The place of a fuse, by the steps of the forward routine of document 003.
-pub fn place_of_fuse(d: Device, fuse: FuseNumber) -> Place
+// The block of a fuse, and the fuses of the block before it.
+pub struct InBlock {
+    pub block: u32,
+    pub rest: u32,
+}
+
+// The place of a fuse, by the steps of the forward routine of document 003: its block ..
+pub fn in_its_block(d: Device, fuse: FuseNumber) -> InBlock
     requires { ⌜ (known d ≡ true) × (fuse .0 < fuseCount d) ⌝ }
-    ensures { λ r. ⌜ r ≡ placeOfFuse d (fuse .0) ⌝ }
+    ensures { λ r. ⌜ (r .block ≡ fuse .0 / blockFuses d) × (r .rest ≡ fuse .0 % blockFuses d) ⌝ }
 {
     let f = fuse.0;
     let per_block = in_block(d, MAIN_FUSES, SUBAREA_FUSES);
     let block = block_of_fuse(d, f);
     let rest = f - block * per_block;
-    if rest < MAIN_FUSES {
-        let at = column_and_bit(9, 6, rest % MAIN_ROW_FUSES);
-        return Place {
-            byte: BytePlace::Main {
-                block,
-                row: rest / MAIN_ROW_FUSES,
-                column: at.column,
-            },
-            bit: at.bit,
-        };
+    InBlock { block, rest }
+}
+
+// .. its place in a main area ..
+pub fn main_place(block: u32, rest: u32) -> Place
+    ensures { λ r. ⌜ r ≡ placeInMain block rest ⌝ }
+{
+    let at = column_and_bit(9, 6, rest % MAIN_ROW_FUSES);
+    Place {
+        byte: BytePlace::Main {
+            block,
+            row: rest / MAIN_ROW_FUSES,
+            column: at.column,
+        },
+        bit: at.bit,
     }
-    let past = rest - MAIN_FUSES;
-    let left = past % SUBAREA_FUSES;
+}
+
+// .. or in the subareas.
+pub fn wire_and_place(block: u32, rest: u32) -> Place
+    ensures { λ r. ⌜ r ≡ placeInWireAnd block rest ⌝ }
+{
+    let left = rest % SUBAREA_FUSES;
     let at = column_and_bit(1, 7, left % WIRE_AND_ROW_FUSES);
     Place {
         byte: BytePlace::WireAnd {
             block,
-            subarea: past / SUBAREA_FUSES,
+            subarea: rest / SUBAREA_FUSES,
             row: left / WIRE_AND_ROW_FUSES,
             column: at.column,
         },
         bit: at.bit,
     }
+}
+
+pub fn place_of_fuse(d: Device, fuse: FuseNumber) -> Place
+    requires { ⌜ (known d ≡ true) × (fuse .0 < fuseCount d) ⌝ }
+    ensures { λ r. ⌜ r ≡ placeOfFuse d (fuse .0) ⌝ }
+{
+    let at = in_its_block(d, fuse);
+    if at.rest < MAIN_FUSES {
+        return main_place(at.block, at.rest);
+    }
+    wire_and_place(at.block, at.rest - MAIN_FUSES)
 }
 
 // A number with `value` put above its low `from` bits, which are all that it has.
@@ -358,6 +388,15 @@ pub fn address_of_byte(d: Device, byte: BytePlace) -> DeviceAddress
             DeviceAddress(with_field(area, 13, block))
         }
     }
+}
+
+// The address and the bit of a place of the device.
+pub fn address_and_bit(d: Device, place: Place) -> AddressAnswer
+    requires { ⌜ (known d ≡ true) × (hasByte d (place .byte) ≡ true) ⌝ }
+    ensures { λ r. ⌜ addressOutcome r ≡ accepted (addressOfByte (place .byte), place .bit) ⌝ }
+{
+    let byte = place.byte;
+    AddressAnswer::At(address_of_byte(d, byte), place.bit)
 }
 
 // The byte that an address names, if any device has it.

@@ -172,9 +172,12 @@ pub fn address_of_fuse(d: Device, fuse: FuseNumber) -> AddressAnswer
     if internal::fuse_count(d) <= fuse.0 {
         return AddressAnswer::Refused(Refusal::NoSuchFuse);
     }
-    let place = internal::place_of_fuse(d, fuse);
-    let byte = place.byte;
-    AddressAnswer::At(internal::address_of_byte(d, byte), place.bit)
+    let at = internal::in_its_block(d, fuse);
+    if at.rest < internal::MAIN_FUSES {
+        return internal::address_and_bit(d, internal::main_place(at.block, at.rest));
+    }
+    let past = at.rest - internal::MAIN_FUSES;
+    internal::address_and_bit(d, internal::wire_and_place(at.block, past))
 }
 
 // The fuse of an address and a bit. Refused: 1, 3.

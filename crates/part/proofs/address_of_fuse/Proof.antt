@@ -1,21 +1,22 @@
 -- `address_of_fuse` meets its contract: the tests are the definition's, and a fuse below the count lies at a byte of the device.
 -- Assumes nothing.
-use mathlib.Core.Path.{_≡_}
+use mathlib.Core.Path.{_≡_, _∙_}
 use mathlib.Core.Bool.{true, false}
-use Prim.Native.Nat.{ℕ, _<_, _≤_}
+use Prim.Native.Nat.{ℕ, _-_, _/_, _%_, _<_, _≤_}
 use native.Mathlib.Nat.{le-of-lt}
 use native.Mathlib.Omega.{arith}
 use borrow.Author.Needs.{needs}
 use borrow.Author.Tests.{lt-ltb, le-ltb}
+use Rattle.part.specs.Outcome.{Outcome}
 use Rattle.part.specs.Outcome.Outcome.{accepted, refused}
-use Rattle.part.specs.Device.{known, fuseCount}
-use Rattle.part.specs.Place.{hasPlace, hasByte, placeOfFuse, addressOfByte}
+use Rattle.part.specs.Device.{known, mainFuses, blockFuses, fuseCount}
+use Rattle.part.specs.Place.{hasPlace, hasByte, placeInMain, placeInWireAnd, placeOfFuse, addressOfByte}
 use Rattle.part.specs.Convert.{addressOfFuse}
 use Rattle.part.specs.declared.Device.{Device}
 use Rattle.part.specs.declared.Place.{Place}
 use Rattle.part.proofs.Facts.{and-iff}
 use Rattle.part.proofs.Devices.{is-known, is-unknown}
-use Rattle.part.proofs.Fuses.{at-fuse}
+use Rattle.part.proofs.Fuses.{at-fuse, place-in-main, place-in-wire-and}
 use Rattle.part.proofs.address_of_fuse.Statement.{statement}
 use Rattle.part.proofs.address_of_fuse.Tie as tie
 
@@ -35,10 +36,17 @@ its-byte : (d : Device) (fuse : ℕ) (p : Place) → p ≡ placeOfFuse d fuse �
 unfolding hasPlace
 its-byte d fuse p e h = rw e (and-iff _ _ .0 (at-fuse d fuse h .0) .0)
 
-the-address : (d : Device) (fuse : ℕ) (p : Place) (address : ℕ) → known d ≡ true → fuse < fuseCount d → p ≡ placeOfFuse d fuse
-    → address ≡ addressOfByte (p .byte) → accepted (address, p .bit) ≡ addressOfFuse d fuse
+module _ (d : Device) (fuse block rest : ℕ) (e : block ≡ fuse / blockFuses d) (g : rest ≡ fuse % blockFuses d) (p : Place) (h : fuse < fuseCount d) where
+  main-byte : p ≡ placeInMain block rest → rest < mainFuses → hasByte d (p .byte) ≡ true
+  main-byte m l = its-byte d fuse p (place-in-main d fuse block rest e g p m l) h
+
+  wire-and-byte : p ≡ placeInWireAnd block (rest - mainFuses) → mainFuses ≤ rest → hasByte d (p .byte) ≡ true
+  wire-and-byte m l = its-byte d fuse p (place-in-wire-and d fuse block rest e g p m l) h
+
+the-address : (d : Device) (fuse : ℕ) (p : Place) (o : Outcome (ℕ × ℕ)) → known d ≡ true → fuse < fuseCount d → p ≡ placeOfFuse d fuse
+    → o ≡ accepted (addressOfByte (p .byte), p .bit) → o ≡ addressOfFuse d fuse
 unfolding addressOfFuse
-the-address d fuse p address k h e e2 = rw (k, lt-ltb fuse (fuseCount d) h, e2, e)
+the-address d fuse p o k h e g = g ∙ rw (k, lt-ltb fuse (fuseCount d) h, e)
 
 is-known-requires : tie.Need-is-known-requires
 is-known-requires c κs = search needs
@@ -52,14 +60,26 @@ fuse-count-requires c κs = search (needs, is-known)
 returns-2 : tie.Need-returns-2
 returns-2 c = search (needs, is-known, no-fuse, le-of-lt)
 
-place-of-fuse-requires : tie.Need-place-of-fuse-requires
-place-of-fuse-requires c κs = search (needs, is-known, below)
+in-its-block-requires : tie.Need-in-its-block-requires
+in-its-block-requires c κs = search (needs, is-known, below)
 
-address-of-byte-requires : tie.Need-address-of-byte-requires
-address-of-byte-requires c κs = search (needs, is-known, below, its-byte)
+main-place-requires : tie.Need-main-place-requires
+main-place-requires c κs = search needs
+
+address-and-bit-requires : tie.Need-address-and-bit-requires
+address-and-bit-requires c κs = search (needs, is-known, below, main-byte)
 
 returns-3 : tie.Need-returns-3
-returns-3 c = search (needs, is-known, below, the-address)
+returns-3 c = search (needs, is-known, below, the-address, place-in-main)
+
+wire-and-place-requires : tie.Need-wire-and-place-requires
+wire-and-place-requires c κs = search needs
+
+address-and-bit-requires-2 : tie.Need-address-and-bit-requires-2
+address-and-bit-requires-2 c κs = search (needs, is-known, below, wire-and-byte)
+
+returns-4 : tie.Need-returns-4
+returns-4 c = search (needs, is-known, below, the-address, place-in-wire-and)
 
 pub address-of-fuse-spec : {M : Type 1} → statement M
 address-of-fuse-spec =
@@ -69,6 +89,10 @@ address-of-fuse-spec =
     returns
     fuse-count-requires
     returns-2
-    place-of-fuse-requires
-    address-of-byte-requires
-    returns-3)
+    in-its-block-requires
+    main-place-requires
+    address-and-bit-requires
+    returns-3
+    wire-and-place-requires
+    address-and-bit-requires-2
+    returns-4)

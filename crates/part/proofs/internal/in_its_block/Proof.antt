@@ -1,0 +1,25 @@
+-- `in_its_block` meets its contract: the quotient by a product, and what is left.
+-- Assumes nothing.
+use borrow.Author.Needs.{needs}
+use Rattle.part.proofs.Devices.{block-fits, block-product, left-in-block}
+use Rattle.part.proofs.internal.in_its_block.Statement.{statement}
+use Rattle.part.proofs.internal.in_its_block.Tie as tie
+
+in-block-requires : tie.Need-in-block-requires
+in-block-requires c κs = search needs
+
+block-of-fuse-requires : tie.Need-block-of-fuse-requires
+block-of-fuse-requires c κs = search needs
+
+mul-rest : tie.Need-mul-rest
+mul-rest c = record { fits = search (needs, block-product) }
+
+sub-rest : tie.Need-sub-rest
+sub-rest c = search (needs, block-fits)
+
+returns : tie.Need-returns
+returns c = search (needs, left-in-block)
+
+pub in-its-block-spec : {M : Type 1} → statement M
+in-its-block-spec =
+    tie.close (tie.spec in-block-requires block-of-fuse-requires mul-rest sub-rest returns)

@@ -1,0 +1,14 @@
+-- `wire_and_place` meets its contract: the subarea, the row, and the column and bit of what is left of it.
+-- Assumes nothing.
+use borrow.Author.Needs.{needs}
+use Rattle.part.proofs.internal.wire_and_place.Statement.{statement}
+use Rattle.part.proofs.internal.wire_and_place.Tie as tie
+
+column-and-bit-requires : tie.Need-column-and-bit-requires
+column-and-bit-requires c κs = search needs
+
+returns : tie.Need-returns
+returns c = rw (c .column-and-bit .ensures .0, c .column-and-bit .ensures .1)
+
+pub wire-and-place-spec : {M : Type 1} → statement M
+wire-and-place-spec = tie.close (tie.spec column-and-bit-requires returns)
