@@ -3,7 +3,7 @@
 use mathlib.Core.Path.{_≡_, refl, sym, _∙_, ap, ap₂}
 use mathlib.Core.Bool.{Bool, true}
 use mathlib.Core.List.{List, [], _∷_, _++_}
-use Prim.Native.Nat.{ℕ, _+_, _*_, _-_, _/_, _%_, _^_, _≤_, _<_}
+use Prim.Native.Nat.{ℕ, suc, _+_, _*_, _-_, _/_, _%_, _^_, _≤_, _<_}
 use native.Mathlib.Omega.{arith}
 use native.Mathlib.Numerals.{add-one}
 use native.Mathlib.Nat.{mod-lt}
@@ -56,34 +56,65 @@ eight-bits bits seven top e f =
         → seven + top * 2 ^ 56 ≡ number (bitsText 8 (bits % 2 ^ 8 % 2 ^ 7)) + bits % 2 ^ 8 / 2 ^ 7 * 2 ^ 56
     e' low high = ap₂ (λ (x y : ℕ). x + y * 2 ^ 56) (e ∙ ap (λ (y : ℕ). number (bitsText 8 y)) low) (f ∙ high)
 
+-- the number of some bytes fits in them
+number-small : (bytes : List ℕ) → number bytes < 2 ^ total (replicate (length bytes) 8)
+unfolding number
+number-small bytes = join-small (replicate (length bytes) 8) bytes
+
+-- a space before seven
+spaced-right : ℕ → Bool
+spaced-right i = eqb (number (bitsText 8 i) * 2 ^ 8 % 2 ^ 64 + 32) (number (space ∷ bitsText 7 i))
+
+spaced-all : allBelow spaced-right 128 ≡ true
+unfolding spaced-right bitsText number cut join
+spaced-all = refl
+
+module _ (bits seven : ℕ) (e : seven ≡ number (bitsText 8 (bits % 2 ^ 7))) where
+  pub spaced-bits : seven * 2 ^ 8 % 2 ^ 64 + 32 ≡ number (space ∷ bitsText 7 (bits % 2 ^ 7))
+  unfolding spaced-right
+  spaced-bits = rw e (eqb-true _ _ (below-all spaced-right 128 spaced-all (bits % 2 ^ 7) (mod-lt bits (pow-pos 7))))
+
+  pub spaced-small : seven * 2 ^ 8 % 2 ^ 64 + 32 < 2 ^ 64
+  unfolding bitsText cut total
+  spaced-small = rw spaced-bits (number-small (space ∷ bitsText 7 (bits % 2 ^ 7)))
+
 -- the bytes of the code's words that are always the same
 blank : cut (replicate 1 8) 0x20 ≡ space ∷ []
 unfolding cut
 blank = refl
 
--- a column from a word of eight characters, of which the first `width` are its bits
-column-of : (out one two : List ℕ) (at width k word r : ℕ) → 6 ≤ width → width ≤ k → k ≤ 8 → r ≡ number (bitsText 8 (word % 2 ^ k))
-    → one ≡ sets out at (cut (replicate 1 8) 0x20) → two ≡ sets one (at + 1) (cut (replicate 8 8) r) → Stored out two at (columnText width word)
-column-of out one two at width k word r h hk h8 e e1 e2 =
+-- the characters of more bits than a column has
+column-of : (width k word : ℕ) → width ≤ k → bitsText k (word % 2 ^ k) ≡ bitsText width word ++ bitsText (k - width) (word % 2 ^ k / 2 ^ width)
+column-of width k word h =
     let x = word % 2 ^ k in
-    let again : cut (replicate 8 8) r ≡ bitsText 8 x = rw e (ap (λ (n : ℕ). cut (replicate n 8) (number (bitsText 8 x))) (sym (bits-length 8 x)) ∙ cut-number (bitsText 8 x) (bits-bytes 8 x)) in
-    let whole : width + (8 - width) ≡ 8 = omega arith in
-    let parts : bitsText 8 x ≡ bitsText width x ++ bitsText (8 - width) (x / 2 ^ width) = ap (λ (n : ℕ). bitsText n x) (sym whole) ∙ bits-append width (8 - width) x in
+    let whole : width + (k - width) ≡ k = omega arith in
     let more : k - width + width ≡ k = omega arith in
     let own : bitsText width x ≡ bitsText width word = ap (λ (n : ℕ). bitsText width (word % 2 ^ n)) (sym more) ∙ bits-low width (k - width) word in
+    ap (λ (n : ℕ). bitsText n x) (sym whole) ∙ bits-append width (k - width) x ∙ ap (λ (l : List ℕ). l ++ bitsText (k - width) (x / 2 ^ width)) own
+
+-- a column of eight bits from a space and a word, and a narrower one from one word
+pub wide-column : (out one two : List ℕ) (at width word r : ℕ) → width ≡ 8 → r ≡ number (bitsText 8 (word % 2 ^ 8))
+    → one ≡ sets out at (cut (replicate 1 8) 0x20) → two ≡ sets one (at + 1) (cut (replicate 8 8) r) → Stored out two at (columnText width word)
+wide-column out one two at width word r h e e1 e2 =
+    let x = word % 2 ^ 8 in
+    let again : cut (replicate 8 8) r ≡ bitsText 8 x = rw e (ap (λ (n : ℕ). cut (replicate n 8) (number (bitsText 8 x))) (sym (bits-length 8 x)) ∙ cut-number (bitsText 8 x) (bits-bytes 8 x)) in
     record {
       more = bitsText (8 - width) (x / 2 ^ width);
       few = omega (arith, bits-length (8 - width) (x / 2 ^ width));
-      holds = e2 ∙ rw (e1, blank, again, add-one at) (ap (sets out at) (ap (λ (l : List ℕ). space ∷ l) (parts ∙ ap (λ (l : List ℕ). l ++ bitsText (8 - width) (x / 2 ^ width)) own)));
+      holds = e2 ∙ rw (e1, blank, again, add-one at) (ap (λ (l : List ℕ). sets out at (space ∷ l)) (column-of width 8 word (omega arith)));
     }
 
-pub wide-column : (out one two : List ℕ) (at width word r : ℕ) → width ≡ 8 → r ≡ number (bitsText 8 (word % 2 ^ 8))
-    → one ≡ sets out at (cut (replicate 1 8) 0x20) → two ≡ sets one (at + 1) (cut (replicate 8 8) r) → Stored out two at (columnText width word)
-wide-column out one two at width word r h = column-of out one two at width 8 word r (omega arith) (omega arith) (omega arith)
-
-pub narrow-column : (out one two : List ℕ) (at width word r : ℕ) → 6 ≤ width → width ≤ 8 → (width ≡ 8 → ⊥) → r ≡ number (bitsText 8 (word % 2 ^ 7))
-    → one ≡ sets out at (cut (replicate 1 8) 0x20) → two ≡ sets one (at + 1) (cut (replicate 8 8) r) → Stored out two at (columnText width word)
-narrow-column out one two at width word r h g n = column-of out one two at width 7 word r h (omega arith) (omega arith)
+pub narrow-column : (out two : List ℕ) (at width word r : ℕ) → 6 ≤ width → width ≤ 8 → (width ≡ 8 → ⊥) → r ≡ number (space ∷ bitsText 7 (word % 2 ^ 7))
+    → two ≡ sets out at (cut (replicate 8 8) r) → Stored out two at (columnText width word)
+narrow-column out two at width word r h g n e e2 =
+    let x = word % 2 ^ 7 in
+    let long : length (space ∷ bitsText 7 x) ≡ 8 = ap suc (bits-length 7 x) in
+    let again : cut (replicate 8 8) r ≡ space ∷ bitsText 7 x = rw e (ap (λ (k : ℕ). cut (replicate k 8) (number (space ∷ bitsText 7 x))) (sym long) ∙ cut-number (space ∷ bitsText 7 x) (omega arith, bits-bytes 7 x)) in
+    record {
+      more = bitsText (7 - width) (x / 2 ^ width);
+      few = omega (arith, bits-length (7 - width) (x / 2 ^ width));
+      holds = e2 ∙ rw again (ap (λ (l : List ℕ). sets out at (space ∷ l)) (column-of width 7 word (omega arith)));
+    }
 
 -- the digits of a fuse
 start-bytes : (fuse : ℕ) → Bytes (letterL ∷ sevenDigits fuse)
@@ -167,11 +198,6 @@ pub line-start-of : (x : ℕ) → x < 1000000
     + 0x303030303030304C
     ≡ number (letterL ∷ sevenDigits x)
 line-start-of x h = rw (tens-of x h) (divided x h)
-
--- the number of some bytes fits in them
-number-small : (bytes : List ℕ) → number bytes < 2 ^ total (replicate (length bytes) 8)
-unfolding number
-number-small bytes = join-small (replicate (length bytes) 8) bytes
 
 pub start-small : (x : ℕ) → number (letterL ∷ sevenDigits x) < 2 ^ 64
 unfolding digitsOf total

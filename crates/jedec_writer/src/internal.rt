@@ -8,7 +8,7 @@ ghost use lib.ListN.{length, replicate, set};
 ghost use lib.Seq.{sets};
 ghost use Rattle.cells.specs.Cells.{cut, total, repeat, number};
 ghost use Rattle.part.specs.Device.{known, fuseCount, imageBytes, textBytes, decimalDigits};
-ghost use Rattle.jedec.specs.Characters.{letterL, sevenDigits, hexDigit, fourHex};
+ghost use Rattle.jedec.specs.Characters.{space, letterL, sevenDigits, hexDigit, fourHex};
 ghost use Rattle.jedec.specs.Written.{lineText, linesText, headText, footText, patternFuses};
 ghost use Rattle.jedec_writer.specs.Pattern.{rowLines, blockLines, pattern, textOf};
 ghost use Rattle.jedec_writer.specs.Tokens.{bitsText, columnText, columnsOf, Wide, bytesIn, Stored};
@@ -46,6 +46,13 @@ fn eight_states(bits: u64) -> u64
     seven + low_bits(bits >> 7, 1) * 0x0100_0000_0000_0000
 }
 
+// A space and the characters of seven bits.
+fn spaced_states(bits: u64) -> u64
+    ensures { λ r. ⌜ r ≡ number (space ∷ bitsText 7 (bits % 2 ^ 7)) ⌝ }
+{
+    (seven_states(bits) << 8) + SPACE
+}
+
 // A byte of a word, put `k` bytes behind an index.
 fn put_byte(word: u64, k: usize, out: &mut [u8], at: usize)
     requires { ⌜ (k < 8) × (at + k < length (now out)) ⌝ }
@@ -74,11 +81,11 @@ fn put_column(word: u64, width: usize, out: &mut [u8], at: usize)
     requires { ⌜ (Wide width) × (at + 9 ≤ length (now out)) ⌝ }
     ensures { λ _. ⌜ Stored (now (out .entry)) (now (out .exit)) at (columnText width word) ⌝ }
 {
-    put_cells(SPACE, 8, 1, out, at);
     if width == 8 {
+        put_cells(SPACE, 8, 1, out, at);
         put_eight(eight_states(word), out, at + 1);
     } else {
-        put_eight(seven_states(word), out, at + 1);
+        put_eight(spaced_states(word), out, at);
     }
 }
 

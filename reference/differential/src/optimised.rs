@@ -177,8 +177,8 @@ fn no_such_fuse<T>(device: Device) -> Answer<T> {
     refuse(3, 0)
 }
 
-/// The address and bit of a fuse.
-#[inline]
+/// The address and bit of a fuse. A call like every other operation here and in the library, and not compiled into the caller's loop.
+#[inline(never)]
 pub fn address_of_fuse(device: Device, fuse: u32) -> Answer<(u32, u32)> {
     let Some(part) = PARTS.get(device.blocks as usize) else {
         return no_such_fuse(device);

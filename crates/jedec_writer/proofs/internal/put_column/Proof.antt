@@ -17,11 +17,8 @@ add-put-eight c = search needs
 put-eight-requires : tie.Need-put-eight-requires
 put-eight-requires c κs = search needs
 
-seven-states-requires : tie.Need-seven-states-requires
-seven-states-requires c κs = search needs
-
-add-put-eight-2 : tie.Need-add-put-eight-2
-add-put-eight-2 c = search needs
+spaced-states-requires : tie.Need-spaced-states-requires
+spaced-states-requires c κs = search needs
 
 put-eight-requires-2 : tie.Need-put-eight-requires-2
 put-eight-requires-2 c κs = search needs
@@ -46,8 +43,7 @@ put-column-spec =
     eight-states-requires
     add-put-eight
     put-eight-requires
-    seven-states-requires
-    add-put-eight-2
+    spaced-states-requires
     put-eight-requires-2
     same-length
     returns
