@@ -5,7 +5,7 @@ ghost use mathlib.Core.Bool.{true};
 ghost use Prim.Native.Nat.{_+_, _*_, _/_, _%_, _^_, _<_, _≤_};
 ghost use Rattle.part.specs.Outcome.Outcome.{accepted};
 ghost use Rattle.part.specs.Answer.{addressOutcome};
-ghost use Rattle.part.specs.Device.{known, blocksOf, isLarge, columnWidth, columnStart, mainFuses, subareaFuses, inBlock, inDevice, blockFuses, fuseCount, imageBytes, readoutBytes, textBytes, decimalDigits};
+ghost use Rattle.part.specs.Device.{isBlockCount, known, blocksOf, isLarge, columnWidth, columnStart, mainFuses, subareaFuses, inBlock, inDevice, blockFuses, fuseCount, imageBytes, readoutBytes, textBytes, decimalDigits};
 ghost use Rattle.part.specs.Place.{hasByte, widthOf, columnOf, bitOf, firstFuse, placeInMain, placeInWireAnd, placeOfFuse, field, addressOfByte, byteOfAddress, indexOfByte};
 use super::AddressAnswer;
 use super::BytePlace;
@@ -41,6 +41,28 @@ const SUBAREA_TEXT: u32 = 18 * (10 + 5 + 36);
 const TEXT_FRAME: u32 = 3 + (2 + 2) + 4 + (1 + 4 + 2) + (1 + 4);
 
 const SCALE: u64 = 1 << 34;
+
+// The block counts, one test after another: so they compile to one test of a bit.
+pub fn is_block_count(n: u32) -> bool
+    ensures { λ r. ⌜ r ≡ isBlockCount n ⌝ }
+{
+    if n == 2 {
+        return true;
+    }
+    if n == 4 {
+        return true;
+    }
+    if n == 6 {
+        return true;
+    }
+    if n == 8 {
+        return true;
+    }
+    if n == 12 {
+        return true;
+    }
+    n == 16
+}
 
 // What the crates above read of a device.
 pub fn blocks_of(d: Device) -> u32

@@ -142,9 +142,8 @@ pub fn refusal_value(r: Refusal) -> u32
 pub fn is_known(d: Device) -> bool
     ensures { λ r. ⌜ r ≡ known d ⌝ }
 {
-    let n = d.blocks;
     let c = d.class;
-    ((n == 2) | (n == 4) | (n == 6) | (n == 8) | (n == 12) | (n == 16)) & ((c == 0) | (c == 1))
+    internal::is_block_count(d.blocks) & ((c == 0) | (c == 1))
 }
 
 // The sizes of a device. Refused: 1.
