@@ -1,5 +1,5 @@
 // Reading and setting by setting number and pattern in an image or a readout alike: what the operations need, and no caller.
-// Each goes through the setting and the value that number and pattern stand for.
+// Each goes through the setting that the number stands for.
 ghost use mathlib.Core.Path.{_≡_};
 ghost use Rattle.part.specs.Answer.{numberOutcome};
 ghost use Rattle.readout.specs.Readout.{doneOutcome, Written};
@@ -8,11 +8,9 @@ use part::Device;
 use part::NumberAnswer;
 use part::Refusal;
 use readout::DoneAnswer;
-use setting_values::ValueAnswer;
 use settings::SettingNumber;
-use values::internal::Found;
 
-// The pattern of a setting, by its number: through the setting and its value. Refused: 1, 2, 4, 6.
+// The pattern of a setting, by its number. Refused: 1, 2, 4, 6.
 pub fn read_numbered(d: Device, readout: bool, bytes: &[u8], number: SettingNumber) -> NumberAnswer
     ensures { λ r. ⌜ numberOutcome r ≡ readPattern d readout (now (bytes .entry)) (number .0) ⌝ }
 {
@@ -26,21 +24,15 @@ pub fn read_numbered(d: Device, readout: bool, bytes: &[u8], number: SettingNumb
         return NumberAnswer::Refused(Refusal::NoSuchSetting);
     }
     let s = settings::internal::setting_of(d, number);
-    let answer = edit::internal::read(d, readout, bytes, s);
-    match answer {
-        ValueAnswer::Value(v) => {
-            let kind = setting_values::internal::kind_of(d, s);
-            let found = values::internal::pattern_in(kind, v);
-            match found {
-                Found::Pattern(pattern) => NumberAnswer::Number(pattern),
-                Found::NoSuchValue => NumberAnswer::Refused(Refusal::NoSuchValue),
-            }
-        }
-        ValueAnswer::Refused(r) => NumberAnswer::Refused(r),
+    let stray = edit::internal::stray_in(d, readout, bytes, s);
+    if stray < bytes.len() {
+        let index = stray as u32;
+        return NumberAnswer::Refused(Refusal::StrayBit(index));
     }
+    NumberAnswer::Number(setting_bits::internal::pattern_at(d, readout, bytes, s))
 }
 
-// A setting set to a pattern, by its number: through the setting and the value. Refused: 1, 2, 4, 5, 6.
+// A setting set to a pattern, by its number. Refused: 1, 2, 4, 5, 6.
 pub fn set_numbered(
     d: Device,
     readout: bool,
@@ -60,10 +52,15 @@ pub fn set_numbered(
         return DoneAnswer::Refused(Refusal::NoSuchSetting);
     }
     let s = settings::internal::setting_of(d, number);
-    let kind = setting_values::internal::kind_of(d, s);
-    if !values::internal::fits(kind, pattern) {
+    let bits = setting_places::internal::bits_of(d, s);
+    if !values::internal::fits(bits, pattern) {
         return DoneAnswer::Refused(Refusal::NoSuchValue);
     }
-    let v = values::internal::value_in(kind, pattern);
-    edit::internal::set(d, readout, bytes, s, v)
+    let stray = edit::internal::stray_in(d, readout, bytes, s);
+    if stray < bytes.len() {
+        let index = stray as u32;
+        return DoneAnswer::Refused(Refusal::StrayBit(index));
+    }
+    setting_bits::internal::put_pattern(d, readout, bytes, s, pattern);
+    DoneAnswer::Done
 }
