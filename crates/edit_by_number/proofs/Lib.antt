@@ -2,3 +2,5 @@
 -- Assumes nothing.
 pub mod Laws
 mod Asked
+mod Literals
+mod Usercode

@@ -1,4 +1,4 @@
--- `read_numbered` meets its contract: the tests are the definition's.
+-- `read_numbered` meets its contract: the tests are the definition's, then one of three ways.
 -- Assumes nothing.
 use mathlib.Core.Path.{_≡_, sym, _∙_}
 use mathlib.Core.Bool.{Bool, true, false}
@@ -6,7 +6,7 @@ use mathlib.Core.List.{List}
 use Prim.Native.Nat.{ℕ, _<_, _≤_}
 use native.Mathlib.Omega.{arith}
 use lib.ListN.{length}
-use borrow.Author.Tests.{eq-eqb, ne-eqb, lt-ltb, le-ltb}
+use borrow.Author.Tests.{eq-eqb, ne-eqb, le-ltb}
 use Rattle.part.specs.Outcome.Outcome.{accepted, refused}
 use Rattle.part.specs.Device.{known}
 use Rattle.part.specs.declared.Device.{Device}
@@ -16,7 +16,8 @@ use Rattle.settings.specs.declared.Setting.{Setting}
 use Rattle.setting_bits.specs.SettingBits.{bytesOf, patternAt}
 use Rattle.edit.specs.Edit.{strayIn}
 use Rattle.edit_by_number.specs.ByNumber.{readPattern}
-use Rattle.edit_by_number.proofs.Asked.{below, there, its-size, stray-fits}
+use Rattle.edit_by_number.proofs.Asked.{below, there, its-size, stray-fits, reads-stray, reads-clean}
+use Rattle.edit_by_number.proofs.Usercode.{has-usercode, reads-code}
 use borrow.Author.Needs.{needs}
 use Rattle.edit_by_number.proofs.internal.read_numbered.Statement.{statement}
 use Rattle.edit_by_number.proofs.internal.read_numbered.Tie as tie
@@ -37,14 +38,10 @@ module _ (d : Device) (form : Bool) (bytes : List ℕ) (x size : ℕ) (k : known
 
     module _ (l : x < count) (s : Setting) (g : s ≡ settingOf d x) (stray : ℕ) (q : stray ≡ strayIn d form bytes s) where
       a-stray : stray < length bytes → refused 6 stray ≡ readPattern d form bytes x
-      unfolding readPattern
-      a-stray m =
-          rw (k, eq-eqb (length bytes) (bytesOf d form) (n ∙ e), lt-ltb x (countOf d) (omega arith), ← g, ← q, lt-ltb stray (bytesOf d form) (omega (arith, n)))
+      a-stray m = reads-stray d form bytes x k (n ∙ e) (below d x count f l) s g stray (sym q) m
 
       the-pattern : (p : ℕ) → length bytes ≤ stray → p ≡ patternAt d form bytes s → accepted p ≡ readPattern d form bytes x
-      unfolding readPattern
-      the-pattern p m w =
-          rw (k, eq-eqb (length bytes) (bytesOf d form) (n ∙ e), lt-ltb x (countOf d) (omega arith), ← g, ← q, le-ltb stray (bytesOf d form) (omega (arith, n)), w)
+      the-pattern p m w = reads-clean d form bytes x k (n ∙ e) (below d x count f l) s g stray (sym q) p m w
 
 is-known-requires : tie.Need-is-known-requires
 is-known-requires c κs = search needs
@@ -64,23 +61,44 @@ count-of-requires c κs = search (needs, is-known)
 returns-3 : tie.Need-returns-3
 returns-3 c = search (needs, is-known, no-number)
 
+number-of-usercode-requires : tie.Need-number-of-usercode-requires
+number-of-usercode-requires c κs = search (needs, is-known)
+
+usercode-at-requires : tie.Need-usercode-at-requires
+usercode-at-requires c κs = (search (needs, is-known), search (needs, has-usercode), search (needs, its-size))
+
+returns-4 : tie.Need-returns-4
+returns-4 c =
+    let tested = c .before .before .before .before in
+    let start = tested .before .before .before .before .before .before .before in
+    reads-code (start .before .args .d) _ _ _ _ _ _ (is-known _ _ (tested .before .before .before .before .before .before .is-known .ensures) (tested .before .before .before .before .before .if1 .left)) (tested .before .before .before .before .bytes-of .ensures) (tested .before .before .before .if2 .left) (tested .before .before .count-of .ensures) (tested .if3 .left) (c .before .before .before .number-of-usercode .ensures) (c .before .if4 .taken) (λ i. start .shared-slice-known .given i .fits) _ (c .usercode-at .ensures)
+
+start-of-wire-ands-requires : tie.Need-start-of-wire-ands-requires
+start-of-wire-ands-requires c κs = search (needs, is-known)
+
+read-literal-requires : tie.Need-read-literal-requires
+read-literal-requires c κs = (search (needs, is-known), search (needs, its-size), search needs)
+
+returns-5 : tie.Need-returns-5
+returns-5 c = search needs
+
 setting-of-requires : tie.Need-setting-of-requires
 setting-of-requires c κs = (search (needs, is-known), search (needs, below))
 
 stray-in-requires : tie.Need-stray-in-requires
-stray-in-requires c κs = (search (needs, is-known), search (needs, there), search (needs, its-size))
+stray-in-requires c κs = let tested = c .before .before .before .before .before .before .before in (search (needs, is-known), there _ _ _ _ (tested .before .before .count-of .ensures) (tested .if3 .left) (c .setting-of .ensures), search (needs, its-size))
 
 cast-index : tie.Need-cast-index
 cast-index c = search (needs, is-known, stray-fits)
 
-returns-4 : tie.Need-returns-4
-returns-4 c = search (needs, is-known, a-stray)
+returns-6 : tie.Need-returns-6
+returns-6 c = search (needs, is-known, a-stray)
 
 pattern-at-requires : tie.Need-pattern-at-requires
-pattern-at-requires c κs = (search (needs, is-known), search (needs, there), search (needs, its-size))
+pattern-at-requires c κs = let tested = c .before .before .before .before .before .before .before .before .before in (search (needs, is-known), there _ _ _ _ (tested .before .before .count-of .ensures) (tested .if3 .left) (c .before .before .setting-of .ensures), search (needs, its-size))
 
-returns-5 : tie.Need-returns-5
-returns-5 c = search (needs, is-known, the-pattern)
+returns-7 : tie.Need-returns-7
+returns-7 c = search (needs, is-known, the-pattern)
 
 pub read-numbered-spec : {M : Type 1} → statement M
 read-numbered-spec =
@@ -92,9 +110,15 @@ read-numbered-spec =
     returns-2
     count-of-requires
     returns-3
+    number-of-usercode-requires
+    usercode-at-requires
+    returns-4
+    start-of-wire-ands-requires
+    read-literal-requires
+    returns-5
     setting-of-requires
     stray-in-requires
     cast-index
-    returns-4
+    returns-6
     pattern-at-requires
-    returns-5)
+    returns-7)
