@@ -76,7 +76,7 @@ pub fn read_numbered(d: Device, readout: bool, bytes: &[u8], number: SettingNumb
     if settings::internal::count_of(d) <= number.0 {
         return NumberAnswer::Refused(Refusal::NoSuchSetting);
     }
-    // lent as copies, the pointer and the length stay in registers
+    // copies are lent to what may be compiled apart: so the pointer and the length of `bytes` stay in registers
     if number.0 == settings::internal::number_of_usercode(d) {
         let its = bytes;
         return NumberAnswer::Number(setting_bits::internal::usercode_at(d, readout, its));

@@ -2,7 +2,7 @@
 -- Assumes nothing.
 use mathlib.Core.Path.{_≡_, sym, _∙_, ap}
 use mathlib.Core.Bool.{Bool, true, false, not}
-use Prim.Native.Nat.{ℕ, _^_, _≤_}
+use Prim.Native.Nat.{ℕ, _^_}
 use lib.Dec.{ltb}
 use borrow.Author.Tests.{not-true, not-false}
 use Rattle.part.specs.Outcome.Outcome.{accepted, refused}
@@ -16,7 +16,7 @@ use Rattle.setting_places.specs.Places.{bitsOf}
 use Rattle.values.specs.Values.{bitsIn, valueIn}
 use Rattle.values.specs.declared.Value.{Value}
 use Rattle.values.specs.declared.Kind.{Kind}
-use Rattle.values.proofs.Laws.{bits-small}
+use Rattle.values.proofs.Laws.{few-bits}
 use Rattle.setting_values.specs.Kinds.{kindOf}
 use Rattle.setting_values.specs.Operations.{valueOfPattern}
 use Rattle.setting_values.proofs.Widths.{kind-bits}
@@ -31,9 +31,6 @@ no-device d s p k = rw k
 no-setting : (d : Device) (s : Setting) (p : ℕ) → known d ≡ true → hasSetting d s ≡ false → refused 4 0 ≡ valueOfPattern d s p
 unfolding valueOfPattern
 no-setting d s p k h = rw (k, h)
-
-few : (kd : Kind) (bits : ℕ) → bits ≡ bitsIn kd → bits ≤ 32
-few kd bits b = rw b (bits-small kd)
 
 module _ (d : Device) (s : Setting) (p : ℕ) (kd : Kind) (bits : ℕ) (t : Bool)
     (k : known d ≡ true) (h : hasSetting d s ≡ true) (e : kd ≡ kindOf d s) (b : bits ≡ bitsIn kd) (g : t ≡ ltb p (2 ^ bits)) where
@@ -67,7 +64,7 @@ bits-in-requires : tie.Need-bits-in-requires
 bits-in-requires c κs = search needs
 
 fits-requires : tie.Need-fits-requires
-fits-requires c κs = search (needs, few)
+fits-requires c κs = search (needs, few-bits)
 
 returns-3 : tie.Need-returns-3
 returns-3 c = search (needs, is-known, has, not-fitting)

@@ -3,19 +3,16 @@
 use mathlib.Core.Path.{_≡_}
 use mathlib.Core.Bool.{Bool, true, false, _&&_}
 use mathlib.Core.Option.Option.{none, some}
-use Prim.Native.Nat.{ℕ, _^_, _≤_}
+use Prim.Native.Nat.{ℕ, _^_}
 use lib.Dec.{ltb}
 use borrow.Author.Needs.{needs}
 use Rattle.values.specs.Values.{bitsIn, valueIn}
 use Rattle.values.specs.Patterns.{same, candidate, patternIn}
 use Rattle.values.specs.declared.Value.{Value}
 use Rattle.values.specs.declared.Kind.{Kind}
-use Rattle.values.proofs.Laws.{bits-small}
+use Rattle.values.proofs.Laws.{few-bits}
 use Rattle.values.proofs.internal.pattern_in.Statement.{statement}
 use Rattle.values.proofs.internal.pattern_in.Tie as tie
-
-few : (k : Kind) (bits : ℕ) → bits ≡ bitsIn k → bits ≤ 32
-few k bits e = rw e (bits-small k)
 
 module _ (k : Kind) (v : Value) (p : ℕ) (w : Value) (bits : ℕ) (fits matches : Bool) (e : p ≡ candidate (valueIn k) v) (f : w ≡ valueIn k p)
     (b : bits ≡ bitsIn k) (g : fits ≡ ltb p (2 ^ bits)) (s : matches ≡ same w v) where
@@ -37,7 +34,7 @@ bits-in-requires : tie.Need-bits-in-requires
 bits-in-requires c κs = search needs
 
 fits-requires : tie.Need-fits-requires
-fits-requires c κs = search (needs, few)
+fits-requires c κs = search (needs, few-bits)
 
 same-requires : tie.Need-same-requires
 same-requires c κs = search needs
