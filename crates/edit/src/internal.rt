@@ -19,7 +19,7 @@ use values::Value;
 use values::internal::Found;
 
 // The lowest index of a byte that holds the setting and has a bit above its width, or the length: an image has no such bits.
-fn stray_in(d: Device, readout: bool, bytes: &[u8], s: Setting) -> usize
+pub fn stray_in(d: Device, readout: bool, bytes: &[u8], s: Setting) -> usize
     requires { ⌜ (known d ≡ true) × (hasSetting d s ≡ true) × (length (now bytes) ≡ bytesOf d readout) ⌝ }
     ensures { λ r. ⌜ r ≡ strayIn d readout (now (bytes .entry)) s ⌝ }
 {

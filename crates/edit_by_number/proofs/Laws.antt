@@ -1,12 +1,11 @@
 -- What holds of reading and setting by setting number and pattern, for every device, number and pattern that there are:
 --   reads-numbered, sets-numbered   the edit by number and pattern is the edit by the setting and the value that they stand for,
 --                                   refusals 2 and 6 included
-use mathlib.Core.Path.{_≡_, refl, sym, _∙_}
+use mathlib.Core.Path.{_≡_, refl}
 use mathlib.Core.Bool.{Bool, true, false, cond}
 use mathlib.Core.List.{List}
 use mathlib.Core.Option.Option.{some}
 use Prim.Native.Nat.{ℕ, _^_, _<_}
-use native.Mathlib.Omega.{arith}
 use lib.Dec.{eqb, ltb}
 use lib.ListN.{length}
 use borrow.Author.Tests.{lt-ltb}
@@ -18,16 +17,12 @@ use Rattle.settings.specs.Settings.{hasSetting}
 use Rattle.settings.specs.Order.{countOf, settingOf}
 use Rattle.settings.specs.declared.Setting.{Setting}
 use Rattle.settings.proofs.Numbers.{number-again}
-use Rattle.setting_places.specs.Places.{bitsOf, fuseOf}
+use Rattle.setting_places.specs.Places.{bitsOf}
 use Rattle.values.specs.Patterns.{patternIn}
-use Rattle.values.specs.declared.Value.{Value}
 use Rattle.values.proofs.Laws as values
 use Rattle.setting_values.specs.Kinds.{kindOf, valueOf}
 use Rattle.setting_values.proofs.Widths.{kind-bits}
-use Rattle.part.proofs.Conversions.{passed}
-use Rattle.image.proofs.Bits.{gathered-small}
-use Rattle.setting_bits.specs.SettingBits.{bytesOf, stateOf, patternAt}
-use Rattle.setting_bits.proofs.Steps.{state-small}
+use Rattle.setting_bits.specs.SettingBits.{bytesOf}
 use Rattle.edit.specs.Edit.{withValue, strayIn, readIn, setIn}
 use Rattle.edit_by_number.specs.ByNumber.{readPattern, setPattern, withNumbered}
 
@@ -39,18 +34,6 @@ mapped f (refused number value) = refused number value
 mapped-cond : {A B : Type 0} (f : A → B) (t : Bool) (x y : Outcome A) → mapped f (cond t x y) ≡ cond t (mapped f x) (mapped f y)
 mapped-cond f true x y = refl
 mapped-cond f false x y = refl
-
-mapped-accepted : {A B : Type 0} (f : A → B) (o : Outcome A) (v : B) → mapped f o ≡ accepted v → (x : A) × (o ≡ accepted x) × (f x ≡ v)
-mapped-accepted f (accepted x) v e = (x, refl, cc e)
-mapped-accepted f (refused n y) v e = let z : _≡_ {A = ℕ} 0 1 = cc in absurd (omega arith)
-
-mapped-refused : {A B : Type 0} (f : A → B) (o : Outcome A) (n y : ℕ) → mapped f o ≡ refused n y → o ≡ refused n y
-mapped-refused f (accepted x) n y e = let z : _≡_ {A = ℕ} 0 1 = cc in absurd (omega arith)
-mapped-refused f (refused m w) n y e = cc e
-
-not-stray : (t : Bool) (y p q : ℕ) → cond t (refused 6 y) (accepted p) ≡ accepted q → p ≡ q
-not-stray true y p q e = let z : _≡_ {A = ℕ} 0 1 = cc in absurd (omega arith)
-not-stray false y p q e = cc e
 
 module _ (d : Device) (k : known d ≡ true) (form : Bool) (bytes : List ℕ) (number : ℕ) (below : number < countOf d) where
   s : Setting
@@ -74,30 +57,3 @@ module _ (d : Device) (k : known d ≡ true) (form : Bool) (bytes : List ℕ) (n
       let value : patternIn (kindOf d (settingOf d number)) (valueOf d (settingOf d number) pattern) ≡ some pattern =
       values.pattern-iff (kindOf d (settingOf d number)) _ pattern .1 (rw (kind-bits d (settingOf d number) there) fits, refl) in
       (rw (lt-ltb number (countOf d) below, there, lt-ltb pattern (2 ^ bitsOf (settingOf d number)) fits, value), rw value)
-
-  -- what reading by the setting says of reading by its number
-  pattern-below : (p : ℕ) → readPattern d form bytes number ≡ accepted p → p < 2 ^ bitsOf (settingOf d number)
-  unfolding readPattern patternAt
-  pattern-below p e =
-      let one = passed (known d) _ 1 0 e in
-      let two = passed (eqb (length bytes) (bytesOf d form)) _ 2 0 (one .1) in
-      let three = passed (ltb number (countOf d)) _ 4 0 (two .1) in
-      let same : patternAt d form bytes (settingOf d number) ≡ p =
-      not-stray (ltb (strayIn d form bytes (settingOf d number)) (bytesOf d form)) (strayIn d form bytes (settingOf d number)) _ p (three .1) in
-      let small : patternAt d form bytes (settingOf d number) < 2 ^ bitsOf (settingOf d number) =
-      gathered-small (λ b. stateOf d form bytes (fuseOf d (settingOf d number) b)) (λ b. state-small d form bytes (fuseOf d (settingOf d number) b)) (bitsOf (settingOf d number)) in
-      omega arith
-
-  pub read-value : (v : Value) → accepted v ≡ readIn d form bytes (settingOf d number)
-      → (p : ℕ) × (readPattern d form bytes number ≡ accepted p) × (patternIn (kindOf d (settingOf d number)) v ≡ some p)
-  unfolding s
-  read-value v e =
-      let found = mapped-accepted (valueOf d (settingOf d number)) (readPattern d form bytes number) v (sym reads-numbered ∙ sym e) in (
-        found .0,
-        found .1,
-        values.pattern-iff (kindOf d (settingOf d number)) v (found .0) .1 (rw (kind-bits d (settingOf d number) there) (pattern-below (found .0) (found .1)), found .2),
-      )
-
-  pub read-refused : (n y : ℕ) → refused n y ≡ readIn d form bytes (settingOf d number) → refused n y ≡ readPattern d form bytes number
-  read-refused n y e =
-      sym (mapped-refused (valueOf d (settingOf d number)) (readPattern d form bytes number) n y (sym reads-numbered ∙ sym e))

@@ -1,18 +1,69 @@
 // Reading and setting by setting number and pattern in an image or a readout alike: what the operations need, and no caller.
-// Each goes through the setting and the value that number and pattern stand for.
+// A literal and USERCODE go by their numbers, the others through the setting that the number stands for.
 ghost use mathlib.Core.Path.{_≡_};
+ghost use mathlib.Core.Bool.{true};
+ghost use Prim.Native.Nat.{_<_};
+ghost use lib.ListN.{length};
+ghost use Rattle.part.specs.Device.{known};
 ghost use Rattle.part.specs.Answer.{numberOutcome};
 ghost use Rattle.readout.specs.Readout.{doneOutcome, Written};
+ghost use Rattle.settings.specs.Order.{start};
+ghost use Rattle.settings.specs.Order.Group.{wireAnds};
+ghost use Rattle.setting_bits.specs.SettingBits.{bytesOf};
 ghost use Rattle.edit_by_number.specs.ByNumber.{readPattern, setPattern, withNumbered};
 use part::Device;
 use part::NumberAnswer;
 use part::Refusal;
 use readout::DoneAnswer;
-use setting_values::ValueAnswer;
 use settings::SettingNumber;
-use values::internal::Found;
 
-// The pattern of a setting, by its number: through the setting and its value. Refused: 1, 2, 4, 6.
+// The pattern of a literal, by its number. Refused: 6.
+fn read_literal(d: Device, readout: bool, bytes: &[u8], number: SettingNumber) -> NumberAnswer
+    requires { ⌜ (known d ≡ true) × (length (now bytes) ≡ bytesOf d readout) × (number .0 < start d wireAnds) ⌝ }
+    ensures { λ r. ⌜ numberOutcome r ≡ readPattern d readout (now (bytes .entry)) (number .0) ⌝ }
+{
+    let place = setting_places::internal::place_of_literal(d, number);
+    let spot = setting_bits::internal::spot_at(d, readout, place);
+    let index = spot.index;
+    let byte = place.byte;
+    let width = part::internal::width_of(byte);
+    let above = setting_bits::internal::above_width(bytes, index, width);
+    if readout & (above != 0) {
+        let stray = index as u32;
+        return NumberAnswer::Refused(Refusal::StrayBit(stray));
+    }
+    NumberAnswer::Number(image::internal::bit_of(bytes, index, spot.bit))
+}
+
+// A literal set to a pattern, by its number. Refused: 5, 6.
+fn set_literal(
+    d: Device,
+    readout: bool,
+    bytes: &mut [u8],
+    number: SettingNumber,
+    pattern: u32,
+) -> DoneAnswer
+    requires { ⌜ (known d ≡ true) × (length (now bytes) ≡ bytesOf d readout) × (number .0 < start d wireAnds) ⌝ }
+    ensures { λ r. ⌜ Written (setPattern d readout (now (bytes .entry)) (number .0) pattern) (doneOutcome r) (withNumbered d readout (now (bytes .entry)) (number .0) pattern) (now (bytes .entry)) (now (bytes .exit)) ⌝ }
+{
+    if 1 < pattern {
+        return DoneAnswer::Refused(Refusal::NoSuchValue);
+    }
+    let place = setting_places::internal::place_of_literal(d, number);
+    let spot = setting_bits::internal::spot_at(d, readout, place);
+    let index = spot.index;
+    let byte = place.byte;
+    let width = part::internal::width_of(byte);
+    let above = setting_bits::internal::above_width(bytes, index, width);
+    if readout & (above != 0) {
+        let stray = index as u32;
+        return DoneAnswer::Refused(Refusal::StrayBit(stray));
+    }
+    image::internal::set_bit(bytes, index, spot.bit, pattern);
+    DoneAnswer::Done
+}
+
+// The pattern of a setting, by its number. Refused: 1, 2, 4, 6.
 pub fn read_numbered(d: Device, readout: bool, bytes: &[u8], number: SettingNumber) -> NumberAnswer
     ensures { λ r. ⌜ numberOutcome r ≡ readPattern d readout (now (bytes .entry)) (number .0) ⌝ }
 {
@@ -25,22 +76,25 @@ pub fn read_numbered(d: Device, readout: bool, bytes: &[u8], number: SettingNumb
     if settings::internal::count_of(d) <= number.0 {
         return NumberAnswer::Refused(Refusal::NoSuchSetting);
     }
-    let s = settings::internal::setting_of(d, number);
-    let answer = edit::internal::read(d, readout, bytes, s);
-    match answer {
-        ValueAnswer::Value(v) => {
-            let kind = setting_values::internal::kind_of(d, s);
-            let found = values::internal::pattern_in(kind, v);
-            match found {
-                Found::Pattern(pattern) => NumberAnswer::Number(pattern),
-                Found::NoSuchValue => NumberAnswer::Refused(Refusal::NoSuchValue),
-            }
-        }
-        ValueAnswer::Refused(r) => NumberAnswer::Refused(r),
+    // copies are lent to what may be compiled apart: so the pointer and the length of `bytes` stay in registers
+    if number.0 == settings::internal::number_of_usercode(d) {
+        let its = bytes;
+        return NumberAnswer::Number(setting_bits::internal::usercode_at(d, readout, its));
     }
+    if number.0 < settings::internal::start_of_wire_ands(d) {
+        return read_literal(d, readout, bytes, number);
+    }
+    let again = bytes;
+    let s = settings::internal::setting_of(d, number);
+    let stray = edit::internal::stray_in(d, readout, again, s);
+    if stray < again.len() {
+        let index = stray as u32;
+        return NumberAnswer::Refused(Refusal::StrayBit(index));
+    }
+    NumberAnswer::Number(setting_bits::internal::pattern_at(d, readout, again, s))
 }
 
-// A setting set to a pattern, by its number: through the setting and the value. Refused: 1, 2, 4, 5, 6.
+// A setting set to a pattern, by its number. Refused: 1, 2, 4, 5, 6.
 pub fn set_numbered(
     d: Device,
     readout: bool,
@@ -59,11 +113,23 @@ pub fn set_numbered(
     if settings::internal::count_of(d) <= number.0 {
         return DoneAnswer::Refused(Refusal::NoSuchSetting);
     }
+    if number.0 == settings::internal::number_of_usercode(d) {
+        setting_bits::internal::put_usercode(d, readout, bytes, pattern);
+        return DoneAnswer::Done;
+    }
+    if number.0 < settings::internal::start_of_wire_ands(d) {
+        return set_literal(d, readout, bytes, number, pattern);
+    }
     let s = settings::internal::setting_of(d, number);
-    let kind = setting_values::internal::kind_of(d, s);
-    if !values::internal::fits(kind, pattern) {
+    let bits = setting_places::internal::bits_of(d, s);
+    if !values::internal::fits(bits, pattern) {
         return DoneAnswer::Refused(Refusal::NoSuchValue);
     }
-    let v = values::internal::value_in(kind, pattern);
-    edit::internal::set(d, readout, bytes, s, v)
+    let stray = edit::internal::stray_in(d, readout, bytes, s);
+    if stray < bytes.len() {
+        let index = stray as u32;
+        return DoneAnswer::Refused(Refusal::StrayBit(index));
+    }
+    setting_bits::internal::put_pattern(d, readout, bytes, s, pattern);
+    DoneAnswer::Done
 }

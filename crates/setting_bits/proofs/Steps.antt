@@ -49,6 +49,10 @@ bytes-between d true k = (omega (arith, least d 1080 90 k), in-device-small d 10
 pub bits-few : (d : Device) (s : Setting) → hasSetting d s ≡ true → bitsOf s ≤ 32
 bits-few d s h = rw (← kind-bits d s h) (values.bits-small (kindOf d s))
 
+-- a byte has at most 8
+pub width-in : (p : Place) (w : ℕ) → w ≡ widthOf (p .byte) → w < 32
+width-in p w e = omega (arith, width-small (p .byte))
+
 -- the place of a bit of a setting
 module _ (d : Device) (k : known d ≡ true) (s : Setting) (h : hasSetting d s ≡ true) (b : ℕ) (l : b < bitsOf s) where
   pub place-again : placeOfFuse d (fuseOf d s b) ≡ placeOf s b

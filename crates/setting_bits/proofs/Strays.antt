@@ -1,17 +1,18 @@
--- Only literals and wire-ANDs lie in bytes narrower than 8 bits: no byte that holds another setting has a bit above its width.
--- Assumes nothing.
+-- Only literals and wire-ANDs lie in bytes narrower than 8 bits: no byte that holds another setting has a bit above its width, and of
+-- those, of one bit each, one byte is looked at.
 use mathlib.Core.Path.{_≡_, refl, sym, _∙_, ap}
-use mathlib.Core.Bool.{true}
+use mathlib.Core.Bool.{Bool, true, false, cond, not, _&&_}
 use mathlib.Core.List.{List}
 use Prim.Native.Nat.{ℕ, _+_, _-_, _/_, _%_, _^_, _<_, _≤_}
 use native.Mathlib.Omega.{arith}
-use lib.Dec.{ltb}
+use lib.Dec.{eqb, ltb}
 use lib.ListN.{length, getD}
 use borrow.Author.Tests.{lt-ltb, ltb-true}
 use Rattle.part.specs.Device.{known, readoutBytes, mainWidth}
 use Rattle.part.specs.Place.{hasByte, widthOf, hasPlace, indexOfByte}
 use Rattle.part.specs.declared.BytePlace.the-variants as byte
 use Rattle.part.specs.declared.Device.{Device}
+use Rattle.part.specs.declared.Place.{Place}
 use Rattle.part.proofs.Facts.{and-iff, by-cases}
 use Rattle.readout.specs.Readout.{widthAt}
 use Rattle.settings.specs.Settings.{hasSetting}
@@ -24,9 +25,9 @@ use Rattle.settings.specs.declared.Setting.{Setting}
 use Rattle.settings.specs.declared.Setting.the-variants.{Macrocell, Block, Global}
 use Rattle.setting_places.specs.Places.{main, blockPlace, globalPlace, placeOf, bitsOf, fuseOf}
 use Rattle.setting_places.proofs.Places.{has-place}
-use Rattle.setting_bits.specs.SettingBits.{byteOf, strayOf}
-use Rattle.setting_bits.proofs.Edits.{clean-through}
-use Rattle.setting_bits.proofs.Steps.{its-index, its-width}
+use Rattle.setting_bits.specs.SettingBits.{byteOf, strayAmong, strayOf}
+use Rattle.setting_bits.proofs.Edits.{inside, fuse-below, clean-through}
+use Rattle.setting_bits.proofs.Steps.{place-again, its-index, its-width, its-test}
 
 -- a byte of the main area that has a bit 6 has 8 bits
 main-wide : (d : Device) (block row column bit : ℕ) → hasPlace d (main block row column bit) ≡ true → 6 ≤ bit → mainWidth column ≡ 8
@@ -52,6 +53,10 @@ global-wide d (FoeInv i) b e = main-wide d 0 0 (5 + i) 6 e (omega arith)
 global-wide d (FclkMux c) b e = main-wide d 0 (3 + b) (2 + c) 6 e (omega arith)
 global-wide d (FoeMux i) b e = main-wide d 0 (3 + b) (5 + i) 6 e (omega arith)
 global-wide d Usercode b e = main-wide d 0 (7 - b / 16) (7 - b % 16 / 2) (6 + b % 2) e (omega arith)
+
+and-true : (t : Bool) → (t && true) ≡ t
+and-true true = refl
+and-true false = refl
 
 abbrev pub Wide : Setting → Type 0
 Wide s = (b : ℕ) → b < bitsOf s → widthOf (placeOf s b .byte) ≡ 8
@@ -79,3 +84,14 @@ module _ (d : Device) (k : known d ≡ true) (s : Setting) (h : hasSetting d s �
       let eight : widthAt d (byteOf d true (fuseOf d s b)) ≡ 8 =
       ap (widthAt d) (sym (its-index d k readout s h b l (placeOf s b) refl index refl)) ∙ sym (its-width d k readout s h b l (placeOf s b) refl index refl) ∙ wide b l in
       rw eight (small (byteOf d true (fuseOf d s b)))))
+
+  -- of a setting of one bit, its byte is looked at
+  pub one-stray : bitsOf s ≡ 1 → (readout : List ℕ) (p : Place) → p ≡ placeOf s 0 → (index w above : ℕ) → index ≡ byteOf d true (fuseOf d s 0)
+      → w ≡ widthOf (p .byte) → above ≡ getD readout index 0 / 2 ^ w → strayOf d readout s ≡ cond (not (eqb above 0)) index (readoutBytes d)
+  unfolding strayAmong
+  one-stray one readout p e index w above i v a =
+      let there : 0 < bitsOf s = omega arith in
+      let at : index ≡ indexOfByte d (p .byte) = i ∙ ap (λ (q : Place). indexOfByte d (q .byte)) (place-again d k s h 0 there ∙ sym e) in
+      let below : index < readoutBytes d = rw i (inside d true (fuseOf d s 0) k (fuse-below d k s h 0 there)) in
+      let test = its-test d k readout s h 0 there p e index at above (readoutBytes d) w v a refl in
+      rw (one, ← test, ← i, lt-ltb index (readoutBytes d) below, and-true (not (eqb above 0)))

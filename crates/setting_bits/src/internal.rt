@@ -1,12 +1,11 @@
 // The bits of a setting in an image or a readout: read, put in place, and the byte that has one above its width.
 // A function here may require that the device has the setting and the bytes their length.
 ghost use mathlib.Core.Path.{_≡_};
-ghost use mathlib.Core.Bool.{true, false, cond, not, _&&_};
+ghost use mathlib.Core.Bool.{true, false};
 ghost use Prim.Native.Nat.{ℕ, _+_, _*_, _/_, _^_, _<_};
-ghost use lib.Dec.{eqb, ltb};
 ghost use lib.ListN.{length, getD};
 ghost use Rattle.part.specs.Device.{known};
-ghost use Rattle.part.specs.Place.{widthOf};
+ghost use Rattle.part.specs.Place.{hasPlace, fuseOfPlace, widthOf};
 ghost use Rattle.image.specs.Bits.{bitOf};
 ghost use Rattle.settings.specs.Settings.{hasSetting};
 ghost use Rattle.settings.specs.declared.GlobalField.the-variants.{Usercode};
@@ -14,20 +13,20 @@ ghost use Rattle.settings.specs.declared.Setting.the-variants.{Global};
 ghost use Rattle.setting_places.specs.Places.{placeOf, bitsOf, fuseOf};
 ghost use Rattle.setting_bits.specs.SettingBits.{bytesOf, byteOf, bitIn, withState, patternAt, withPattern, strayOf};
 use part::Device;
+use part::Place;
 use settings::Setting;
 
 // A byte of an image or a readout, and one of its bits.
-struct Spot {
-    index: usize,
-    bit: u32,
+pub struct Spot {
+    pub index: usize,
+    pub bit: u32,
 }
 
-// Where a bit of a setting stands.
-fn spot_of(d: Device, readout: bool, s: Setting, bit: u32) -> Spot
-    requires { ⌜ (known d ≡ true) × (hasSetting d s ≡ true) × (bit < bitsOf s) ⌝ }
-    ensures { λ r. ⌜ (r .index ≡ byteOf d readout (fuseOf d s bit)) × (r .bit ≡ bitIn d readout (fuseOf d s bit)) ⌝ }
+// Where the fuse at a place stands.
+pub fn spot_at(d: Device, readout: bool, place: Place) -> Spot
+    requires { ⌜ (known d ≡ true) × (hasPlace d place ≡ true) ⌝ }
+    ensures { λ r. ⌜ (r .index ≡ byteOf d readout (fuseOfPlace d place)) × (r .bit ≡ bitIn d readout (fuseOfPlace d place)) ⌝ }
 {
-    let place = setting_places::internal::place_of(d, s, bit);
     let byte = place.byte;
     if readout {
         return Spot {
@@ -41,6 +40,15 @@ fn spot_of(d: Device, readout: bool, s: Setting, bit: u32) -> Spot
         index: (fuse / 8) as usize,
         bit: fuse % 8,
     }
+}
+
+// Where a bit of a setting stands.
+fn spot_of(d: Device, readout: bool, s: Setting, bit: u32) -> Spot
+    requires { ⌜ (known d ≡ true) × (hasSetting d s ≡ true) × (bit < bitsOf s) ⌝ }
+    ensures { λ r. ⌜ (r .index ≡ byteOf d readout (fuseOf d s bit)) × (r .bit ≡ bitIn d readout (fuseOf d s bit)) ⌝ }
+{
+    let place = setting_places::internal::place_of(d, s, bit);
+    spot_at(d, readout, place)
 }
 
 // Where bits 2k and 2k+1 of USERCODE stand: bits 6 and 7 of a byte of block 0, rows 6 and 7. No device has that byte elsewhere.
@@ -64,7 +72,7 @@ fn usercode_spot(d: Device, readout: bool, pair: u32) -> Spot
 }
 
 // The states of USERCODE's fuses, two at a time.
-fn usercode_at(d: Device, readout: bool, bytes: &[u8]) -> u32
+pub fn usercode_at(d: Device, readout: bool, bytes: &[u8]) -> u32
     requires { ⌜ (known d ≡ true) × (hasSetting d (Global Usercode) ≡ true) × (length (now bytes) ≡ bytesOf d readout) ⌝ }
     ensures { λ r. ⌜ r ≡ patternAt d readout (now (bytes .entry)) (Global Usercode) ⌝ }
 {
@@ -90,7 +98,7 @@ fn put_usercode_pair(d: Device, readout: bool, bytes: &mut [u8], pattern: u32, p
 }
 
 // The states of USERCODE's fuses put in place: row 7, then row 6. In a loop of one row, the compiler has each byte and bit as constants.
-fn put_usercode(d: Device, readout: bool, bytes: &mut [u8], pattern: u32)
+pub fn put_usercode(d: Device, readout: bool, bytes: &mut [u8], pattern: u32)
     requires { ⌜ (known d ≡ true) × (hasSetting d (Global Usercode) ≡ true) × (length (now bytes) ≡ bytesOf d readout) ⌝ }
     ensures { λ _. ⌜ now (bytes .exit) ≡ withPattern d readout (now (bytes .entry)) (Global Usercode) pattern ⌝ }
 {
@@ -146,21 +154,11 @@ pub fn put_pattern(d: Device, readout: bool, bytes: &mut [u8], s: Setting, patte
 }
 
 // The bits of a byte above a width.
-fn above_width(bytes: &[u8], index: usize, width: u32) -> u32
+pub fn above_width(bytes: &[u8], index: usize, width: u32) -> u32
     requires { ⌜ (index < length (now bytes)) × (width < 32) ⌝ }
     ensures { λ r. ⌜ r ≡ getD (now (bytes .entry)) index 0 / 2 ^ width ⌝ }
 {
     bytes[index] as u32 >> width
-}
-
-// The lower of two indices, where the first counts only if its byte has bits above its width.
-fn lower(above: u32, index: usize, lowest: usize) -> usize
-    ensures { λ r. ⌜ r ≡ cond (not (eqb above 0) && ltb index lowest) index lowest ⌝ }
-{
-    if (above != 0) & (index < lowest) {
-        return index;
-    }
-    lowest
 }
 
 // Whether every byte that holds the setting has 8 bits. Literals and wire-ANDs, of one bit each, lie in narrower ones too.
@@ -205,5 +203,8 @@ pub fn stray_of(d: Device, readout: &[u8], s: Setting) -> usize
     let index = part::internal::index_of_byte(d, byte) as usize;
     let width = part::internal::width_of(byte);
     let above = above_width(readout, index, width);
-    lower(above, index, readout.len())
+    if above != 0 {
+        return index;
+    }
+    readout.len()
 }

@@ -7,7 +7,9 @@ ghost use Rattle.part.specs.Device.{known};
 ghost use Rattle.part.specs.Place.{hasPlace};
 ghost use Rattle.settings.specs.Settings.{hasSetting};
 ghost use Rattle.settings.specs.Fields.{foes, globalFields, globalIndex};
-ghost use Rattle.settings.specs.Order.{macrocellFieldAt};
+ghost use Rattle.settings.specs.Order.{macrocellFieldAt, start, settingOf};
+ghost use Rattle.settings.specs.Order.Group.{wireAnds};
+ghost use Rattle.settings.specs.declared.Setting.the-variants.{Literal};
 ghost use Rattle.setting_places.specs.Places.{main, literalRow, firstRow, rows, blockPlace, globalPlace, placeOf, globalBits, bitsOf, fuseOf};
 ghost use Rattle.setting_places.specs.Back.{polarityOfRow, fieldIndexAtRow, blockFieldNear, globalFieldNear, globalBitNear, candidateInMain, candidateAt};
 use part::BytePlace;
@@ -18,6 +20,7 @@ use settings::BlockField;
 use settings::GlobalField;
 use settings::Polarity;
 use settings::Setting;
+use settings::SettingNumber;
 
 const FIRST_MACROCELL_ROW: u32 = 12;
 
@@ -275,6 +278,24 @@ fn literal_row(input: u32, polarity: Polarity) -> u32
     2 * input + row_in_pair(polarity)
 }
 
+fn literal_place(block: u32, macrocell: u32, term: u32, input: u32, polarity: Polarity) -> Place
+    requires { ⌜ (term < 5) × (input < 36) ⌝ }
+    ensures { λ r. ⌜ r ≡ placeOf (Literal block macrocell term input polarity) 0 ⌝ }
+{
+    let row = literal_row(input, polarity);
+    main_place(block, row, term + 5 * (macrocell % 3), macrocell / 3)
+}
+
+// The place of a literal, by its number.
+pub fn place_of_literal(d: Device, number: SettingNumber) -> Place
+    requires { ⌜ number .0 < start d wireAnds ⌝ }
+    ensures { λ r. ⌜ r ≡ placeOf (settingOf d (number .0)) 0 ⌝ }
+{
+    let at = settings::internal::literal_indices(d, number.0);
+    let polarity = at.polarity;
+    literal_place(at.block, at.macrocell, at.term, at.input, polarity)
+}
+
 fn block_place(block: u32, field: BlockField) -> Place
     ensures { λ r. ⌜ r ≡ blockPlace block field ⌝ }
 {
@@ -308,10 +329,7 @@ pub fn place_of(d: Device, s: Setting, bit: u32) -> Place
             term,
             input,
             polarity,
-        } => {
-            let row = literal_row(input, polarity);
-            main_place(block, row, term + 5 * (macrocell % 3), macrocell / 3)
-        }
+        } => literal_place(block, macrocell, term, input, polarity),
         Setting::WireAnd {
             block,
             input,

@@ -28,7 +28,8 @@ pub fn value_of_pattern(d: Device, s: Setting, pattern: u32) -> ValueAnswer
         return ValueAnswer::Refused(Refusal::NoSuchSetting);
     }
     let kind = internal::kind_of(d, s);
-    if !values::internal::fits(kind, pattern) {
+    let bits = values::internal::bits_in(kind);
+    if !values::internal::fits(bits, pattern) {
         return ValueAnswer::Refused(Refusal::NoSuchValue);
     }
     ValueAnswer::Value(values::internal::value_in(kind, pattern))

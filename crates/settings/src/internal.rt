@@ -8,6 +8,8 @@ ghost use Rattle.settings.specs.Settings.{hasSetting};
 ghost use Rattle.settings.specs.Fields.{foes, listed, polarityIndex, macrocellIndex, blockIndex, globalFields, globalIndex};
 ghost use Rattle.settings.specs.Order.{start, countOf, numberOf, polarityAt, macrocellFieldAt, blockFieldAt, globalFieldAt, inGroup, settingOf};
 ghost use Rattle.settings.specs.Order.Group.{literals, wireAnds, macrocellSettings, blockSettings, globals};
+ghost use Rattle.settings.specs.declared.GlobalField.the-variants.{Usercode};
+ghost use Rattle.settings.specs.declared.Setting.the-variants.{Literal, Global};
 use super::BlockField;
 use super::GlobalField;
 use super::MacrocellField;
@@ -277,7 +279,7 @@ fn global_field_at(d: Device, x: u32) -> GlobalField
 }
 
 // The first number of each group after the literals.
-fn start_of_wire_ands(d: Device) -> u32
+pub fn start_of_wire_ands(d: Device) -> u32
     requires { ⌜ known d ≡ true ⌝ }
     ensures { λ r. ⌜ r ≡ start d wireAnds ⌝ }
 {
@@ -312,6 +314,14 @@ pub fn count_of(d: Device) -> u32
     ensures { λ r. ⌜ r ≡ countOf d ⌝ }
 {
     start_of_globals(d) + global_fields(d)
+}
+
+// The number of USERCODE, which is the last.
+pub fn number_of_usercode(d: Device) -> u32
+    requires { ⌜ known d ≡ true ⌝ }
+    ensures { λ r. ⌜ r ≡ numberOf d (Global Usercode) ⌝ }
+{
+    count_of(d) - 1
 }
 
 // The number of a setting.
@@ -364,19 +374,41 @@ pub fn number_of(d: Device, s: Setting) -> SettingNumber
     }
 }
 
+// The indices of a literal.
+pub struct LiteralIndices {
+    pub block: u32,
+    pub macrocell: u32,
+    pub term: u32,
+    pub input: u32,
+    pub polarity: Polarity,
+}
+
+// The indices of the literal at a position.
+pub fn literal_indices(d: Device, x: u32) -> LiteralIndices
+    ensures { λ r. ⌜ Literal (r .block) (r .macrocell) (r .term) (r .input) (r .polarity) ≡ inGroup d literals x ⌝ }
+{
+    let in_term = x % TERM_LITERALS;
+    let polarity = polarity_at(in_term % 2);
+    LiteralIndices {
+        block: x / BLOCK_LITERALS,
+        macrocell: x % BLOCK_LITERALS / MACROCELL_LITERALS,
+        term: x % MACROCELL_LITERALS / TERM_LITERALS,
+        input: in_term / 2,
+        polarity,
+    }
+}
+
 // The setting of each group at a position in it.
 fn literal_at(d: Device, x: u32) -> Setting
     ensures { λ r. ⌜ r ≡ inGroup d literals x ⌝ }
 {
-    let in_block = x % BLOCK_LITERALS;
-    let in_macrocell = in_block % MACROCELL_LITERALS;
-    let in_term = in_macrocell % TERM_LITERALS;
-    let polarity = polarity_at(in_term % 2);
+    let at = literal_indices(d, x);
+    let polarity = at.polarity;
     Setting::Literal {
-        block: x / BLOCK_LITERALS,
-        macrocell: in_block / MACROCELL_LITERALS,
-        term: in_macrocell / TERM_LITERALS,
-        input: in_term / 2,
+        block: at.block,
+        macrocell: at.macrocell,
+        term: at.term,
+        input: at.input,
         polarity,
     }
 }

@@ -280,3 +280,6 @@ bits-small kind.IobSlew = omega arith
 bits-small (kind.FclkMux c) = omega arith
 bits-small (kind.FoeMux e large) = omega arith
 bits-small kind.Usercode = omega arith
+
+pub few-bits : (k : Kind) (bits : ℕ) → bits ≡ bitsIn k → bits ≤ 32
+few-bits k bits e = rw e (bits-small k)

@@ -3,7 +3,7 @@
 ghost use mathlib.Core.Path.{_≡_};
 ghost use mathlib.Core.Bool.{cond};
 ghost use mathlib.Core.List.{[], _∷_};
-ghost use Prim.Native.Nat.{_^_};
+ghost use Prim.Native.Nat.{_^_, _≤_};
 ghost use lib.Dec.{ltb};
 ghost use Rattle.values.specs.Values.{named, oeMuxes, fclkMuxes, smallFoeMuxes, largeFoeMuxes, bitsIn, valueIn};
 ghost use Rattle.values.specs.Patterns.{caseOf, inCase, flagNumber, termAllocNumber, importAllocNumber, exportDirNumber, iobOeMuxNumber, outMuxNumber, oeMuxNumber, clkMuxNumber, regModeNumber, rstSetMuxNumber, uimOeMuxNumber, iobSlewNumber, fclkMuxNumber, foeMuxNumber, same, candidate, patternIn, foundPattern};
@@ -470,11 +470,12 @@ fn candidate(kind: Kind, v: Value) -> u32
     number
 }
 
-// Whether a pattern has no bit at or over the width of the kind.
-pub fn fits(kind: Kind, pattern: u32) -> bool
-    ensures { λ r. ⌜ r ≡ ltb pattern (2 ^ bitsIn kind) ⌝ }
+// Whether a pattern has no bit at or over a width.
+pub fn fits(bits: u32, pattern: u32) -> bool
+    requires { ⌜ bits ≤ 32 ⌝ }
+    ensures { λ r. ⌜ r ≡ ltb pattern (2 ^ bits) ⌝ }
 {
-    (pattern as u64) < 1u64 << bits_in(kind)
+    (pattern as u64) < 1u64 << bits
 }
 
 // The pattern that stands for a value.
@@ -483,7 +484,8 @@ pub fn pattern_in(kind: Kind, v: Value) -> Found
 {
     let pattern = candidate(kind, v);
     let stands = value_in(kind, pattern);
-    if fits(kind, pattern) & same(stands, v) {
+    let bits = bits_in(kind);
+    if fits(bits, pattern) & same(stands, v) {
         return Found::Pattern(pattern);
     }
     Found::NoSuchValue

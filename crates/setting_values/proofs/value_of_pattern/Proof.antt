@@ -16,6 +16,7 @@ use Rattle.setting_places.specs.Places.{bitsOf}
 use Rattle.values.specs.Values.{bitsIn, valueIn}
 use Rattle.values.specs.declared.Value.{Value}
 use Rattle.values.specs.declared.Kind.{Kind}
+use Rattle.values.proofs.Laws.{few-bits}
 use Rattle.setting_values.specs.Kinds.{kindOf}
 use Rattle.setting_values.specs.Operations.{valueOfPattern}
 use Rattle.setting_values.proofs.Widths.{kind-bits}
@@ -31,10 +32,10 @@ no-setting : (d : Device) (s : Setting) (p : ℕ) → known d ≡ true → hasSe
 unfolding valueOfPattern
 no-setting d s p k h = rw (k, h)
 
-module _ (d : Device) (s : Setting) (p : ℕ) (kd : Kind) (t : Bool)
-    (k : known d ≡ true) (h : hasSetting d s ≡ true) (e : kd ≡ kindOf d s) (g : t ≡ ltb p (2 ^ bitsIn kd)) where
-  same-test : ltb p (2 ^ bitsIn kd) ≡ ltb p (2 ^ bitsOf s)
-  same-test = ap (λ (w : ℕ). ltb p (2 ^ w)) (ap bitsIn e ∙ kind-bits d s h)
+module _ (d : Device) (s : Setting) (p : ℕ) (kd : Kind) (bits : ℕ) (t : Bool)
+    (k : known d ≡ true) (h : hasSetting d s ≡ true) (e : kd ≡ kindOf d s) (b : bits ≡ bitsIn kd) (g : t ≡ ltb p (2 ^ bits)) where
+  same-test : ltb p (2 ^ bits) ≡ ltb p (2 ^ bitsOf s)
+  same-test = ap (λ (w : ℕ). ltb p (2 ^ w)) (b ∙ ap bitsIn e ∙ kind-bits d s h)
 
   not-fitting : not t ≡ true → refused 5 0 ≡ valueOfPattern d s p
   unfolding valueOfPattern
@@ -59,8 +60,11 @@ returns-2 c = search (needs, is-known, has-not, no-setting)
 kind-of-requires : tie.Need-kind-of-requires
 kind-of-requires c κs = search needs
 
+bits-in-requires : tie.Need-bits-in-requires
+bits-in-requires c κs = search needs
+
 fits-requires : tie.Need-fits-requires
-fits-requires c κs = search needs
+fits-requires c κs = search (needs, few-bits)
 
 returns-3 : tie.Need-returns-3
 returns-3 c = search (needs, is-known, has, not-fitting)
@@ -80,6 +84,7 @@ value-of-pattern-spec =
     has-setting-requires
     returns-2
     kind-of-requires
+    bits-in-requires
     fits-requires
     returns-3
     value-in-requires

@@ -1,84 +1,60 @@
--- `set_numbered` meets its contract: the tests are the definition's, and the value set stands for the pattern.
+-- `set_numbered` meets its contract: the tests are the definition's, and nothing is written before the last of them.
 -- Assumes nothing.
-use mathlib.Core.Path.{_≡_, sym, _∙_, ap}
+use mathlib.Core.Path.{_≡_, sym, _∙_}
 use mathlib.Core.Bool.{Bool, true, false, not}
 use mathlib.Core.List.{List}
 use Prim.Native.Nat.{ℕ, _^_, _<_, _≤_}
 use native.Mathlib.Omega.{arith}
 use lib.Dec.{ltb}
 use lib.ListN.{length}
-use borrow.Author.Tests.{eq-eqb, ne-eqb, lt-ltb, le-ltb, not-true, not-false, ltb-true}
-use Rattle.part.specs.Outcome.{Outcome}
-use Rattle.part.specs.Outcome.Outcome.{refused}
+use borrow.Author.Tests.{eq-eqb, ne-eqb, le-ltb, not-true, not-false}
+use Rattle.part.specs.Outcome.Outcome.{accepted, refused}
 use Rattle.part.specs.Device.{known}
 use Rattle.part.specs.declared.Device.{Device}
 use Rattle.part.proofs.Devices.{is-known, is-unknown}
-use Rattle.settings.specs.Settings.{hasSetting}
 use Rattle.settings.specs.Order.{countOf, settingOf}
 use Rattle.settings.specs.declared.Setting.{Setting}
-use Rattle.settings.proofs.Numbers.{number-again}
 use Rattle.setting_places.specs.Places.{bitsOf}
-use Rattle.readout.specs.Readout.{Written}
-use Rattle.readout.proofs.Targets.{says}
-use Rattle.values.specs.Values.{bitsIn, valueIn}
-use Rattle.values.specs.declared.Value.{Value}
-use Rattle.values.specs.declared.Kind.{Kind}
-use Rattle.setting_values.specs.Kinds.{kindOf, valueOf}
-use Rattle.setting_values.proofs.Widths.{kind-bits}
-use Rattle.setting_bits.specs.SettingBits.{bytesOf}
-use Rattle.edit.specs.Edit.{setIn, withValue}
-use Rattle.edit_by_number.specs.ByNumber.{setPattern, withNumbered}
-use Rattle.edit_by_number.proofs.Laws.{sets-numbered}
+use Rattle.setting_bits.specs.SettingBits.{bytesOf, withPattern}
+use Rattle.setting_bits.proofs.Steps.{bits-few}
+use Rattle.edit.specs.Edit.{strayIn}
+use Rattle.edit_by_number.specs.ByNumber.{setPattern}
+use Rattle.edit_by_number.proofs.Asked.{below, there, its-size, stray-fits, Given, refusal, sets-none, sets-stray, sets-clean}
+use Rattle.edit_by_number.proofs.Usercode.{has-usercode, sets-code}
 use borrow.Author.Needs.{needs}
 use Rattle.edit_by_number.proofs.internal.set_numbered.Statement.{statement}
 use Rattle.edit_by_number.proofs.internal.set_numbered.Tie as tie
 
--- what the call must give: the outcome's answer, and the bytes that go with it
-abbrev Given : Device → Bool → List ℕ → (x pattern : ℕ) → Outcome (Unit {0}) → List ℕ → Type 0
-Given d form bytes x pattern answer after = Written (setPattern d form bytes x pattern) answer (withNumbered d form bytes x pattern) bytes after
-
-refusal : (d : Device) (form : Bool) (bytes : List ℕ) (x pattern n v : ℕ) → refused n v ≡ setPattern d form bytes x pattern
-    → Given d form bytes x pattern (refused n v) bytes
-refusal d form bytes x pattern n v e = says (setPattern d form bytes x pattern) (refused n v) (withNumbered d form bytes x pattern) bytes e
-
 no-device : (d : Device) (form : Bool) (bytes : List ℕ) (x pattern : ℕ) → known d ≡ false → Given d form bytes x pattern (refused 1 0) bytes
 unfolding setPattern
 no-device d form bytes x pattern k = refusal d form bytes x pattern 1 0 (rw k)
-
-below : (d : Device) (x count : ℕ) → count ≡ countOf d → x < count → x < countOf d
-below d x count e l = omega arith
-
-there : (d : Device) (x count : ℕ) (s : Setting) → count ≡ countOf d → x < count → s ≡ settingOf d x → hasSetting d s ≡ true
-there d x count s e l f = rw f (number-again d x (below d x count e l) .0)
 
 module _ (d : Device) (form : Bool) (bytes : List ℕ) (x pattern size : ℕ) (k : known d ≡ true) (e : size ≡ bytesOf d form) where
   wrong-length : (length bytes ≡ size → ⊥) → Given d form bytes x pattern (refused 2 0) bytes
   unfolding setPattern
   wrong-length ne = refusal d form bytes x pattern 2 0 (rw (k, ne-eqb (length bytes) (bytesOf d form) (λ f. ne (f ∙ sym e))))
 
-  module _ (n : length bytes ≡ size) where
-    module _ (count : ℕ) (f : count ≡ countOf d) where
-      no-number : count ≤ x → Given d form bytes x pattern (refused 4 0) bytes
-      unfolding setPattern
-      no-number l = refusal d form bytes x pattern 4 0 (rw (k, eq-eqb (length bytes) (bytesOf d form) (n ∙ e), le-ltb x (countOf d) (omega arith)))
+  module _ (n : length bytes ≡ size) (count : ℕ) (f : count ≡ countOf d) where
+    no-number : count ≤ x → Given d form bytes x pattern (refused 4 0) bytes
+    unfolding setPattern
+    no-number l = refusal d form bytes x pattern 4 0 (rw (k, eq-eqb (length bytes) (bytesOf d form) (n ∙ e), le-ltb x (countOf d) (omega arith)))
 
-      module _ (l : x < count) (s : Setting) (g : s ≡ settingOf d x) (kd : Kind) (t : Bool) (w : kd ≡ kindOf d s) (u : t ≡ ltb pattern (2 ^ bitsIn kd)) where
-        same-test : t ≡ ltb pattern (2 ^ bitsOf s)
-        same-test = u ∙ ap (λ (i : ℕ). ltb pattern (2 ^ i)) (ap bitsIn w ∙ kind-bits d s (there d x count s f l g))
+    module _ (l : x < count) (s : Setting) (g : s ≡ settingOf d x) (bits : ℕ) (t : Bool) (w : bits ≡ bitsOf s) (u : t ≡ ltb pattern (2 ^ bits)) where
+      its-test : ltb pattern (2 ^ bitsOf s) ≡ t
+      its-test = rw (← w) (sym u)
 
-        not-fitting : not t ≡ true → Given d form bytes x pattern (refused 5 0) bytes
-        unfolding setPattern
-        not-fitting y =
-            refusal d form bytes x pattern 5 0
-            (rw (k, eq-eqb (length bytes) (bytesOf d form) (n ∙ e), lt-ltb x (countOf d) (omega arith), ← g, sym same-test ∙ not-true t y))
+      not-fitting : not t ≡ true → Given d form bytes x pattern (refused 5 0) bytes
+      not-fitting y = sets-none d form bytes x k (n ∙ e) (below d x count f l) s g pattern (its-test ∙ not-true t y)
 
-        the-set : (v : Value) (answer : Outcome (Unit {0})) (after : List ℕ) → not t ≡ false → v ≡ valueIn kd pattern
-            → Written (setIn d form bytes s v) answer (withValue d form bytes s v) bytes after → Given d form bytes x pattern answer after
-        the-set v answer after y z m =
-            let fits : pattern < 2 ^ bitsOf (settingOf d x) = ltb-true _ _ (ap (λ (q : Setting). ltb pattern (2 ^ bitsOf q)) (sym g) ∙ sym same-test ∙ not-false t y) in
-            let law = sets-numbered d k form bytes x (below d x count f l) pattern fits in
-            let named : v ≡ valueOf d (settingOf d x) pattern = z ∙ ap (λ (q : Kind). valueIn q pattern) (w ∙ ap (kindOf d) g) in
-            rw (law .0, law .1, ← named, ← g) m
+      module _ (y : not t ≡ false) (stray : ℕ) (q : stray ≡ strayIn d form bytes s) where
+        a-stray : stray < length bytes → Given d form bytes x pattern (refused 6 stray) bytes
+        a-stray m = sets-stray d form bytes x k (n ∙ e) (below d x count f l) s g pattern (its-test ∙ not-false t y) stray (sym q) m
+
+        the-set : (after : List ℕ) → length bytes ≤ stray → after ≡ withPattern d form bytes s pattern → Given d form bytes x pattern (accepted tt) after
+        the-set after m z = sets-clean d form bytes x k (n ∙ e) (below d x count f l) s g pattern (its-test ∙ not-false t y) stray (sym q) after m z
+
+few : (d : Device) (x count : ℕ) (s : Setting) (bits : ℕ) → count ≡ countOf d → x < count → s ≡ settingOf d x → bits ≡ bitsOf s → bits ≤ 32
+few d x count s bits e l f w = rw w (bits-few d s (there d x count s e l f))
 
 is-known-requires : tie.Need-is-known-requires
 is-known-requires c κs = search needs
@@ -98,29 +74,65 @@ count-of-requires c κs = search (needs, is-known)
 returns-3 : tie.Need-returns-3
 returns-3 c = search (needs, is-known, no-number)
 
-setting-of-requires : tie.Need-setting-of-requires
-setting-of-requires c κs = (search (needs, is-known), search (needs, below))
+number-of-usercode-requires : tie.Need-number-of-usercode-requires
+number-of-usercode-requires c κs = search (needs, is-known)
 
-kind-of-requires : tie.Need-kind-of-requires
-kind-of-requires c κs = search needs
-
-fits-requires : tie.Need-fits-requires
-fits-requires c κs = search needs
-
-returns-4 : tie.Need-returns-4
-returns-4 c = search (needs, is-known, not-fitting)
-
-value-in-requires : tie.Need-value-in-requires
-value-in-requires c κs = search needs
-
-set-requires : tie.Need-set-requires
-set-requires c κs = search needs
+put-usercode-requires : tie.Need-put-usercode-requires
+put-usercode-requires c κs = (search (needs, is-known), search (needs, has-usercode), search (needs, its-size))
 
 same-length : tie.Need-same-length
 same-length c = search needs
 
+returns-4 : tie.Need-returns-4
+returns-4 c =
+    let tested = c .before .before .before .before .before .before .before in
+    let start = tested .before .before .before .before .before .before .before in
+    sets-code (start .before .args .d) _ _ _ _ _ _ (is-known _ _ (tested .before .before .before .before .before .before .is-known .ensures) (tested .before .before .before .before .before .if1 .left)) (tested .before .before .before .before .bytes-of .ensures) (tested .before .before .before .if2 .left) (tested .before .before .count-of .ensures) (tested .if3 .left) (c .before .before .before .before .before .before .number-of-usercode .ensures) (c .before .before .before .before .if4 .taken) (λ i. start .slice-known .given i .fits) _ _ (start .before .fits .pattern .fits) (c .before .before .put-usercode .ensures)
+
+start-of-wire-ands-requires : tie.Need-start-of-wire-ands-requires
+start-of-wire-ands-requires c κs = search (needs, is-known)
+
+set-literal-requires : tie.Need-set-literal-requires
+set-literal-requires c κs = (search (needs, is-known), search (needs, its-size), search needs)
+
+same-length-2 : tie.Need-same-length-2
+same-length-2 c = search needs
+
 returns-5 : tie.Need-returns-5
-returns-5 c = search (needs, is-known, the-set)
+returns-5 c = search needs
+
+setting-of-requires : tie.Need-setting-of-requires
+setting-of-requires c κs = (search (needs, is-known), search (needs, below))
+
+bits-of-requires : tie.Need-bits-of-requires
+bits-of-requires c κs = search (needs, there)
+
+fits-requires : tie.Need-fits-requires
+fits-requires c κs = let tested = c .before .before .before .before .before .before .before .before in few _ _ _ _ _ (tested .before .before .count-of .ensures) (tested .if3 .left) (c .before .setting-of .ensures) (c .bits-of .ensures)
+
+returns-6 : tie.Need-returns-6
+returns-6 c = search (needs, is-known, not-fitting)
+
+stray-in-requires : tie.Need-stray-in-requires
+stray-in-requires c κs = (search (needs, is-known), search (needs, there), search (needs, its-size))
+
+cast-index : tie.Need-cast-index
+cast-index c = search (needs, is-known, stray-fits)
+
+same-length-3 : tie.Need-same-length-3
+same-length-3 c = search needs
+
+returns-7 : tie.Need-returns-7
+returns-7 c = search (needs, is-known, a-stray)
+
+put-pattern-requires : tie.Need-put-pattern-requires
+put-pattern-requires c κs = (search (needs, is-known), search (needs, there), search (needs, its-size))
+
+same-length-4 : tie.Need-same-length-4
+same-length-4 c = search needs
+
+returns-8 : tie.Need-returns-8
+returns-8 c = search (needs, is-known, the-set)
 
 pub set-numbered-spec : {M : Type 1} → statement M
 set-numbered-spec =
@@ -132,11 +144,22 @@ set-numbered-spec =
     returns-2
     count-of-requires
     returns-3
-    setting-of-requires
-    kind-of-requires
-    fits-requires
-    returns-4
-    value-in-requires
-    set-requires
+    number-of-usercode-requires
+    put-usercode-requires
     same-length
-    returns-5)
+    returns-4
+    start-of-wire-ands-requires
+    set-literal-requires
+    same-length-2
+    returns-5
+    setting-of-requires
+    bits-of-requires
+    fits-requires
+    returns-6
+    stray-in-requires
+    cast-index
+    same-length-3
+    returns-7
+    put-pattern-requires
+    same-length-4
+    returns-8)

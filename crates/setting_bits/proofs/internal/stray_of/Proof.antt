@@ -1,24 +1,24 @@
 -- `stray_of` meets its contract: no byte of 8 bits has one above; of a setting of one bit, its byte is looked at.
 -- Assumes nothing.
 use mathlib.Core.Path.{_≡_}
-use mathlib.Core.Bool.{true, cond, not, _&&_}
+use mathlib.Core.Bool.{true, cond, not}
 use mathlib.Core.List.{List}
 use Prim.Native.Nat.{ℕ, _/_, _^_, _<_}
 use native.Mathlib.Omega.{arith}
-use lib.Dec.{eqb, ltb}
+use lib.Dec.{eqb}
 use lib.ListN.{length, getD}
+use borrow.Author.Tests.{ne-eqb}
 use Rattle.part.specs.Device.{known, readoutBytes}
 use Rattle.part.specs.Place.{hasByte, widthOf, indexOfByte}
 use Rattle.part.specs.declared.Device.{Device}
 use Rattle.part.specs.declared.Place.{Place}
-use Rattle.part.proofs.Laws.{width-small}
 use Rattle.settings.specs.Settings.{hasSetting}
 use Rattle.settings.specs.declared.Setting.{Setting}
 use Rattle.setting_places.specs.Places.{placeOf, bitsOf, fuseOf}
-use Rattle.setting_bits.specs.SettingBits.{inReadout, strayAmong, strayOf}
+use Rattle.setting_bits.specs.SettingBits.{inReadout, byteOf, strayOf}
 use Rattle.setting_bits.proofs.Edits.{inside, fuse-below}
-use Rattle.setting_bits.proofs.Steps.{its-byte, its-index, its-test}
-use Rattle.setting_bits.proofs.Strays.{none-stray}
+use Rattle.setting_bits.proofs.Steps.{its-byte, width-in, its-index}
+use Rattle.setting_bits.proofs.Strays.{none-stray, one-stray}
 use borrow.Author.Needs.{needs}
 use Rattle.setting_bits.proofs.internal.stray_of.Statement.{statement}
 use Rattle.setting_bits.proofs.internal.stray_of.Tie as tie
@@ -31,20 +31,22 @@ module _ (d : Device) (readout : List ℕ) (s : Setting) (k : known d ≡ true) 
   byte-there : hasByte d (p .byte) ≡ true
   byte-there = rw e (its-byte d k s h 0 there)
 
-  index-in : (index : ℕ) → length readout ≡ readoutBytes d → index ≡ indexOfByte d (p .byte) → index < length readout
-  index-in index q g = rw (q, its-index d k readout s h 0 there p e index g) (inside d inReadout (fuseOf d s 0) k (fuse-below d k s h 0 there))
+  module _ (index : ℕ) (q : length readout ≡ readoutBytes d) (g : index ≡ indexOfByte d (p .byte)) where
+    at : index ≡ byteOf d inReadout (fuseOf d s 0)
+    at = its-index d k readout s h 0 there p e index g
 
-  looked : (index above w r : ℕ) → length readout ≡ readoutBytes d → index ≡ indexOfByte d (p .byte) → w ≡ widthOf (p .byte)
-      → above ≡ getD readout index 0 / 2 ^ w → r ≡ cond (not (eqb above 0) && ltb index (length readout)) index (length readout)
-      → r ≡ strayOf d readout s
-  unfolding strayAmong
-  looked index above w r q g v m f =
-      let at = its-index d k readout s h 0 there p e index g in
-      let test = its-test d k readout s h 0 there p e index g above (length readout) w v m q in
-      rw (one, ← test, ← at, ← q) f
+    index-in : index < length readout
+    index-in = rw (q, at) (inside d inReadout (fuseOf d s 0) k (fuse-below d k s h 0 there))
 
-width-in : (p : Place) (w : ℕ) → w ≡ widthOf (p .byte) → w < 32
-width-in p w e = omega (arith, width-small (p .byte))
+    module _ (above w : ℕ) (v : w ≡ widthOf (p .byte)) (m : above ≡ getD readout index 0 / 2 ^ w) where
+      looked : strayOf d readout s ≡ cond (not (eqb above 0)) index (readoutBytes d)
+      looked = one-stray d k s h one readout p e index w above at v m
+
+      a-stray : (above ≡ 0 → ⊥) → index ≡ strayOf d readout s
+      a-stray ne = rw (looked, ne-eqb above 0 ne)
+
+      clean : above ≡ 0 → length readout ≡ strayOf d readout s
+      clean z = rw (looked, z) q
 
 some-bit : (s : Setting) → bitsOf s ≡ 1 → 0 < bitsOf s
 some-bit s one = omega arith
@@ -70,11 +72,11 @@ width-of-requires c κs = search needs
 above-width-requires : tie.Need-above-width-requires
 above-width-requires c κs = (search (needs, index-in, c .before .before .before .before .in-whole-bytes .ensures .1), search (needs, width-in))
 
-lower-requires : tie.Need-lower-requires
-lower-requires c κs = search needs
-
 returns-2 : tie.Need-returns-2
-returns-2 c = search (needs, looked, c .before .before .before .before .before .before .in-whole-bytes .ensures .1)
+returns-2 c = search (needs, a-stray, c .before .before .before .before .before .before .in-whole-bytes .ensures .1)
+
+returns-3 : tie.Need-returns-3
+returns-3 c = search (needs, clean, c .before .before .before .before .before .before .in-whole-bytes .ensures .1)
 
 pub stray-of-spec : {M : Type 1} → statement M
 stray-of-spec =
@@ -87,5 +89,5 @@ stray-of-spec =
     cast-index
     width-of-requires
     above-width-requires
-    lower-requires
-    returns-2)
+    returns-2
+    returns-3)

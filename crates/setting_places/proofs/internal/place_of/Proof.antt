@@ -2,7 +2,7 @@
 -- Assumes nothing.
 use mathlib.Core.Path.{_≡_, _∙_, ap}
 use mathlib.Core.Bool.{true}
-use Prim.Native.Nat.{ℕ, _+_, _*_, _/_, _%_, _<_}
+use Prim.Native.Nat.{ℕ, _+_, _/_, _%_, _<_}
 use native.Mathlib.Omega.{arith}
 use Rattle.part.specs.declared.Device.{Device}
 use Rattle.part.specs.declared.Place.{Place}
@@ -14,15 +14,15 @@ use Rattle.settings.specs.declared.MacrocellField.{MacrocellField}
 use Rattle.settings.specs.declared.Setting.{Setting}
 use Rattle.settings.specs.declared.Setting.the-variants.{Literal, Macrocell}
 use Rattle.settings.proofs.Numbers.{has-literal, has-macrocell, has-global, macrocell-at}
-use Rattle.setting_places.specs.Places.{main, literalRow, firstRow, rows, placeOf, bitsOf}
+use Rattle.setting_places.specs.Places.{main, firstRow, rows, placeOf, bitsOf}
 use borrow.Author.Needs.{needs}
 use Rattle.setting_places.proofs.internal.place_of.Statement.{statement}
 use Rattle.setting_places.proofs.internal.place_of.Tie as tie
 
-at-literal : (block j k l : ℕ) (p : Polarity) (row bit : ℕ) (r : Place) → row ≡ literalRow l p
-    → r ≡ main block row (k + 5 * (j % 3)) (j / 3) → r ≡ placeOf (Literal block j k l p) bit
+at-literal : (s : Setting) (block j k l : ℕ) (p : Polarity) (bit : ℕ) (r : Place) → s ≡ Literal block j k l p → r ≡ placeOf (Literal block j k l p) 0
+    → r ≡ placeOf s bit
 unfolding placeOf
-at-literal block j k l p row bit r e g = rw (← e) g
+at-literal s block j k l p bit r e g = rw e g
 
 module _ (d : Device) (s : Setting) (block m : ℕ) (f : MacrocellField) (i : ℕ)
     (h : hasSetting d s ≡ true) (e : s ≡ Macrocell block m f) (q : i ≡ macrocellIndex f) where
@@ -40,17 +40,8 @@ module _ (d : Device) (s : Setting) (block m : ℕ) (f : MacrocellField) (i : �
 enum-known-s : tie.Need-enum-known-s
 enum-known-s c = search needs
 
-literal-row-requires : tie.Need-literal-row-requires
-literal-row-requires c κs = has-literal (c .before .before .before .args .d) (c .before .before .before .args .s) (c .before .before .before .pre .1) _ _ _ _ _ (c .before .s .given .1) .3
-
-mul-main-place : tie.Need-mul-main-place
-mul-main-place c = search needs
-
-add-main-place : tie.Need-add-main-place
-add-main-place c = omega (arith, has-literal (c .before .before .before .before .args .d) (c .before .before .before .before .args .s) (c .before .before .before .before .pre .1) _ _ _ _ _ (c .before .before .s .given .1))
-
-main-place-requires : tie.Need-main-place-requires
-main-place-requires c κs = search needs
+literal-place-requires : tie.Need-literal-place-requires
+literal-place-requires c κs = let its = has-literal (c .before .before .before .args .d) (c .before .before .before .args .s) (c .before .before .before .pre .1) _ _ _ _ _ (c .before .s .given .1) in (its .2, its .3)
 
 enum-known-s-2 : tie.Need-enum-known-s-2
 enum-known-s-2 c = search needs
@@ -64,11 +55,11 @@ macrocell-index-requires c κs = search needs
 row-of-requires : tie.Need-row-of-requires
 row-of-requires c κs = inside (c .before .before .before .before .args .d) (c .before .before .before .before .args .s) _ _ _ (c .macrocell-index .result) (c .before .before .before .before .pre .1) (c .before .before .s3 .given .1) (c .macrocell-index .ensures) (c .before .before .before .before .args .bit) (c .before .before .before .before .pre .2)
 
-add-main-place-2 : tie.Need-add-main-place-2
-add-main-place-2 c = search needs
+add-main-place : tie.Need-add-main-place
+add-main-place c = search needs
 
-main-place-requires-2 : tie.Need-main-place-requires-2
-main-place-requires-2 c κs = search needs
+main-place-requires : tie.Need-main-place-requires
+main-place-requires c κs = search needs
 
 enum-known-s-4 : tie.Need-enum-known-s-4
 enum-known-s-4 c = search needs
@@ -84,7 +75,7 @@ unfolding bitsOf
 global-place-requires c κs = (has-global (c .before .before .before .args .d) (c .before .before .before .args .s) (c .before .before .before .pre .1) _ (c .before .s5 .given .1), (rw (c .before .s5 .given .1) at (c .before .before .before .pre .2)))
 
 returns : tie.Need-returns
-returns c = rw (c .before .before .before .s .given .1) (search (needs, at-literal))
+returns c = search (needs, at-literal)
 
 returns-2 : tie.Need-returns-2
 unfolding placeOf
@@ -106,16 +97,13 @@ place-of-spec =
     tie.close
     (tie.spec
     enum-known-s
-    literal-row-requires
-    mul-main-place
-    add-main-place
-    main-place-requires
+    literal-place-requires
     enum-known-s-2
     enum-known-s-3
     macrocell-index-requires
     row-of-requires
-    add-main-place-2
-    main-place-requires-2
+    add-main-place
+    main-place-requires
     enum-known-s-4
     block-place-requires
     enum-known-s-5

@@ -1,0 +1,120 @@
+-- A literal by its number: its one bit stands at the place that the number gives, and its byte is looked at.
+-- Assumes nothing.
+use mathlib.Core.Path.{_≡_, refl, sym, _∙_, ap}
+use mathlib.Core.Bool.{Bool, true, false, cond, not, _&&_}
+use mathlib.Core.List.{List}
+use Prim.Native.Nat.{ℕ, _+_, _/_, _%_, _^_, _<_, _≤_}
+use native.Mathlib.Omega.{arith}
+use mir.Syntax.{w32}
+use mir.Val.{Fits}
+use lib.Dec.{eqb, ltb}
+use lib.ListN.{length, getD}
+use borrow.Author.Tests.{lt-ltb, le-ltb}
+use Rattle.part.specs.Outcome.Outcome.{accepted, refused}
+use Rattle.part.specs.Device.{known}
+use Rattle.part.specs.Place.{hasPlace, fuseOfPlace, widthOf}
+use Rattle.part.specs.declared.Device.{Device}
+use Rattle.part.specs.declared.Place.{Place}
+use Rattle.image.specs.Bits.{bitAt, withBit, gathered}
+use Rattle.settings.specs.Settings.{hasSetting}
+use Rattle.settings.specs.Order.{start, countOf, settingOf}
+use Rattle.settings.specs.Order.Group.{literals, wireAnds}
+use Rattle.settings.specs.declared.Setting.{Setting}
+use Rattle.settings.proofs.Numbers.{ends, in-its-group, number-again}
+use Rattle.setting_places.specs.Places.{placeOf, bitsOf, fuseOf}
+use Rattle.setting_places.proofs.Places.{has-place}
+use Rattle.setting_bits.specs.SettingBits.{bytesOf, byteOf, bitIn, patternAt, withBits, withPattern}
+use Rattle.setting_bits.proofs.Edits.{inside, fuse-below}
+use Rattle.setting_bits.proofs.Steps.{bytes-between, bit-small}
+use Rattle.setting_bits.proofs.Strays.{one-stray}
+use Rattle.edit.specs.Edit.{strayIn}
+use Rattle.edit_by_number.specs.ByNumber.{readPattern}
+use Rattle.edit_by_number.proofs.Asked.{Given, reads-stray, reads-clean, sets-none, sets-stray, sets-clean}
+
+-- a bit above the width of the byte of a setting of one bit, in a readout
+stray-of-one : (d : Device) (form : Bool) (bytes : List ℕ) (s : Setting) → known d ≡ true → hasSetting d s ≡ true → bitsOf s ≡ 1
+    → (p : Place) → p ≡ placeOf s 0 → (index w above : ℕ) → index ≡ byteOf d form (fuseOf d s 0) → w ≡ widthOf (p .byte)
+    → above ≡ getD bytes index 0 / 2 ^ w → strayIn d form bytes s ≡ cond (form && not (eqb above 0)) index (bytesOf d form)
+unfolding strayIn
+stray-of-one d false bytes s k h one p e index w above i v a = refl
+stray-of-one d true bytes s k h one p e index w above i v a = one-stray d k s h one bytes p e index w above i v a
+
+module _ (d : Device) (x : ℕ) (l : x < start d wireAnds) where
+  number-there : x < countOf d
+  number-there = omega (arith, ends d literals)
+
+  one-bit : bitsOf (settingOf d x) ≡ 1
+  unfolding bitsOf
+  one-bit = let at : 0 + x ≡ x = omega arith in ap (λ (y : ℕ). bitsOf (settingOf d y)) (sym at) ∙ ap bitsOf (in-its-group d literals x l)
+
+  its : hasSetting d (settingOf d x) ≡ true
+  its = number-again d x number-there .0
+
+  bit-0 : 0 < bitsOf (settingOf d x)
+  bit-0 = omega (arith, one-bit)
+
+  pub not-two : (form : Bool) (bytes : List ℕ) (pattern : ℕ) → known d ≡ true → length bytes ≡ bytesOf d form → 1 < pattern
+      → Given d form bytes x pattern (refused 5 0) bytes
+  not-two form bytes pattern k n m =
+      let over : 2 ≤ pattern = omega arith in
+      sets-none d form bytes x k n number-there (settingOf d x) refl pattern (rw one-bit (le-ltb pattern 2 over))
+
+  module _ (k : known d ≡ true) (p : Place) (e : p ≡ placeOf (settingOf d x) 0) where
+    pub place-there : hasPlace d p ≡ true
+    place-there = rw e (has-place d (settingOf d x) 0 k its bit-0)
+
+    module _ (form : Bool) (bytes : List ℕ) (n : length bytes ≡ bytesOf d form)
+        (index bit : ℕ) (i : index ≡ byteOf d form (fuseOfPlace d p)) (j : bit ≡ bitIn d form (fuseOfPlace d p)) where
+      at-index : index ≡ byteOf d form (fuseOf d (settingOf d x) 0)
+      unfolding fuseOf
+      at-index = rw (← e) i
+
+      at-bit : bit ≡ bitIn d form (fuseOf d (settingOf d x) 0)
+      unfolding fuseOf
+      at-bit = rw (← e) j
+
+      pub index-in : index < length bytes
+      index-in = rw (n, at-index) (inside d form (fuseOf d (settingOf d x) 0) k (fuse-below d k (settingOf d x) its 0 bit-0))
+
+      pub bit-in : bit < 8
+      bit-in = rw at-bit (bit-small d k (settingOf d x) its 0 bit-0 form)
+
+      pub index-fits : Fits w32 index
+      index-fits = record { fits = omega (arith, index-in, n, bytes-between d form k) }
+
+      its-pattern : (state : ℕ) → state ≡ bitAt bytes index bit → state ≡ patternAt d form bytes (settingOf d x)
+      unfolding patternAt gathered
+      its-pattern state g = rw (one-bit, ← at-index, ← at-bit) (omega arith)
+
+      its-bytes : (pattern : ℕ) (after : List ℕ) → pattern ≤ 1 → after ≡ withBit bytes index bit pattern
+          → after ≡ withPattern d form bytes (settingOf d x) pattern
+      unfolding withPattern withBits
+      its-bytes pattern after low g = let own : pattern / 2 ^ 0 % 2 ≡ pattern = omega arith in rw (one-bit, ← at-index, ← at-bit, own) g
+
+      module _ (w above : ℕ) (v : w ≡ widthOf (p .byte)) (a : above ≡ getD bytes index 0 / 2 ^ w) where
+        found : strayIn d form bytes (settingOf d x) ≡ cond (form && not (eqb above 0)) index (bytesOf d form)
+        found = stray-of-one d form bytes (settingOf d x) k its one-bit p e index w above at-index v a
+
+        pub read-stray : (form && not (eqb above 0)) ≡ true → refused 6 index ≡ readPattern d form bytes x
+        read-stray t =
+            reads-stray d form bytes x k n number-there (settingOf d x) refl index (found ∙ ap (λ (b : Bool). cond b index (bytesOf d form)) t) index-in
+
+        pub read-state : (state : ℕ) → (form && not (eqb above 0)) ≡ false → state ≡ bitAt bytes index bit → accepted state ≡ readPattern d form bytes x
+        read-state state t g =
+            reads-clean d form bytes x k n number-there (settingOf d x) refl (bytesOf d form) (found ∙ ap (λ (b : Bool). cond b index (bytesOf d form)) t)
+            state (omega (arith, n)) (its-pattern state g)
+
+        module _ (pattern : ℕ) (low : pattern ≤ 1) where
+          fits : ltb pattern (2 ^ bitsOf (settingOf d x)) ≡ true
+          fits = rw one-bit (lt-ltb pattern 2 (omega arith))
+
+          pub set-stray : (form && not (eqb above 0)) ≡ true → Given d form bytes x pattern (refused 6 index) bytes
+          set-stray t =
+              sets-stray d form bytes x k n number-there (settingOf d x) refl pattern fits index
+              (found ∙ ap (λ (b : Bool). cond b index (bytesOf d form)) t) index-in
+
+          pub set-state : (after : List ℕ) → (form && not (eqb above 0)) ≡ false → after ≡ withBit bytes index bit pattern
+              → Given d form bytes x pattern (accepted tt) after
+          set-state after t g =
+              sets-clean d form bytes x k n number-there (settingOf d x) refl pattern fits (bytesOf d form)
+              (found ∙ ap (λ (b : Bool). cond b index (bytesOf d form)) t) after (omega (arith, n)) (its-bytes pattern after low g)

@@ -1,0 +1,51 @@
+-- USERCODE by its number: no byte that holds it has a bit above its width, and every pattern of 32 bits fits.
+-- Assumes nothing.
+use mathlib.Core.Path.{_≡_, refl, sym, _∙_, ap}
+use mathlib.Core.Bool.{Bool, true, false}
+use mathlib.Core.List.{List}
+use Prim.Native.Nat.{ℕ, _^_, _<_}
+use native.Mathlib.Omega.{arith}
+use lib.ListN.{length, getD}
+use borrow.Author.Tests.{lt-ltb}
+use Rattle.part.specs.Outcome.Outcome.{accepted}
+use Rattle.part.specs.Device.{known}
+use Rattle.part.specs.declared.Device.{Device}
+use Rattle.settings.specs.Fields.{foes, globalFields, globalIndex}
+use Rattle.settings.specs.Settings.{hasSetting}
+use Rattle.settings.specs.Order.{countOf, numberOf, settingOf}
+use Rattle.settings.specs.declared.GlobalField.the-variants as field
+use Rattle.settings.proofs.Numbers.{setting-again}
+use Rattle.setting_places.specs.Places.{bitsOf}
+use Rattle.setting_bits.specs.SettingBits.{bytesOf, patternAt, withPattern}
+use Rattle.setting_bits.proofs.Strays.{of-global, none-stray}
+use Rattle.setting_bits.proofs.Usercode.{usercode}
+use Rattle.edit.specs.Edit.{strayIn}
+use Rattle.edit_by_number.specs.ByNumber.{readPattern}
+use Rattle.edit_by_number.proofs.Asked.{Given, reads-clean, sets-clean}
+
+pub has-usercode : (d : Device) → hasSetting d usercode ≡ true
+unfolding hasSetting
+has-usercode d = lt-ltb (globalIndex (foes d) field.Usercode) (globalFields (foes d)) (omega arith)
+
+clean : (d : Device) (form : Bool) (bytes : List ℕ) → known d ≡ true → length bytes ≡ bytesOf d form → ((i : ℕ) → getD bytes i 0 < 2 ^ 8)
+    → strayIn d form bytes usercode ≡ bytesOf d form
+unfolding strayIn
+clean d false bytes k n small = refl
+clean d true bytes k n small =
+    sym (none-stray d k usercode (has-usercode d) bytes small n (of-global d k usercode (has-usercode d) field.Usercode refl)) ∙ n
+
+module _ (d : Device) (form : Bool) (bytes : List ℕ) (x count size last : ℕ) (k : known d ≡ true) (e : size ≡ bytesOf d form) (m : length bytes ≡ size)
+    (f : count ≡ countOf d) (l : x < count) (g : last ≡ numberOf d usercode) (q : x ≡ last) (small : (i : ℕ) → getD bytes i 0 < 2 ^ 8) where
+  its : usercode ≡ settingOf d x
+  its = sym (ap (settingOf d) (q ∙ g) ∙ setting-again d usercode (has-usercode d))
+
+  pub reads-code : (p : ℕ) → p ≡ patternAt d form bytes usercode → accepted p ≡ readPattern d form bytes x
+  reads-code p w =
+      reads-clean d form bytes x k (m ∙ e) (omega arith) usercode its (bytesOf d form) (clean d form bytes k (m ∙ e) small) p (omega (arith, m)) w
+
+  pub sets-code : (pattern : ℕ) (after : List ℕ) → pattern < 2 ^ 32 → after ≡ withPattern d form bytes usercode pattern
+      → Given d form bytes x pattern (accepted tt) after
+  unfolding bitsOf
+  sets-code pattern after fits w =
+      sets-clean d form bytes x k (m ∙ e) (omega arith) usercode its pattern (lt-ltb pattern (2 ^ 32) fits) (bytesOf d form)
+      (clean d form bytes k (m ∙ e) small) after (omega (arith, m)) w
