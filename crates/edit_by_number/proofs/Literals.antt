@@ -59,62 +59,71 @@ module _ (d : Device) (x : ℕ) (l : x < start d wireAnds) where
       let over : 2 ≤ pattern = omega arith in
       sets-none d form bytes x k n number-there (settingOf d x) refl pattern (rw one-bit (le-ltb pattern 2 over))
 
+  index-in : known d ≡ true → (form : Bool) (bytes : List ℕ) → length bytes ≡ bytesOf d form
+      → (index : ℕ) → index ≡ byteOf d form (fuseOf d (settingOf d x) 0) → index < length bytes
+  index-in k form bytes n index i = rw (n, i) (inside d form (fuseOf d (settingOf d x) 0) k (fuse-below d k (settingOf d x) its 0 bit-0))
+
   module _ (k : known d ≡ true) (p : Place) (e : p ≡ placeOf (settingOf d x) 0) where
     pub place-there : hasPlace d p ≡ true
     place-there = rw e (has-place d (settingOf d x) 0 k its bit-0)
 
     module _ (form : Bool) (bytes : List ℕ) (n : length bytes ≡ bytesOf d form)
         (index bit : ℕ) (i : index ≡ byteOf d form (fuseOfPlace d p)) (j : bit ≡ bitIn d form (fuseOfPlace d p)) where
-      at-index : index ≡ byteOf d form (fuseOf d (settingOf d x) 0)
+      pub at-index : index ≡ byteOf d form (fuseOf d (settingOf d x) 0)
       unfolding fuseOf
       at-index = rw (← e) i
 
-      at-bit : bit ≡ bitIn d form (fuseOf d (settingOf d x) 0)
+      pub at-bit : bit ≡ bitIn d form (fuseOf d (settingOf d x) 0)
       unfolding fuseOf
       at-bit = rw (← e) j
 
-      pub index-in : index < length bytes
-      index-in = rw (n, at-index) (inside d form (fuseOf d (settingOf d x) 0) k (fuse-below d k (settingOf d x) its 0 bit-0))
+      pub spot-in : index < length bytes
+      spot-in = index-in k form bytes n index at-index
 
-      pub bit-in : bit < 8
-      bit-in = rw at-bit (bit-small d k (settingOf d x) its 0 bit-0 form)
+      pub found : (w above : ℕ) → w ≡ widthOf (p .byte) → above ≡ getD bytes index 0 / 2 ^ w
+          → strayIn d form bytes (settingOf d x) ≡ cond (form && not (eqb above 0)) index (bytesOf d form)
+      found w above v a = stray-of-one d form bytes (settingOf d x) k its one-bit p e index w above at-index v a
 
-      pub index-fits : Fits w32 index
-      index-fits = record { fits = omega (arith, index-in, n, bytes-between d form k) }
+module _ (d : Device) (x : ℕ) (l : x < start d wireAnds) (k : known d ≡ true) (form : Bool) (bytes : List ℕ) (n : length bytes ≡ bytesOf d form)
+    (index bit : ℕ) (t : Bool) (i : index ≡ byteOf d form (fuseOf d (settingOf d x) 0)) (j : bit ≡ bitIn d form (fuseOf d (settingOf d x) 0))
+    (q : strayIn d form bytes (settingOf d x) ≡ cond t index (bytesOf d form)) where
+  pub bit-in : bit < 8
+  bit-in = rw j (bit-small d k (settingOf d x) (its d x l) 0 (bit-0 d x l) form)
 
-      its-pattern : (state : ℕ) → state ≡ bitAt bytes index bit → state ≡ patternAt d form bytes (settingOf d x)
-      unfolding patternAt gathered
-      its-pattern state g = rw (one-bit, ← at-index, ← at-bit) (omega arith)
+  pub there : index < length bytes
+  there = index-in d x l k form bytes n index i
 
-      its-bytes : (pattern : ℕ) (after : List ℕ) → pattern ≤ 1 → after ≡ withBit bytes index bit pattern
-          → after ≡ withPattern d form bytes (settingOf d x) pattern
-      unfolding withPattern withBits
-      its-bytes pattern after low g = let own : pattern / 2 ^ 0 % 2 ≡ pattern = omega arith in rw (one-bit, ← at-index, ← at-bit, own) g
+  pub index-fits : Fits w32 index
+  index-fits = record { fits = omega (arith, there, n, bytes-between d form k) }
 
-      module _ (w above : ℕ) (v : w ≡ widthOf (p .byte)) (a : above ≡ getD bytes index 0 / 2 ^ w) where
-        found : strayIn d form bytes (settingOf d x) ≡ cond (form && not (eqb above 0)) index (bytesOf d form)
-        found = stray-of-one d form bytes (settingOf d x) k its one-bit p e index w above at-index v a
+  its-pattern : (state : ℕ) → state ≡ bitAt bytes index bit → state ≡ patternAt d form bytes (settingOf d x)
+  unfolding patternAt gathered
+  its-pattern state g = rw (one-bit d x l, ← i, ← j) (omega arith)
 
-        pub read-stray : (form && not (eqb above 0)) ≡ true → refused 6 index ≡ readPattern d form bytes x
-        read-stray t =
-            reads-stray d form bytes x k n number-there (settingOf d x) refl index (found ∙ ap (λ (b : Bool). cond b index (bytesOf d form)) t) index-in
+  its-bytes : (pattern : ℕ) (after : List ℕ) → pattern ≤ 1 → after ≡ withBit bytes index bit pattern
+      → after ≡ withPattern d form bytes (settingOf d x) pattern
+  unfolding withPattern withBits
+  its-bytes pattern after low g = let own : pattern / 2 ^ 0 % 2 ≡ pattern = omega arith in rw (one-bit d x l, ← i, ← j, own) g
 
-        pub read-state : (state : ℕ) → (form && not (eqb above 0)) ≡ false → state ≡ bitAt bytes index bit → accepted state ≡ readPattern d form bytes x
-        read-state state t g =
-            reads-clean d form bytes x k n number-there (settingOf d x) refl (bytesOf d form) (found ∙ ap (λ (b : Bool). cond b index (bytesOf d form)) t)
-            state (omega (arith, n)) (its-pattern state g)
+  stray-if : (b : Bool) → t ≡ b → strayIn d form bytes (settingOf d x) ≡ cond b index (bytesOf d form)
+  stray-if b s = q ∙ ap (λ (c : Bool). cond c index (bytesOf d form)) s
 
-        module _ (pattern : ℕ) (low : pattern ≤ 1) where
-          fits : ltb pattern (2 ^ bitsOf (settingOf d x)) ≡ true
-          fits = rw one-bit (lt-ltb pattern 2 (omega arith))
+  pub read-stray : t ≡ true → refused 6 index ≡ readPattern d form bytes x
+  read-stray s = reads-stray d form bytes x k n (number-there d x l) (settingOf d x) refl index (stray-if true s) there
 
-          pub set-stray : (form && not (eqb above 0)) ≡ true → Given d form bytes x pattern (refused 6 index) bytes
-          set-stray t =
-              sets-stray d form bytes x k n number-there (settingOf d x) refl pattern fits index
-              (found ∙ ap (λ (b : Bool). cond b index (bytesOf d form)) t) index-in
+  pub read-state : (state : ℕ) → t ≡ false → state ≡ bitAt bytes index bit → accepted state ≡ readPattern d form bytes x
+  read-state state s g =
+      reads-clean d form bytes x k n (number-there d x l) (settingOf d x) refl (bytesOf d form) (stray-if false s)
+      state (omega (arith, n)) (its-pattern state g)
 
-          pub set-state : (after : List ℕ) → (form && not (eqb above 0)) ≡ false → after ≡ withBit bytes index bit pattern
-              → Given d form bytes x pattern (accepted tt) after
-          set-state after t g =
-              sets-clean d form bytes x k n number-there (settingOf d x) refl pattern fits (bytesOf d form)
-              (found ∙ ap (λ (b : Bool). cond b index (bytesOf d form)) t) after (omega (arith, n)) (its-bytes pattern after low g)
+  module _ (pattern : ℕ) (low : pattern ≤ 1) where
+    fits : ltb pattern (2 ^ bitsOf (settingOf d x)) ≡ true
+    fits = rw (one-bit d x l) (lt-ltb pattern 2 (omega arith))
+
+    pub set-stray : t ≡ true → Given d form bytes x pattern (refused 6 index) bytes
+    set-stray s = sets-stray d form bytes x k n (number-there d x l) (settingOf d x) refl pattern fits index (stray-if true s) there
+
+    pub set-state : (after : List ℕ) → t ≡ false → after ≡ withBit bytes index bit pattern → Given d form bytes x pattern (accepted tt) after
+    set-state after s g =
+        sets-clean d form bytes x k n (number-there d x l) (settingOf d x) refl pattern fits (bytesOf d form) (stray-if false s)
+        after (omega (arith, n)) (its-bytes pattern after low g)

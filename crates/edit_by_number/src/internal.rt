@@ -1,15 +1,17 @@
 // Reading and setting by setting number and pattern in an image or a readout alike: what the operations need, and no caller.
 // A literal and USERCODE go by their numbers, the others through the setting that the number stands for.
 ghost use mathlib.Core.Path.{_≡_};
-ghost use mathlib.Core.Bool.{true};
+ghost use mathlib.Core.Bool.{true, cond};
 ghost use Prim.Native.Nat.{_<_};
 ghost use lib.ListN.{length};
 ghost use Rattle.part.specs.Device.{known};
 ghost use Rattle.part.specs.Answer.{numberOutcome};
 ghost use Rattle.readout.specs.Readout.{doneOutcome, Written};
-ghost use Rattle.settings.specs.Order.{start};
+ghost use Rattle.settings.specs.Order.{start, settingOf};
 ghost use Rattle.settings.specs.Order.Group.{wireAnds};
-ghost use Rattle.setting_bits.specs.SettingBits.{bytesOf};
+ghost use Rattle.setting_places.specs.Places.{fuseOf};
+ghost use Rattle.setting_bits.specs.SettingBits.{bytesOf, byteOf, bitIn};
+ghost use Rattle.edit.specs.Edit.{strayIn};
 ghost use Rattle.edit_by_number.specs.ByNumber.{readPattern, setPattern, withNumbered};
 use part::Device;
 use part::NumberAnswer;
@@ -17,10 +19,16 @@ use part::Refusal;
 use readout::DoneAnswer;
 use settings::SettingNumber;
 
-// The pattern of a literal, by its number. Refused: 6.
-fn read_literal(d: Device, readout: bool, bytes: &[u8], number: SettingNumber) -> NumberAnswer
+// Where a literal stands, and whether its byte has a bit above its width: an image has no such bits.
+struct LiteralSpot {
+    index: usize,
+    bit: u32,
+    stray: bool,
+}
+
+fn literal_spot(d: Device, readout: bool, bytes: &[u8], number: SettingNumber) -> LiteralSpot
     requires { ⌜ (known d ≡ true) × (length (now bytes) ≡ bytesOf d readout) × (number .0 < start d wireAnds) ⌝ }
-    ensures { λ r. ⌜ numberOutcome r ≡ readPattern d readout (now (bytes .entry)) (number .0) ⌝ }
+    ensures { λ r. ⌜ (r .index ≡ byteOf d readout (fuseOf d (settingOf d (number .0)) 0)) × (r .bit ≡ bitIn d readout (fuseOf d (settingOf d (number .0)) 0)) × (strayIn d readout (now (bytes .entry)) (settingOf d (number .0)) ≡ cond (r .stray) (r .index) (bytesOf d readout)) ⌝ }
 {
     let place = setting_places::internal::place_of_literal(d, number);
     let spot = setting_bits::internal::spot_at(d, readout, place);
@@ -28,7 +36,21 @@ fn read_literal(d: Device, readout: bool, bytes: &[u8], number: SettingNumber) -
     let byte = place.byte;
     let width = part::internal::width_of(byte);
     let above = setting_bits::internal::above_width(bytes, index, width);
-    if readout & (above != 0) {
+    LiteralSpot {
+        index,
+        bit: spot.bit,
+        stray: readout & (above != 0),
+    }
+}
+
+// The pattern of a literal, by its number. Refused: 6.
+fn read_literal(d: Device, readout: bool, bytes: &[u8], number: SettingNumber) -> NumberAnswer
+    requires { ⌜ (known d ≡ true) × (length (now bytes) ≡ bytesOf d readout) × (number .0 < start d wireAnds) ⌝ }
+    ensures { λ r. ⌜ numberOutcome r ≡ readPattern d readout (now (bytes .entry)) (number .0) ⌝ }
+{
+    let spot = literal_spot(d, readout, bytes, number);
+    let index = spot.index;
+    if spot.stray {
         let stray = index as u32;
         return NumberAnswer::Refused(Refusal::StrayBit(stray));
     }
@@ -49,13 +71,9 @@ fn set_literal(
     if 1 < pattern {
         return DoneAnswer::Refused(Refusal::NoSuchValue);
     }
-    let place = setting_places::internal::place_of_literal(d, number);
-    let spot = setting_bits::internal::spot_at(d, readout, place);
+    let spot = literal_spot(d, readout, bytes, number);
     let index = spot.index;
-    let byte = place.byte;
-    let width = part::internal::width_of(byte);
-    let above = setting_bits::internal::above_width(bytes, index, width);
-    if readout & (above != 0) {
+    if spot.stray {
         let stray = index as u32;
         return DoneAnswer::Refused(Refusal::StrayBit(stray));
     }

@@ -1,7 +1,6 @@
--- `set_literal` meets its contract: its one byte is looked at before its one bit is put in place.
+-- `set_literal` meets its contract: unless its byte has a bit above its width, its one bit is put in place.
 -- Assumes nothing.
-use Rattle.setting_bits.proofs.Steps.{width-in}
-use Rattle.edit_by_number.proofs.Literals.{not-two, place-there, index-in, bit-in, index-fits, set-stray, set-state}
+use Rattle.edit_by_number.proofs.Literals.{not-two, there, bit-in, index-fits, set-stray, set-state}
 use borrow.Author.Needs.{needs}
 use Rattle.edit_by_number.proofs.internal.set_literal.Statement.{statement}
 use Rattle.edit_by_number.proofs.internal.set_literal.Tie as tie
@@ -9,17 +8,8 @@ use Rattle.edit_by_number.proofs.internal.set_literal.Tie as tie
 returns : tie.Need-returns
 returns c = search (needs, not-two)
 
-place-of-literal-requires : tie.Need-place-of-literal-requires
-place-of-literal-requires c κs = search needs
-
-spot-at-requires : tie.Need-spot-at-requires
-spot-at-requires c κs = search (needs, place-there)
-
-width-of-requires : tie.Need-width-of-requires
-width-of-requires c κs = search needs
-
-above-width-requires : tie.Need-above-width-requires
-above-width-requires c κs = (search (needs, index-in), search (needs, width-in))
+literal-spot-requires : tie.Need-literal-spot-requires
+literal-spot-requires c κs = search needs
 
 cast-stray : tie.Need-cast-stray
 cast-stray c = search (needs, index-fits)
@@ -31,7 +21,7 @@ returns-2 : tie.Need-returns-2
 returns-2 c = search (needs, set-stray)
 
 set-bit-requires : tie.Need-set-bit-requires
-set-bit-requires c κs = (search (needs, index-in), search (needs, bit-in), search needs)
+set-bit-requires c κs = (search (needs, there), search (needs, bit-in), search needs)
 
 same-length-2 : tie.Need-same-length-2
 same-length-2 c = search needs
@@ -44,10 +34,7 @@ set-literal-spec =
     tie.close
     (tie.spec
     returns
-    place-of-literal-requires
-    spot-at-requires
-    width-of-requires
-    above-width-requires
+    literal-spot-requires
     cast-stray
     same-length
     returns-2
