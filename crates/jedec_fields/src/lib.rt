@@ -138,7 +138,7 @@ pub fn holds_mark(bytes: &[u8]) -> bool
 }
 
 // The first bytes that are decimal digits, at most seven, and the number that they write.
-pub fn leading_digits(bytes: &[u8]) -> LeadingDigits
+fn leading_digits(bytes: &[u8]) -> LeadingDigits
     ensures { λ r. ⌜ DigitsStand (now (bytes .entry)) r ⌝ }
 {
     let mut x: u32 = 0;
@@ -209,7 +209,7 @@ fn unbroken(bytes: &[u8]) -> usize
 }
 
 // How many of the first bytes are 0, 1 and blanks, and how many states they write.
-pub fn states_run(bytes: &[u8]) -> StatesRun
+fn states_run(bytes: &[u8]) -> StatesRun
     ensures { λ r. ⌜ RunStands (now (bytes .entry)) r ⌝ }
 {
     let mut n: usize = 0;
