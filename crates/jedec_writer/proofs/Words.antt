@@ -11,6 +11,7 @@ use lib.Bits.{bitAnd, and-le-r, and-block}
 use lib.Dec.{eqb}
 use lib.ListN.{length, replicate}
 use lib.Pow.{pow-pos, field, mod-mod-pow}
+use lib.Pow.{high as high-part, low as low-part}
 use lib.Seq.{sets}
 use borrow.Author.Tests.{eqb-true, le-leb, lt-leb}
 use Rattle.cells.specs.Cells.{cut, join, total, number}
@@ -192,12 +193,94 @@ pub tens-of : (x : ℕ) → x < 1000000
     ≡ x / 10000 / 10 * 0x10000 + (x - x / 10000 * 10000) / 100 / 10 * 0x100000000 + (x - x / 10000 * 10000 - (x - x / 10000 * 10000) / 100 * 100) / 10 * 0x1000000000000
 tens-of x h = tenths (x / 10000) ((x - x / 10000 * 10000) / 100) (x - x / 10000 * 10000 - (x - x / 10000 * 10000) / 100 * 100) (omega arith) (omega arith) (omega arith)
 
-pub line-start-of : (x : ℕ) → x < 1000000
+-- the digits in twos by products: with x = 10000 h + 100 m + l, the products are told by h, m and l
+module _ (h m l : ℕ) (hs : h < 100) (ms : m < 100) (ls : l < 100) where
+  first-part : ℕ
+  first-part = 2704 * h + 42949700 * m + 429497 * l
+
+  next-part : ℕ
+  next-part = 270400 * h + 2704 * m + 42949700 * l
+
+  scaled-is : (h * 10000 + m * 100 + l) * 429497 ≡ h * 2 ^ 32 + first-part
+  unfolding first-part
+  scaled-is = omega arith
+
+  first-small : first-part < 2 ^ 32
+  unfolding first-part
+  first-small = omega arith
+
+  next-is : first-part * 100 ≡ m * 2 ^ 32 + next-part
+  unfolding first-part next-part
+  next-is = omega arith
+
+  next-small : next-part < 2 ^ 32
+  unfolding next-part
+  next-small = omega arith
+
+  last-is : next-part * 100 ≡ l * 2 ^ 32 + (27040000 * h + 270400 * m + 2704 * l)
+  unfolding next-part
+  last-is = omega arith
+
+  last-small : 27040000 * h + 270400 * m + 2704 * l < 2 ^ 32
+  last-small = omega arith
+
+  by-products : (scaled n next k last : ℕ) → scaled ≡ (h * 10000 + m * 100 + l) * 429497 → n ≡ scaled % 2 ^ 32 → next ≡ n * 100 → k ≡ next % 2 ^ 32 → last ≡ k * 100
+      → (scaled / 2 ^ 32 ≡ h) × (next / 2 ^ 32 ≡ m) × (last / 2 ^ 32 ≡ l)
+  by-products scaled n next k last e f g i j =
+      let s : scaled ≡ h * 2 ^ 32 + first-part = e ∙ scaled-is in
+      let n-is : n ≡ first-part = f ∙ ap (λ (y : ℕ). y % 2 ^ 32) s ∙ low-part h 32 first-small in
+      let t : next ≡ m * 2 ^ 32 + next-part = g ∙ ap (λ (y : ℕ). y * 100) n-is ∙ next-is in
+      let k-is : k ≡ next-part = i ∙ ap (λ (y : ℕ). y % 2 ^ 32) t ∙ low-part m 32 next-small in
+      let u : last ≡ l * 2 ^ 32 + (27040000 * h + 270400 * m + 2704 * l) = j ∙ ap (λ (y : ℕ). y * 100) k-is ∙ last-is in
+      (ap (λ (y : ℕ). y / 2 ^ 32) s ∙ high-part h 32 first-small, ap (λ (y : ℕ). y / 2 ^ 32) t ∙ high-part m 32 next-small, ap (λ (y : ℕ). y / 2 ^ 32) u ∙ high-part l 32 last-small)
+
+module _ (x : ℕ) (less : x < 1000000) where
+  in-parts : x ≡ x / 10000 * 10000 + (x - x / 10000 * 10000) / 100 * 100 + (x - x / 10000 * 10000 - (x - x / 10000 * 10000) / 100 * 100)
+  in-parts = omega arith
+
+  high-two : x / 10000 < 100
+  high-two = omega arith
+
+  middle-two : (x - x / 10000 * 10000) / 100 < 100
+  middle-two = omega arith
+
+  low-two : x - x / 10000 * 10000 - (x - x / 10000 * 10000) / 100 * 100 < 100
+  low-two = omega arith
+
+line-start-of : (x : ℕ) → x < 1000000
     → (x / 10000 * 0x10000 + (x - x / 10000 * 10000) / 100 * 0x100000000 + (x - x / 10000 * 10000 - (x - x / 10000 * 10000) / 100 * 100) * 0x1000000000000) * 256
     - bitAnd ((x / 10000 * 0x10000 + (x - x / 10000 * 10000) / 100 * 0x100000000 + (x - x / 10000 * 10000 - (x - x / 10000 * 10000) / 100 * 100) * 0x1000000000000) * 103) 0x3C003C003C000000 / 2 ^ 10 * 2559
     + 0x303030303030304C
     ≡ number (letterL ∷ sevenDigits x)
 line-start-of x h = rw (tens-of x h) (divided x h)
+
+parts-small : (a b c : ℕ) → a < 100 → b < 100 → c < 100 → a * 0x10000 + b * 0x100000000 + c * 0x1000000000000 < 0x64000000000000
+parts-small a b c f g h = omega arith
+
+tens-less : (a b c : ℕ) → (a / 10 * 0x10000 + b / 10 * 0x100000000 + c / 10 * 0x1000000000000) * 2559 ≤ (a * 0x10000 + b * 0x100000000 + c * 0x1000000000000) * 256
+tens-less a b c = omega arith
+
+module _ (x n k : ℕ) (less : x < 1000000) (f : n ≡ x * 429497 % 2 ^ 32) (i : k ≡ n * 100 % 2 ^ 32) where
+  abbrev twos : ℕ
+  twos = x * 429497 / 2 ^ 32 * 0x10000 + n * 100 / 2 ^ 32 * 0x100000000 + k * 100 / 2 ^ 32 * 0x1000000000000
+
+  twos-are : twos ≡ x / 10000 * 0x10000 + (x - x / 10000 * 10000) / 100 * 0x100000000 + (x - x / 10000 * 10000 - (x - x / 10000 * 10000) / 100 * 100) * 0x1000000000000
+  twos-are =
+      let p = by-products (x / 10000) ((x - x / 10000 * 10000) / 100) (x - x / 10000 * 10000 - (x - x / 10000 * 10000) / 100 * 100) (high-two x less) (middle-two x less) (low-two x less) (x * 429497) n (n * 100) k (k * 100) (ap (λ (y : ℕ). y * 429497) (in-parts x less)) f refl i refl in
+      rw (p .0, p .1, p .2)
+
+  pub twos-small : x * 429497 / 2 ^ 32 * 0x10000 + n * 100 / 2 ^ 32 * 0x100000000 + k * 100 / 2 ^ 32 * 0x1000000000000 < 0x64000000000000
+  twos-small = rw twos-are (parts-small (x / 10000) ((x - x / 10000 * 10000) / 100) (x - x / 10000 * 10000 - (x - x / 10000 * 10000) / 100 * 100) (high-two x less) (middle-two x less) (low-two x less))
+
+  pub tens-small : bitAnd ((x * 429497 / 2 ^ 32 * 0x10000 + n * 100 / 2 ^ 32 * 0x100000000 + k * 100 / 2 ^ 32 * 0x1000000000000) * 103) 0x3C003C003C000000 / 2 ^ 10 * 2559
+      ≤ (x * 429497 / 2 ^ 32 * 0x10000 + n * 100 / 2 ^ 32 * 0x100000000 + k * 100 / 2 ^ 32 * 0x1000000000000) * 256
+  tens-small = rw (twos-are, tens-of x less) (tens-less (x / 10000) ((x - x / 10000 * 10000) / 100) (x - x / 10000 * 10000 - (x - x / 10000 * 10000) / 100 * 100))
+
+  pub start-by-products : (x * 429497 / 2 ^ 32 * 0x10000 + n * 100 / 2 ^ 32 * 0x100000000 + k * 100 / 2 ^ 32 * 0x1000000000000) * 256
+      - bitAnd ((x * 429497 / 2 ^ 32 * 0x10000 + n * 100 / 2 ^ 32 * 0x100000000 + k * 100 / 2 ^ 32 * 0x1000000000000) * 103) 0x3C003C003C000000 / 2 ^ 10 * 2559
+      + 0x303030303030304C
+      ≡ number (letterL ∷ sevenDigits x)
+  start-by-products = rw twos-are (line-start-of x less)
 
 pub start-small : (x : ℕ) → number (letterL ∷ sevenDigits x) < 2 ^ 64
 unfolding digitsOf total

@@ -89,19 +89,19 @@ fn put_column(word: u64, width: usize, out: &mut [u8], at: usize)
     }
 }
 
-// `L` and the seven digits of a fuse. The digits are taken in twos: t / 10 is t * 103 / 1024, of all at once;
+// `L` and the seven digits of a fuse. The digits are taken in twos: 429497 is 2^32 / 10000 and a little more, so the first two stand above
+// bit 32 of the product, and the next two of a hundred times what is below, twice. Then t / 10 is t * 103 / 1024, of all at once;
 // t becomes t / 10 and t % 10 by 256 * t - 2559 * (t / 10).
 fn line_start(fuse: u32) -> u64
     requires { ⌜ fuse < 1000000 ⌝ }
     ensures { λ r. ⌜ r ≡ number (letterL ∷ sevenDigits fuse) ⌝ }
 {
-    let high = fuse / 10000;
-    let rest = fuse - high * 10000;
-    let middle = rest / 100;
-    let low = rest - middle * 100;
-    let twos = high as u64 * 0x0001_0000
-        + middle as u64 * 0x0001_0000_0000
-        + low as u64 * 0x0001_0000_0000_0000;
+    let scaled = fuse as u64 * 429497;
+    let next = low_bits(scaled, 32) * 100;
+    let last = low_bits(next, 32) * 100;
+    let twos = (scaled >> 32) * 0x0001_0000
+        + (next >> 32) * 0x0001_0000_0000
+        + (last >> 32) * 0x0001_0000_0000_0000;
     let tens = ((twos * 103) & 0x3C00_3C00_3C00_0000) >> 10;
     (twos * 256 - tens * 2559) + 0x3030_3030_3030_304C
 }
