@@ -25,7 +25,7 @@ use Rattle.jedec.specs.Judge.{Judged, unbroken, before, statesIn, statesFrom, l
 use mir.Syntax.{w8}
 use mir.Val.{Fits}
 use Rattle.jedec_runs.specs.Runs.{IsBlankAt, StatesAt}
-use Rattle.jedec_runs.proofs.Words.{Taken, taken-at, states-append, states-none, take-more}
+use Rattle.jedec_runs.proofs.Words.{Taken, taken-at, states-append, states-none, none-first, take-more}
 use Rattle.jedec_fields.specs.Fields.{DigitsStand, countOf, orEmpty, statesOf, RunStands, Says, untilStar, ListAt}
 use Rattle.jedec_fields.specs.declared.LeadingDigits.{LeadingDigits}
 use Rattle.jedec_fields.specs.declared.StatesRun.{StatesRun}
@@ -112,7 +112,7 @@ module _ (bytes : List ℕ) (n i : ℕ) (c : Counts bytes n i) where
           inside = c .upto;
           few = c .few;
           writes = c .so-far;
-          stops = λ l. ap statesIn (sym (take-append-drop i bytes)) ∙ states-none (take i bytes) (drop i bytes) _ (counted .0) (s .stops none-there);
+          stops = λ l. rw (← add-one i) (ap statesIn (take-more i 1 bytes) ∙ states-none (take i bytes) (take 1 (drop i bytes)) _ (counted .0) (s .stops none-there));
         }
 
     pub counts-inside : i + (count + z) ≤ length bytes
@@ -136,7 +136,7 @@ module _ (bytes : List ℕ) (r : StatesRun) (s : RunStands bytes r) where
   all-counted e = sym (s .writes) ∙ ap (λ (l : List ℕ). countOf (statesIn l)) (take-all (r .length) bytes (omega arith))
 
   pub wrong-byte : (r .length ≡ length bytes → ⊥) → none ≡ countOf (statesIn bytes)
-  wrong-byte n = rw (s .stops (omega (arith, s .inside)))
+  wrong-byte n = rw (none-first (suc (r .length)) bytes (s .stops (omega (arith, s .inside))))
 
 -- a number, a blank and states
 pub so-long : (bytes : List ℕ) (u : ℕ) → u ≤ length bytes → u ≡ length (take u bytes)

@@ -23,10 +23,10 @@ use Rattle.jedec_fields.specs.declared.FieldSays.the-variants as says
 use Rattle.jedec_fields.specs.declared.Next.{Next}
 use Rattle.jedec_fields.specs.declared.Next.the-variants as next
 use Rattle.jedec_fields.specs.declared.StatesRun.{StatesRun}
-use Rattle.jedec_fields.specs.declared.Listed.{Listed}
-use Rattle.jedec_fields.specs.declared.Listed.the-variants as listed
-use Rattle.jedec_fields.specs.declared.Judged.{Judged as Judgement}
-use Rattle.jedec_fields.specs.declared.Judged.the-variants as judgement
+use Rattle.jedec_fields.specs.declared.ListField.{ListField}
+use Rattle.jedec_fields.specs.declared.ListField.the-variants as list-field
+use Rattle.jedec_fields.specs.declared.NextSays.{NextSays}
+use Rattle.jedec_fields.specs.declared.NextSays.the-variants as next-says
 use Rattle.jedec_fields.specs.declared.TailSays.{TailSays}
 use Rattle.jedec_fields.specs.declared.TailSays.the-variants as tail
 
@@ -62,12 +62,12 @@ orEmpty (some states) = states
 unfoldable pub statesOf : List ℕ → List ℕ
 statesOf bytes = orEmpty (statesIn bytes)
 
--- the first bytes that are 0, 1 and blanks write so many states, and are all of the bytes unless these write none
+-- the first bytes that are 0, 1 and blanks write so many states; with the byte after them, if there is one, they write none
 pub record RunStands (bytes : List ℕ) (r : StatesRun) : Type 0 where
   pub inside : r .length ≤ length bytes
   pub few : r .count ≤ r .length
   pub writes : countOf (statesIn (take (r .length) bytes)) ≡ some (r .count)
-  pub stops : r .length < length bytes → statesIn bytes ≡ none
+  pub stops : r .length < length bytes → statesIn (take (suc (r .length)) bytes) ≡ none
 
 -- what an answer about a field says, with what follows the field's first letter
 abbrev pub judgedAfter : (after : List ℕ) → FieldSays → Judged
@@ -134,22 +134,22 @@ pub record ListAt (after : List ℕ) (first skip number long : ℕ) : Type 0 whe
   pub unmarked : holdsMark (take long after) ≡ false
   pub says : Says (take long after) (listIn (take long after)) (says.List first skip number)
 
-abbrev pub ListStands : (after : List ℕ) → Listed → Type 0
-ListStands after (listed.Field first skip number long) = ListAt after first skip number long
-ListStands after listed.Other = Unit {0}
+abbrev pub ListStands : (after : List ℕ) → ListField → Type 0
+ListStands after (list-field.Good first skip number long) = ListAt after first skip number long
+ListStands after list-field.Other = Unit {0}
 
 -- what stands next, and what a field says
-abbrev pub nextOf : Judgement → Next
-nextOf (judgement.Field from to fs) = next.Field from to
-nextOf (judgement.End etx) = next.End etx
-nextOf judgement.Early = next.Early
+abbrev pub nextOf : NextSays → Next
+nextOf (next-says.Field from to fs) = next.Field from to
+nextOf (next-says.End etx) = next.End etx
+nextOf next-says.Early = next.Early
 
-abbrev pub SaysThere : (text : List ℕ) → Judgement → Type 0
-SaysThere text (judgement.Field from to fs) = Says (drop 1 (take (to - from) (drop from text))) (judge (take (to - from) (drop from text))) fs
-SaysThere text (judgement.End etx) = Unit {0}
-SaysThere text judgement.Early = Unit {0}
+abbrev pub SaysThere : (text : List ℕ) → NextSays → Type 0
+SaysThere text (next-says.Field from to fs) = Says (drop 1 (take (to - from) (drop from text))) (judge (take (to - from) (drop from text))) fs
+SaysThere text (next-says.End etx) = Unit {0}
+SaysThere text next-says.Early = Unit {0}
 
-pub record JudgedStands (text : List ℕ) (at : ℕ) (r : Judgement) : Type 0 where
+pub record JudgedStands (text : List ℕ) (at : ℕ) (r : NextSays) : Type 0 where
   pub stands : Stands text at (nextOf r)
   pub judged : SaysThere text r
 

@@ -7,9 +7,9 @@ ghost use Rattle.jedec.specs.Cut.{blanksBefore, tailFrom};
 ghost use Rattle.jedec.specs.Judge.{judge};
 ghost use Rattle.jedec_fields.specs.Fields.{untilStar, Says, Stands, ListStands, JudgedStands, TailStands};
 use super::FieldSays;
-use super::Judged;
-use super::Listed;
+use super::ListField;
 use super::Next;
+use super::NextSays;
 use super::TailSays;
 use super::by_letters;
 use super::hex_value;
@@ -79,29 +79,29 @@ pub fn judge_field(field: &[u8]) -> FieldSays
 }
 
 // A good L field, found and judged at once by what follows the L.
-fn listed(bytes: &[u8]) -> Listed
+fn list_field(bytes: &[u8]) -> ListField
     ensures { λ r. ⌜ ListStands (now (bytes .entry)) r ⌝ }
 {
     let digits = leading_digits(bytes);
     if digits.length == 0 {
-        return Listed::Other;
+        return ListField::Other;
     }
     if blank_at(bytes, digits.length) == 0 {
-        return Listed::Other;
+        return ListField::Other;
     }
     let skip = digits.length + 1;
     let run = states_run(&bytes[skip..]);
     let length = skip + run.length;
     if length == bytes.len() {
-        return Listed::Other;
+        return ListField::Other;
     }
     if bytes[length] != 42 {
-        return Listed::Other;
+        return ListField::Other;
     }
     if run.count == 0 {
-        return Listed::Other;
+        return ListField::Other;
     }
-    Listed::Field {
+    ListField::Good {
         first: digits.value,
         skip,
         count: run.count,
@@ -110,7 +110,7 @@ fn listed(bytes: &[u8]) -> Listed
 }
 
 // What stands next from an offset on, judged. Most fields of a text are good L fields, and each byte of these is looked at once.
-pub fn next_judged(text: &[u8], at: usize) -> Judged
+pub fn next_judged(text: &[u8], at: usize) -> NextSays
     requires { ⌜ at ≤ length (now text) ⌝ }
     ensures { λ r. ⌜ JudgedStands (now (text .entry)) at r ⌝ }
 {
@@ -118,15 +118,15 @@ pub fn next_judged(text: &[u8], at: usize) -> Judged
     if first < text.len() {
         if text[first] == 76 {
             let after = first + 1;
-            let list = listed(&text[after..]);
-            if let Listed::Field {
+            let list = list_field(&text[after..]);
+            if let ListField::Good {
                 first: fuse,
                 skip,
                 count,
                 length,
             } = list {
                 let star = after + length;
-                return Judged::Field {
+                return NextSays::Field {
                     start: first,
                     star,
                     says: FieldSays::List {
@@ -140,11 +140,11 @@ pub fn next_judged(text: &[u8], at: usize) -> Judged
     }
     let next = next_field(text, at);
     match next {
-        Next::Early => Judged::Early,
-        Next::End(etx) => Judged::End(etx),
+        Next::Early => NextSays::Early,
+        Next::End(etx) => NextSays::End(etx),
         Next::Field { start, star } => {
             let says = judge_field(&text[start..star]);
-            Judged::Field { start, star, says }
+            NextSays::Field { start, star, says }
         }
     }
 }

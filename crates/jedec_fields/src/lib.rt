@@ -62,7 +62,7 @@ pub enum Next {
 }
 
 // What stands next in a text, with what a field says.
-pub enum Judged {
+pub enum NextSays {
     Field {
         start: usize,
         star: usize,
@@ -74,8 +74,8 @@ pub enum Judged {
 
 // An L field by what follows the L: its first fuse, how many bytes stand before the states, how many states there are, and how many bytes
 // stand before its `*`.
-pub enum Listed {
-    Field {
+pub enum ListField {
+    Good {
         first: u32,
         skip: usize,
         count: usize,

@@ -11,7 +11,7 @@ ghost use mathlib.Core.Option.Option.{some};
 ghost use Rattle.jedec_fields.specs.Fields.{fieldsAt};
 ghost use Rattle.jedec_reader.specs.Progress.{notedOf, seenOf, mayStand, misplacedAfter, withCount, withStart, withList, withSum, Few, afterField, putField, PutFits, Given, Reads, ReadInto};
 use jedec_fields::FieldSays;
-use jedec_fields::Judged;
+use jedec_fields::NextSays;
 use jedec_fields::TailSays;
 use part::Refusal;
 use readout::DoneAnswer;
@@ -318,12 +318,12 @@ fn walk(fuses: u32, text: &[u8], from: usize, image: &mut [u8]) -> DoneAnswer
     loop {
         let next = jedec_fields::internal::next_judged(text, at);
         match next {
-            Judged::Early => {
+            NextSays::Early => {
                 let length = text.len() as u32;
                 return DoneAnswer::Refused(Refusal::BadForm(length));
             }
-            Judged::End(etx) => return finish(fuses, text, etx, p, image),
-            Judged::Field { start, star, says } => {
+            NextSays::End(etx) => return finish(fuses, text, etx, p, image),
+            NextSays::Field { start, star, says } => {
                 let place = start as u32;
                 if !may_stand(p, says) {
                     return DoneAnswer::Refused(Refusal::BadForm(place));

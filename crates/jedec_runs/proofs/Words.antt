@@ -2,7 +2,7 @@
 --   and-apart, characters-of     a word's lowest bits, a byte each, and what is left of its bytes
 --   all-states                   what is left is the character 0 in each of the first bytes
 --   together                     the lowest bits side by side, by one computed test over all of them
---   states-append, states-none   the states that bytes in two parts write
+--   states-append, states-none, none-first   the states that bytes in two parts write
 --   by-word, one-state, none-taken, bits-by-word   states at an offset, and their bits
 --   Taken, taken-at              what is taken at an offset with a blank behind it
 use mathlib.Core.Path.{_≡_, refl, sym, _∙_, ap, ap₂}
@@ -15,7 +15,7 @@ use native.Mathlib.Omega.{arith}
 use native.Mathlib.Nat.{mod-lt, mod-one, suc-add, suc-mul, add-zero, zero-add, mod-eq-of-lt}
 use lib.Bits.{bitAnd, and-block, and-mask}
 use lib.Dec.{eqb}
-use lib.ListN.{length, getD, take, drop, replicate, length-drop, drop-of-length-le}
+use lib.ListN.{length, getD, take, drop, replicate, length-drop, drop-of-length-le, take-append-drop}
 use lib.Seq.{take-nil, drop-cons, drop-drop, getD-drop}
 use lib.Pow.{pow-pos, high, low, mod-mod-pow, mod-pow-add}
 use borrow.Author.Tests.{eqb-true}
@@ -199,6 +199,11 @@ take-more zero j l = rw (zero-add j)
 take-more (suc k) j [] = rw (suc-add k j) (sym (take-nil j))
 take-more (suc k) j (x ∷ l) = rw (suc-add k j) (ap (λ (r : List ℕ). x ∷ r) (take-more k j l))
 
+-- first bytes that write none leave the rest no say
+pub none-first : (k : ℕ) (bytes : List ℕ) → statesIn (take k bytes) ≡ none → statesIn bytes ≡ none
+unfolding both
+none-first k bytes e = ap statesIn (sym (take-append-drop k bytes)) ∙ states-both (take k bytes) (drop k bytes) ∙ rw e
+
 -- bytes that are all states
 abbrev Octets : List ℕ → Type 0
 Octets bytes = (k : ℕ) → getD bytes k 0 < 2 ^ 8
@@ -296,7 +301,7 @@ pub record Taken (bytes : List ℕ) (at count taken : ℕ) : Type 0 where
   pub few : count ≤ 8
   pub enough : count ≤ taken
   pub writes : statesIn (take taken (drop at bytes)) ≡ some (cut (replicate count 1) (join (replicate count 1) (drop at bytes)))
-  pub stops : taken ≡ 0 → statesIn (drop at bytes) ≡ none
+  pub stops : taken ≡ 0 → statesIn (take 1 (drop at bytes)) ≡ none
 
 pub taken-at : (bytes : List ℕ) (at count z : ℕ) → at < length bytes → ((k : ℕ) → Fits w8 (getD bytes k 0)) → StatesAt bytes at count → IsBlankAt bytes (at + count) z
     → Taken bytes at count (count + z)

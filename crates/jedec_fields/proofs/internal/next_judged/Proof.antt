@@ -14,16 +14,16 @@ use Rattle.jedec_fields.specs.declared.FieldSays.{FieldSays}
 use Rattle.jedec_fields.specs.declared.FieldSays.the-variants as says
 use Rattle.jedec_fields.specs.declared.Next.{Next}
 use Rattle.jedec_fields.specs.declared.Next.the-variants as next
-use Rattle.jedec_fields.specs.declared.Listed.{Listed}
-use Rattle.jedec_fields.specs.declared.Listed.the-variants as listed
-use Rattle.jedec_fields.specs.declared.Judged.the-variants as judgement
+use Rattle.jedec_fields.specs.declared.ListField.{ListField}
+use Rattle.jedec_fields.specs.declared.ListField.the-variants as list-field
+use Rattle.jedec_fields.specs.declared.NextSays.the-variants as next-says
 use Rattle.jedec_fields.proofs.Fields.{rest-whole, a-field}
 use borrow.Author.Needs.{needs}
 use Rattle.jedec_fields.proofs.internal.next_judged.Statement.{statement}
 use Rattle.jedec_fields.proofs.internal.next_judged.Tie as tie
 
 -- a good L field
-module _ (text : List ℕ) (at start : ℕ) (e : start ≡ at + blanksBefore (drop at text)) (l : start < length text) (b : getD text start 0 ≡ 76) (o : Listed) (g : ListStands (take (length text - (start + 1)) (drop (start + 1) text)) o) (fuse skip number long : ℕ) (w : o ≡ listed.Field fuse skip number long) where
+module _ (text : List ℕ) (at start : ℕ) (e : start ≡ at + blanksBefore (drop at text)) (l : start < length text) (b : getD text start 0 ≡ 76) (o : ListField) (g : ListStands (take (length text - (start + 1)) (drop (start + 1) text)) o) (fuse skip number long : ℕ) (w : o ≡ list-field.Good fuse skip number long) where
   after : List ℕ
   after = drop (suc start) text
 
@@ -36,7 +36,7 @@ module _ (text : List ℕ) (at start : ℕ) (e : start ≡ at + blanksBefore (dr
   first-there : drop start text ≡ 76 ∷ drop (suc start) text
   first-there = drop-cons text start 0 l ∙ rw b
 
-  good-list : JudgedStands text at (judgement.Field start (start + 1 + long) (says.List fuse skip number))
+  good-list : JudgedStands text at (next-says.Field start (start + 1 + long) (says.List fuse skip number))
   unfolding judge holdsMark untilStar
   good-list =
       let length-there : length (drop (suc start) text) ≡ length text - suc start = length-drop (suc start) text in
@@ -49,10 +49,10 @@ module _ (text : List ℕ) (at start : ℕ) (e : start ≡ at + blanksBefore (dr
       }
 
 module _ (text : List ℕ) (at : ℕ) (n : Next) (s : Stands text at n) where
-  early : n ≡ next.Early → JudgedStands text at judgement.Early
+  early : n ≡ next.Early → JudgedStands text at next-says.Early
   early w = record { stands = rw w at s; judged = tt }
 
-  the-end : (etx : ℕ) → n ≡ next.End etx → JudgedStands text at (judgement.End etx)
+  the-end : (etx : ℕ) → n ≡ next.End etx → JudgedStands text at (next-says.End etx)
   the-end etx w = record { stands = rw w at s; judged = tt }
 
   module _ (start star : ℕ) (w : n ≡ next.Field start star) where
@@ -66,7 +66,7 @@ module _ (text : List ℕ) (at : ℕ) (n : Next) (s : Stands text at n) where
     star-there = omega (arith, there .2)
 
     any-field : (fs : FieldSays) → Says (drop 1 (take (star - start) (drop start text))) (judge (take (star - start) (drop start text))) fs
-        → JudgedStands text at (judgement.Field start star fs)
+        → JudgedStands text at (next-says.Field start star fs)
     any-field fs j = record { stands = rw w at s; judged = j }
 
 skip-blanks-requires : tie.Need-skip-blanks-requires
@@ -78,17 +78,17 @@ shared-slice-read-if2 c = search needs
 add-after : tie.Need-add-after
 add-after c = search needs
 
-sub-listed : tie.Need-sub-listed
-sub-listed c = search needs
+sub-list-field : tie.Need-sub-list-field
+sub-list-field c = search needs
 
-part-listed-start : tie.Need-part-listed-start
-part-listed-start c = search needs
+part-list-field-start : tie.Need-part-list-field-start
+part-list-field-start c = search needs
 
-part-listed-end : tie.Need-part-listed-end
-part-listed-end c = search needs
+part-list-field-end : tie.Need-part-list-field-end
+part-list-field-end c = search needs
 
-listed-requires : tie.Need-listed-requires
-listed-requires c κs = search needs
+list-field-requires : tie.Need-list-field-requires
+list-field-requires c κs = search needs
 
 enum-known-list : tie.Need-enum-known-list
 enum-known-list c = search needs
@@ -142,10 +142,10 @@ next-judged-spec =
     skip-blanks-requires
     shared-slice-read-if2
     add-after
-    sub-listed
-    part-listed-start
-    part-listed-end
-    listed-requires
+    sub-list-field
+    part-list-field-start
+    part-list-field-end
+    list-field-requires
     enum-known-list
     add-star
     returns

@@ -14,7 +14,7 @@ use mir.Val.{Fits}
 use Rattle.cells.specs.Cells.{cut, join}
 use Rattle.cells.proofs.Laws.{cut-length, join-small, total-replicate}
 use Rattle.jedec_runs.specs.Runs.{IsBlankAt, StatesAt}
-use Rattle.jedec_runs.proofs.Words.{Taken, taken-at}
+use Rattle.jedec_runs.proofs.Words.{Taken, taken-at, none-first}
 use Rattle.jedec_fields.specs.Fields.{statesOf}
 use Rattle.jedec_image.specs.States.{withStates}
 use Rattle.jedec_image.proofs.Puts.{Written, rest-written, none-written, pending, pending-none, pending-own, group-under, put-few, put-over}
@@ -97,7 +97,7 @@ module _ (bytes image₀ : List ℕ) (fuse : ℕ) (image : List ℕ) (index bit 
         where
           go : (k : ℕ) → count + z ≡ k → length bytes - (i + k) < length bytes - i
           go zero f =
-              let no : none ≡ some (statesOf (drop i bytes)) = sym (s .stops f) ∙ r .left in
+              let no : none ≡ some (statesOf (drop i bytes)) = sym (none-first 1 (drop i bytes) (s .stops f)) ∙ r .left in
               let y : _≡_ {A = ℕ} 0 1 = cc in
               absurd (omega arith)
           go (suc k) f = omega arith

@@ -1,9 +1,9 @@
--- `listed` meets its contract: digits, a blank, and states and blanks up to a `*`.
+-- `list_field` meets its contract: digits, a blank, and states and blanks up to a `*`.
 -- Assumes nothing.
 use Rattle.jedec_fields.proofs.Lists.{blank-inside, run-inside, star-inside, a-good-list}
 use borrow.Author.Needs.{needs}
-use Rattle.jedec_fields.proofs.internal.listed.Statement.{statement}
-use Rattle.jedec_fields.proofs.internal.listed.Tie as tie
+use Rattle.jedec_fields.proofs.internal.list_field.Statement.{statement}
+use Rattle.jedec_fields.proofs.internal.list_field.Tie as tie
 
 leading-digits-requires : tie.Need-leading-digits-requires
 leading-digits-requires c κs = search needs
@@ -50,8 +50,8 @@ returns-5 c = search needs
 returns-6 : tie.Need-returns-6
 returns-6 c = search (needs, a-good-list)
 
-pub listed-spec : {M : Type 1} → statement M
-listed-spec =
+pub list-field-spec : {M : Type 1} → statement M
+list-field-spec =
     tie.close
     (tie.spec
     leading-digits-requires
