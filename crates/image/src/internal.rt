@@ -1,8 +1,8 @@
 // Bits and bytes of a list, image or readout alike: for the crates above.
 // A function here may require that an index or a bit is there.
 ghost use mathlib.Core.Path.{_≡_};
-ghost use Prim.Native.Nat.{_+_, _*_, _/_, _%_, _<_, _≤_};
-ghost use lib.ListN.{length};
+ghost use Prim.Native.Nat.{_+_, _*_, _/_, _%_, _^_, _<_, _≤_};
+ghost use lib.ListN.{length, getD};
 ghost use Rattle.image.specs.Bits.{bitAt, withBit, onesIn};
 ghost use Rattle.image.specs.Image.{sum16};
 
@@ -46,17 +46,39 @@ pub fn set_pair(bytes: &mut [u8], index: usize, bit: u32, states: u32)
     bytes[index] = rest + ((states as u8) << bit);
 }
 
-// The sum of the bytes, of which the low 16 bits are kept.
+// Two bytes as one number, the first lowest ..
+fn two_bytes(bytes: &[u8], i: usize) -> u16
+    requires { ⌜ i + 2 ≤ length (now bytes) ⌝ }
+    ensures { λ r. ⌜ r ≡ getD (now (bytes .entry)) i 0 + getD (now (bytes .entry)) (i + 1) 0 * 2 ^ 8 ⌝ }
+{
+    bytes[i] as u16 + bytes[i + 1] as u16 * 256
+}
+
+// .. in which the second counts 256 times: 65281 is 1 - 256 modulo 2^16.
+fn counted_once(pairs: u16, seconds: u16) -> u16
+    ensures { λ r. ⌜ r ≡ (pairs + seconds * 65281) % 2 ^ 16 ⌝ }
+{
+    ((pairs as u32 + seconds as u32 * 65281) % 65536) as u16
+}
+
+// The sum of the bytes, of which the low 16 bits are kept. Two bytes are added as one number: so eight of these are added at a time.
 pub fn sum_of(bytes: &[u8]) -> u16
     ensures { λ r. ⌜ r ≡ sum16 (now (bytes .entry)) ⌝ }
 {
-    let mut sum: u16 = 0;
+    let mut pairs: u16 = 0;
+    let mut seconds: u16 = 0;
     let mut i: usize = 0;
-    while i < bytes.len() {
-        sum = std::num::wrapping_add_u16(sum, bytes[i] as u16);
-        i += 1;
+    while 2 <= bytes.len() - i {
+        let pair = two_bytes(bytes, i);
+        pairs = std::num::wrapping_add_u16(pairs, pair);
+        seconds = std::num::wrapping_add_u16(seconds, pair >> 8);
+        i += 2;
     }
-    sum
+    if i < bytes.len() {
+        let all = std::num::wrapping_add_u16(pairs, bytes[i] as u16);
+        return counted_once(all, seconds);
+    }
+    counted_once(pairs, seconds)
 }
 
 // The ones among the bits of the bytes, eight bytes at a time and then one at a time.

@@ -110,13 +110,13 @@ module _ (d : Device) (f r : ℕ) (h : known d ≡ true) (l : f < fuseCount d) (
   pub block-small : f * r / 2 ^ 34 < 2 ^ 32
   block-small = omega (arith, product-small)
 
--- what is left of a fuse in its block
+-- what a quotient leaves, as of a fuse in its block
 module _ (f b p q : ℕ) (e : b ≡ f / q) (g : p ≡ q) where
-  pub block-fits : b * p ≤ f
-  block-fits = let w : f / q * q + f % q ≡ f = div-add-mod' f q in rw (e, g) (omega arith)
+  pub times-fits : b * p ≤ f
+  times-fits = let w : f / q * q + f % q ≡ f = div-add-mod' f q in rw (e, g) (omega arith)
 
-  pub block-product : f < 2 ^ 32 → b * p < 2 ^ 32
-  block-product l = omega (arith, block-fits)
+  pub times-small : f < 2 ^ 32 → b * p < 2 ^ 32
+  times-small l = omega (arith, times-fits)
 
-  pub left-in-block : f - b * p ≡ f % q
-  left-in-block = let w : f / q * q + f % q ≡ f = div-add-mod' f q in rw (e, g) (omega arith)
+  pub left-over : f - b * p ≡ f % q
+  left-over = let w : f / q * q + f % q ≡ f = div-add-mod' f q in rw (e, g) (omega arith)

@@ -41,6 +41,14 @@ const SUBAREA_TEXT: u32 = 18 * (10 + 5 + 36);
 const TEXT_FRAME: u32 = 3 + (2 + 2) + 4 + (1 + 4 + 2) + (1 + 4);
 
 const SCALE: u64 = 1 << 34;
+// Scales at which a product is the quotient for all that it is asked for.
+const MAIN_ROW_SCALE: u32 = 1 << 21;
+
+const SUBAREA_SCALE: u32 = 1 << 24;
+
+const WIRE_AND_ROW_SCALE: u32 = 1 << 16;
+
+const COLUMN_SCALE: u32 = 1 << 8;
 
 // The block counts, one test after another: so they compile to one test of a bit.
 pub fn is_block_count(n: u32) -> bool
@@ -248,6 +256,15 @@ pub fn index_of_byte(d: Device, byte: BytePlace) -> u32
     }
 }
 
+// x / d by a product, where that is exact. Called with a number d and a power of two it compiles to a product and a shift; the compiler's own
+// way to divide by a number takes more steps, since it does not know how small x is.
+fn quotient(x: u32, d: u32, scale: u32) -> u32
+    requires { ⌜ (0 < d) × (0 < scale) × (scale / d < 65536) × (x * (scale / d + 1) < 2 ^ 32) × (x * (scale / d + 1) / scale ≡ x / d) ⌝ }
+    ensures { λ r. ⌜ r ≡ x / d ⌝ }
+{
+    x * (scale / d + 1) / scale
+}
+
 // A column of a row, and a bit of it.
 struct ColumnBit {
     column: u32,
@@ -256,7 +273,7 @@ struct ColumnBit {
 
 // The column and the bit of what is left in a row of `wide` columns of 8 bits and then columns of `narrow` bits.
 fn column_and_bit(wide: u32, narrow: u32, rest: u32) -> ColumnBit
-    requires { ⌜ (wide ≤ 9) × (0 < narrow) × (rest < 108) ⌝ }
+    requires { ⌜ (wide ≤ 9) × (6 ≤ narrow) × (narrow ≤ 8) × (rest < wide * 8 + 36) ⌝ }
     ensures { λ r. ⌜ (r .column ≡ columnOf wide narrow rest) × (r .bit ≡ bitOf wide narrow rest) ⌝ }
 {
     if rest < wide * 8 {
@@ -266,9 +283,10 @@ fn column_and_bit(wide: u32, narrow: u32, rest: u32) -> ColumnBit
         };
     }
     let past = rest - wide * 8;
+    let columns = quotient(past, narrow, COLUMN_SCALE);
     ColumnBit {
-        column: wide + past / narrow,
-        bit: past % narrow,
+        column: wide + columns,
+        bit: past - columns * narrow,
     }
 }
 
@@ -329,13 +347,15 @@ pub fn in_its_block(d: Device, fuse: FuseNumber) -> InBlock
 
 // .. its place in a main area ..
 pub fn main_place(block: u32, rest: u32) -> Place
+    requires { ⌜ rest < mainFuses ⌝ }
     ensures { λ r. ⌜ r ≡ placeInMain block rest ⌝ }
 {
-    let at = column_and_bit(9, 6, rest % MAIN_ROW_FUSES);
+    let row = quotient(rest, MAIN_ROW_FUSES, MAIN_ROW_SCALE);
+    let at = column_and_bit(9, 6, rest - row * MAIN_ROW_FUSES);
     Place {
         byte: BytePlace::Main {
             block,
-            row: rest / MAIN_ROW_FUSES,
+            row,
             column: at.column,
         },
         bit: at.bit,
@@ -344,15 +364,18 @@ pub fn main_place(block: u32, rest: u32) -> Place
 
 // .. or in the subareas.
 pub fn wire_and_place(block: u32, rest: u32) -> Place
+    requires { ⌜ rest < 16 * subareaFuses ⌝ }
     ensures { λ r. ⌜ r ≡ placeInWireAnd block rest ⌝ }
 {
-    let left = rest % SUBAREA_FUSES;
-    let at = column_and_bit(1, 7, left % WIRE_AND_ROW_FUSES);
+    let subarea = quotient(rest, SUBAREA_FUSES, SUBAREA_SCALE);
+    let left = rest - subarea * SUBAREA_FUSES;
+    let row = quotient(left, WIRE_AND_ROW_FUSES, WIRE_AND_ROW_SCALE);
+    let at = column_and_bit(1, 7, left - row * WIRE_AND_ROW_FUSES);
     Place {
         byte: BytePlace::WireAnd {
             block,
-            subarea: rest / SUBAREA_FUSES,
-            row: left / WIRE_AND_ROW_FUSES,
+            subarea,
+            row,
             column: at.column,
         },
         bit: at.bit,
@@ -393,7 +416,8 @@ pub fn address_of_byte(d: Device, byte: BytePlace) -> DeviceAddress
 {
     match byte {
         BytePlace::Main { block, row, column } => {
-            let columns = with_field(column % 5, 3, column / 5);
+            // column % 5 and, above it, column / 5
+            let columns = column + column / 5 * 3;
             let rows = with_field(columns, 5, row);
             let area = with_field(rows, 12, 0);
             DeviceAddress(with_field(area, 13, block))

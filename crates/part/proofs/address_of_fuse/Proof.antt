@@ -16,7 +16,7 @@ use Rattle.part.specs.declared.Device.{Device}
 use Rattle.part.specs.declared.Place.{Place}
 use Rattle.part.proofs.Facts.{and-iff}
 use Rattle.part.proofs.Devices.{is-known, is-unknown}
-use Rattle.part.proofs.Fuses.{at-fuse, place-in-main, place-in-wire-and}
+use Rattle.part.proofs.Fuses.{at-fuse, place-in-main, place-in-wire-and, in-subareas}
 use Rattle.part.proofs.address_of_fuse.Statement.{statement}
 use Rattle.part.proofs.address_of_fuse.Tie as tie
 
@@ -73,7 +73,7 @@ returns-3 : tie.Need-returns-3
 returns-3 c = search (needs, is-known, below, the-address, place-in-main)
 
 wire-and-place-requires : tie.Need-wire-and-place-requires
-wire-and-place-requires c κs = search needs
+wire-and-place-requires c κs = search (needs, is-known, in-subareas)
 
 address-and-bit-requires-2 : tie.Need-address-and-bit-requires-2
 address-and-bit-requires-2 c κs = search (needs, is-known, below, wire-and-byte)

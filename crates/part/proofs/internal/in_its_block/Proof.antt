@@ -1,7 +1,7 @@
 -- `in_its_block` meets its contract: the quotient by a product, and what is left.
 -- Assumes nothing.
 use borrow.Author.Needs.{needs}
-use Rattle.part.proofs.Devices.{block-fits, block-product, left-in-block}
+use Rattle.part.proofs.Devices.{times-fits, times-small, left-over}
 use Rattle.part.proofs.internal.in_its_block.Statement.{statement}
 use Rattle.part.proofs.internal.in_its_block.Tie as tie
 
@@ -12,13 +12,13 @@ block-of-fuse-requires : tie.Need-block-of-fuse-requires
 block-of-fuse-requires c κs = search needs
 
 mul-rest : tie.Need-mul-rest
-mul-rest c = record { fits = search (needs, block-product) }
+mul-rest c = record { fits = search (needs, times-small) }
 
 sub-rest : tie.Need-sub-rest
-sub-rest c = search (needs, block-fits)
+sub-rest c = search (needs, times-fits)
 
 returns : tie.Need-returns
-returns c = search (needs, left-in-block)
+returns c = search (needs, left-over)
 
 pub in-its-block-spec : {M : Type 1} → statement M
 in-its-block-spec =

@@ -1,6 +1,6 @@
 -- `place_of_fuse` meets its contract: the steps are the definition's.
 -- Assumes nothing.
-use Rattle.part.proofs.Fuses.{place-in-main, place-in-wire-and}
+use Rattle.part.proofs.Fuses.{place-in-main, place-in-wire-and, in-subareas}
 use borrow.Author.Needs.{needs}
 use Rattle.part.proofs.internal.place_of_fuse.Statement.{statement}
 use Rattle.part.proofs.internal.place_of_fuse.Tie as tie
@@ -15,7 +15,7 @@ returns : tie.Need-returns
 returns c = search (needs, place-in-main)
 
 wire-and-place-requires : tie.Need-wire-and-place-requires
-wire-and-place-requires c κs = search needs
+wire-and-place-requires c κs = search (needs, in-subareas)
 
 returns-2 : tie.Need-returns-2
 returns-2 c = search (needs, place-in-wire-and)
