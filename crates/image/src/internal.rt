@@ -54,11 +54,12 @@ fn two_bytes(bytes: &[u8], i: usize) -> u16
     bytes[i] as u16 + bytes[i + 1] as u16 * 256
 }
 
-// .. in which the second counts 256 times: 65281 is 1 - 256 modulo 2^16.
+// .. in which the second counts 256 times: 256 of the seconds come off, and one comes back. 65281 is 1 - 256 modulo 2^16.
 fn counted_once(pairs: u16, seconds: u16) -> u16
     ensures { λ r. ⌜ r ≡ (pairs + seconds * 65281) % 2 ^ 16 ⌝ }
 {
-    ((pairs as u32 + seconds as u32 * 65281) % 65536) as u16
+    let firsts = std::num::wrapping_sub_u16(pairs, seconds << 8);
+    std::num::wrapping_add_u16(firsts, seconds)
 }
 
 // The sum of the bytes, of which the low 16 bits are kept. Two bytes are added as one number: so eight of these are added at a time.

@@ -416,8 +416,8 @@ pub fn address_of_byte(d: Device, byte: BytePlace) -> DeviceAddress
 {
     match byte {
         BytePlace::Main { block, row, column } => {
-            // column % 5 and, above it, column / 5
-            let columns = column + column / 5 * 3;
+            let third = quotient(column, 5, COLUMN_SCALE);
+            let columns = with_field(column - third * 5, 3, third);
             let rows = with_field(columns, 5, row);
             let area = with_field(rows, 12, 0);
             DeviceAddress(with_field(area, 13, block))

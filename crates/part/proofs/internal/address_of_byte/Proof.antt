@@ -37,38 +37,44 @@ in-wire-and c =
 enum-known-byte : tie.Need-enum-known-byte
 enum-known-byte c = search needs
 
-mul-columns : tie.Need-mul-columns
-mul-columns c = omega (arith, in-main (c .before))
+quotient-requires : tie.Need-quotient-requires
+quotient-requires c κs = omega (arith, in-main (c .before))
 
-add-columns : tie.Need-add-columns
-add-columns c = omega (arith, in-main (c .before))
+mul-with-field : tie.Need-mul-with-field
+mul-with-field c = omega (arith, in-main (c .before .before))
+
+sub-with-field : tie.Need-sub-with-field
+sub-with-field c = omega (arith, in-main (c .before .before))
 
 with-field-requires : tie.Need-with-field-requires
-with-field-requires c κs = omega (arith, in-main (c .before))
+with-field-requires c κs = omega (arith, in-main (c .before .before))
 
 with-field-requires-2 : tie.Need-with-field-requires-2
-with-field-requires-2 c κs = omega (arith, in-main (c .before .before))
+with-field-requires-2 c κs = omega (arith, in-main (c .before .before .before))
 
 with-field-requires-3 : tie.Need-with-field-requires-3
-with-field-requires-3 c κs = omega (arith, in-main (c .before .before .before))
+with-field-requires-3 c κs = omega (arith, in-main (c .before .before .before .before))
+
+with-field-requires-4 : tie.Need-with-field-requires-4
+with-field-requires-4 c κs = omega (arith, in-main (c .before .before .before .before .before))
 
 enum-known-byte-2 : tie.Need-enum-known-byte-2
 enum-known-byte-2 c = search needs
 
-with-field-requires-4 : tie.Need-with-field-requires-4
-with-field-requires-4 c κs = omega (arith, in-wire-and (c .before))
-
 with-field-requires-5 : tie.Need-with-field-requires-5
-with-field-requires-5 c κs = omega (arith, in-wire-and (c .before .before))
+with-field-requires-5 c κs = omega (arith, in-wire-and (c .before))
 
 with-field-requires-6 : tie.Need-with-field-requires-6
-with-field-requires-6 c κs = omega (arith, in-wire-and (c .before .before .before))
+with-field-requires-6 c κs = omega (arith, in-wire-and (c .before .before))
 
 with-field-requires-7 : tie.Need-with-field-requires-7
-with-field-requires-7 c κs = omega (arith, in-wire-and (c .before .before .before .before))
+with-field-requires-7 c κs = omega (arith, in-wire-and (c .before .before .before))
+
+with-field-requires-8 : tie.Need-with-field-requires-8
+with-field-requires-8 c κs = omega (arith, in-wire-and (c .before .before .before .before))
 
 returns : tie.Need-returns
-returns c = rw (c .before .before .before .before .byte .given .1) (omega arith)
+returns c = rw (c .before .before .before .before .before .before .byte .given .1) (omega arith)
 
 returns-2 : tie.Need-returns-2
 returns-2 c = rw (c .before .before .before .before .before .byte2 .given .1) (omega arith)
@@ -78,15 +84,17 @@ address-of-byte-spec =
     tie.close
     (tie.spec
     enum-known-byte
-    mul-columns
-    add-columns
+    quotient-requires
+    mul-with-field
+    sub-with-field
     with-field-requires
     with-field-requires-2
     with-field-requires-3
-    enum-known-byte-2
     with-field-requires-4
+    enum-known-byte-2
     with-field-requires-5
     with-field-requires-6
     with-field-requires-7
+    with-field-requires-8
     returns
     returns-2)
