@@ -10,30 +10,34 @@ const DEVICE: Device = Device {
 };
 const IMAGE_BYTES: usize = 2268;
 
-/// The bytes of a list as the specification writes it: numbers, and the names of lists of numbers.
-fn list(written: &str) -> Vec<u8> {
+/// The bytes of a text as the specification writes it: characters between quotes, numbers, and the names of two; `file` puts STX and ETX
+/// around its two.
+fn bytes(written: &str) -> Vec<u8> {
     let mut bytes = Vec::new();
-    for word in written
-        .split([' ', '∷', '+'])
-        .filter(|word| !word.is_empty())
-    {
-        match word {
-            "[]" => {}
-            "head" | "tail" => bytes.extend(named(word)),
-            number => bytes.push(number.parse().expect("a byte")),
+    if let Some(quoted) = written.strip_prefix("file ") {
+        let parts: Vec<&str> = quoted.split('"').collect();
+        bytes.push(2);
+        bytes.extend(parts[1].bytes());
+        bytes.push(3);
+        bytes.extend(parts[3].bytes());
+        return bytes;
+    }
+    // Every second part stands between quotes.
+    for (number, part) in written.split('"').enumerate() {
+        if number % 2 == 1 {
+            bytes.extend(part.bytes());
+            continue;
+        }
+        for word in part.split([' ', '∷', '+']).filter(|word| !word.is_empty()) {
+            match word {
+                "[]" | "chars" => {}
+                "stx" => bytes.push(2),
+                "etx" => bytes.push(3),
+                number => bytes.push(number.parse().expect("a byte")),
+            }
         }
     }
     bytes
-}
-
-/// The list that a name stands for.
-fn named(name: &str) -> Vec<u8> {
-    let definition = format!("\n{name} = ");
-    let after = CASES
-        .split(&definition)
-        .nth(1)
-        .expect("the name is defined");
-    list(after.lines().next().expect("a line"))
 }
 
 /// What the specification says of a text.
@@ -41,11 +45,10 @@ fn expected(answer: &str) -> Answer<Vec<u8>> {
     let words: Vec<&str> = answer.split(' ').collect();
     match words[..] {
         ["accepted", "allOnes"] => Ok(vec![0xFF; IMAGE_BYTES]),
-        ["accepted", "onlyFirst"] => {
-            let mut image = vec![0; IMAGE_BYTES];
-            image[0] = 1;
-            Ok(image)
-        }
+        ["accepted", "allZeros"] => Ok(vec![0; IMAGE_BYTES]),
+        ["accepted", "onlyFirst"] => Ok(all_but(0, 0, 1)),
+        ["accepted", "allButFirst"] => Ok(all_but(0xFF, 0, 0xFE)),
+        ["accepted", "onlyLast"] => Ok(all_but(0, IMAGE_BYTES - 1, 0x80)),
         ["refused", number, value] => Err(Refusal {
             number: number.parse().expect("a number"),
             value: value.parse().expect("a value"),
@@ -54,16 +57,26 @@ fn expected(answer: &str) -> Answer<Vec<u8>> {
     }
 }
 
+/// An image of one byte over and over, but for one.
+fn all_but(byte: u8, index: usize, other: u8) -> Vec<u8> {
+    let mut image = vec![byte; IMAGE_BYTES];
+    image[index] = other;
+    image
+}
+
 #[test]
 fn each_text_is_answered_as_stated() {
     let mut texts = 0;
-    for case in CASES.split("record { text = ").skip(1) {
-        let (text, rest) = case.split_once("; answer = ").expect("a case");
-        let answer = rest.split(" }").next().expect("an answer");
+    for line in CASES.lines() {
+        let Some(case) = line.trim_start_matches([' ', '∷']).strip_prefix("is (") else {
+            continue;
+        };
+        let (text, answer) = case.split_once(") (").expect("a text and an answer");
+        let answer = answer.strip_suffix(')').expect("an answer");
         let mut image = vec![0xA5; IMAGE_BYTES];
-        let given = text_to_image(DEVICE, &list(text), &mut image).map(|()| image);
+        let given = text_to_image(DEVICE, &bytes(text), &mut image).map(|()| image);
         assert_eq!(given, expected(answer), "{text}");
         texts += 1;
     }
-    assert!(texts >= 35, "only {texts} texts found");
+    assert!(texts >= 70, "only {texts} texts found");
 }

@@ -9,3 +9,4 @@ pub mod ListedFuses
 pub mod OtherFuses
 pub mod Demand
 pub mod Laws
+pub mod Cases

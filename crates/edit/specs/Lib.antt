@@ -2,3 +2,4 @@
 -- Assumes nothing.
 pub mod Edit
 pub mod Demand
+pub mod Cases

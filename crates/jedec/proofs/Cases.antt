@@ -1,19 +1,30 @@
 -- The texts of specs/Cases.antt mean what stands there. The images are computed once.
 -- Assumes nothing.
 use mathlib.Core.Path.{_≡_, refl}
-use mathlib.Core.List.{[], _∷_}
-use Rattle.image.specs.Bits.{gathered, tabulate}
-use Rattle.image.specs.Image.{byteSum, sum16}
-use Rattle.jedec.specs.Characters.{digitsRead, numberIn, sumIn}
-use Rattle.jedec.specs.Cut.{pieces, blanksBefore, fieldsFrom, holdsMark, tailFrom}
+use mathlib.Core.Bool.{false}
+use mathlib.Core.List.{List, [], _∷_}
+use Prim.Native.Nat.{ℕ, _<_, _≤_}
+use lib.ListN.{length}
+use borrow.Author.Tests.{lt-ltb, le-ltb}
+use Rattle.part.specs.Outcome.Outcome.{refused}
+use Rattle.cells.specs.Cells.{total}
+use Rattle.image.specs.Bits.{bitAt, gathered, tabulate}
+use Rattle.image.specs.Image.{byteSum, sum16, state}
+use Rattle.jedec.specs.Characters.{stx, digitsRead, numberIn, sumIn, digitsOf}
+use Rattle.jedec.specs.Cut.{startsWith, pieces, blanksBefore, fieldsFrom, holdsMark, tailFrom}
 use Rattle.jedec.specs.Judge.{unbroken, statesIn, listIn, judge}
 use Rattle.jedec.specs.Rules.{allFields, misplaced, stateGiven, imageWith}
 use Rattle.jedec.specs.Meaning.{meaning, concluded}
-use Rattle.jedec.specs.Cases.{AllHold, cases, allOnes, onlyFirst}
+use Rattle.jedec.specs.Written.{statesText, columnsText, linesText, upToEtx, textWith}
+use Rattle.jedec.specs.Cases.{AllHold, acceptedTexts, refusedTexts, allOnes, allZeros, onlyFirst, allButFirst, onlyLast, WrittenText}
 
-all-ones : imageWith 18144 (stateGiven 1 []) ≡ allOnes
+pub all-ones : imageWith 18144 (stateGiven 1 []) ≡ allOnes
 unfolding imageWith tabulate gathered stateGiven
 all-ones = refl
+
+all-zeros : imageWith 18144 (stateGiven 0 []) ≡ allZeros
+unfolding imageWith tabulate gathered stateGiven
+all-zeros = refl
 
 only-first : imageWith 18144 (stateGiven 0 (record { at = 10; first = 0; states = 1 ∷ [] } ∷ [])) ≡ onlyFirst
 unfolding imageWith tabulate gathered stateGiven
@@ -23,6 +34,31 @@ first-of-three : imageWith 18144 (stateGiven 0 (record { at = 10; first = 0; sta
 unfolding imageWith tabulate gathered stateGiven
 first-of-three = refl
 
-pub cases-hold : AllHold cases
+all-but-first : imageWith 18144 (stateGiven 1 (record { at = 13; first = 0; states = 0 ∷ [] } ∷ [])) ≡ allButFirst
+unfolding imageWith tabulate gathered stateGiven
+all-but-first = refl
+
+only-last : imageWith 18144 (stateGiven 0 (record { at = 10; first = 18143; states = 1 ∷ [] } ∷ [])) ≡ onlyLast
+unfolding imageWith tabulate gathered stateGiven
+only-last = refl
+
+pub accepted-texts : AllHold acceptedTexts
 unfolding meaning concluded pieces blanksBefore fieldsFrom holdsMark tailFrom unbroken statesIn listIn judge allFields misplaced digitsRead numberIn sumIn byteSum sum16
-cases-hold = (rw all-ones, (rw all-ones, (rw all-ones, (rw all-ones, (rw all-ones, (rw all-ones, (rw all-ones, (rw all-ones, (rw only-first, (rw first-of-three, (refl, (refl, (refl, (refl, (refl, (refl, (refl, (refl, (refl, (refl, (refl, (refl, (refl, (refl, (refl, (refl, (refl, (refl, (refl, (refl, (refl, (refl, (refl, (refl, (refl, (refl, (refl, (refl, (refl, (refl, (refl, (refl, (refl, (refl, (refl, (refl, tt))))))))))))))))))))))))))))))))))))))))))))))
+accepted-texts = rw (all-ones, only-first, first-of-three, all-zeros, all-but-first, only-last)
+
+pub refused-texts : AllHold refusedTexts
+unfolding meaning concluded pieces blanksBefore fieldsFrom holdsMark tailFrom unbroken statesIn listIn judge allFields misplaced digitsRead numberIn sumIn byteSum sum16 imageWith tabulate gathered stateGiven
+refused-texts = refl
+
+pub written-text : WrittenText
+unfolding textWith upToEtx linesText columnsText statesText digitsOf sum16 byteSum state bitAt total
+written-text = refl
+
+-- the longest text that is read
+pub too-long : (fuses : ℕ) (text : List ℕ) → 1048576 < length text → meaning fuses text ≡ refused 7 1048576
+unfolding meaning
+too-long fuses text h = rw (lt-ltb 1048576 (length text) h)
+
+pub no-start : (fuses : ℕ) (text : List ℕ) → length text ≤ 1048576 → startsWith stx text ≡ false → meaning fuses text ≡ refused 7 0
+unfolding meaning
+no-start fuses text h e = rw (le-ltb 1048576 (length text) h, e)

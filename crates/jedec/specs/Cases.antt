@@ -1,129 +1,210 @@
--- Texts and what they mean for the part of 18144 fuses: document 01's bench section, and points that its words leave room for.
+-- Texts and what they mean for the part of 18144 fuses: document 01's bench section, and points that its words leave room for. A written text, byte by byte.
 -- The independent program is held to the same texts (reference/tests/stated_texts.rs).
 use mathlib.Core.Path.{_≡_}
-use mathlib.Core.List.{List, [], _∷_, _++_}
+use mathlib.Core.List.{List, [], _∷_, _++_, map}
 use Prim.Native.Nat.{ℕ}
+use Prim.Native.String.{String}
 use lib.ListN.{replicate}
 use Rattle.part.specs.Outcome.{Outcome}
 use Rattle.part.specs.Outcome.Outcome.{accepted, refused}
+use Rattle.jedec.specs.Characters.{stx, etx, lf}
 use Rattle.jedec.specs.Meaning.{meaning}
+use Rattle.jedec.specs.Written.{textWith}
+use Rattle.jedec.specs.Quoted.{chars}
 
 -- a text, and what it means
 pub record Case : Type 0 where
   pub text : List ℕ
   pub answer : Outcome (List ℕ)
 
+abbrev pub is : List ℕ → Outcome (List ℕ) → Case
+is text answer = record { text = text; answer = answer }
+
 abbrev pub AllHold : List Case → Type 0
-AllHold [] = Unit {0}
-AllHold (c ∷ cases) = (meaning 18144 (c .text) ≡ c .answer) × AllHold cases
+AllHold cases = map (λ (c : Case). meaning 18144 (c .text)) cases ≡ map (λ (c : Case). c .answer) cases
 
--- STX `*QF18144*`
-abbrev pub head : List ℕ
-head = 2 ∷ 42 ∷ 81 ∷ 70 ∷ 49 ∷ 56 ∷ 49 ∷ 52 ∷ 52 ∷ 42 ∷ []
+-- design text and fields between STX and ETX, and what stands after ETX
+abbrev pub file : String → String → List ℕ
+file fields after = stx ∷ chars fields ++ etx ∷ chars after
 
--- ETX `0000`
-abbrev pub tail : List ℕ
-tail = 3 ∷ 48 ∷ 48 ∷ 48 ∷ 48 ∷ []
-
--- every fuse at 1; only fuse 0
+-- every fuse at 1, at 0; fuse 0 alone at 1, at 0; the last fuse alone at 1
 abbrev pub allOnes : List ℕ
 allOnes = replicate 2268 255
+
+abbrev pub allZeros : List ℕ
+allZeros = replicate 2268 0
 
 abbrev pub onlyFirst : List ℕ
 onlyFirst = 1 ∷ replicate 2267 0
 
-abbrev pub cases : List Case
-cases =
+abbrev pub allButFirst : List ℕ
+allButFirst = 254 ∷ replicate 2267 255
+
+abbrev pub onlyLast : List ℕ
+onlyLast = replicate 2267 0 ++ 128 ∷ []
+
+abbrev pub acceptedTexts : List Case
+acceptedTexts =
     -- the text of the bench section
-    record { text = head ++ 70 ∷ 49 ∷ 42 ∷ 67 ∷ 68 ∷ 51 ∷ 50 ∷ 52 ∷ 42 ∷ 3 ∷ 48 ∷ 51 ∷ 68 ∷ 68 ∷ []; answer = accepted allOnes }
-    -- with 0000, which is not compared
-    ∷ record { text = head ++ 70 ∷ 49 ∷ 42 ∷ 67 ∷ 68 ∷ 51 ∷ 50 ∷ 52 ∷ 42 ∷ tail; answer = accepted allOnes }
-    -- with another transmission sum
-    ∷ record { text = head ++ 70 ∷ 49 ∷ 42 ∷ 67 ∷ 68 ∷ 51 ∷ 50 ∷ 52 ∷ 42 ∷ 3 ∷ 48 ∷ 51 ∷ 68 ∷ 67 ∷ []; answer = refused 11 19 }
-    -- with another fuse sum
-    ∷ record { text = head ++ 70 ∷ 49 ∷ 42 ∷ 67 ∷ 68 ∷ 51 ∷ 50 ∷ 53 ∷ 42 ∷ tail; answer = refused 10 13 }
+    is (file "*QF18144*F1*CD324*" "03DD") (accepted allOnes)
+    -- 0000 for the transmission sum is not compared
+    ∷ is (file "*QF18144*F1*CD324*" "0000") (accepted allOnes)
     -- hex digits in lower case
-    ∷ record { text = head ++ 70 ∷ 49 ∷ 42 ∷ 67 ∷ 100 ∷ 51 ∷ 50 ∷ 52 ∷ 42 ∷ 3 ∷ 48 ∷ 51 ∷ 102 ∷ 100 ∷ []; answer = accepted allOnes }
+    ∷ is (file "*QF18144*F1*Cd324*" "03fd") (accepted allOnes)
     -- F after C: the sum is that of the finished image
-    ∷ record { text = head ++ 67 ∷ 68 ∷ 51 ∷ 50 ∷ 52 ∷ 42 ∷ 70 ∷ 49 ∷ 42 ∷ tail; answer = accepted allOnes }
-    -- C before any state is given, compared with the finished image
-    ∷ record { text = head ++ 67 ∷ 48 ∷ 48 ∷ 48 ∷ 48 ∷ 42 ∷ 70 ∷ 49 ∷ 42 ∷ tail; answer = refused 10 10 }
+    ∷ is (file "*QF18144*CD324*F1*" "0000") (accepted allOnes)
     -- skipped fields, anywhere and again
-    ∷ record { text = 2 ∷ 42 ∷ 78 ∷ 42 ∷ 81 ∷ 70 ∷ 49 ∷ 56 ∷ 49 ∷ 52 ∷ 52 ∷ 42 ∷ 74 ∷ 49 ∷ 42 ∷ 81 ∷ 80 ∷ 97 ∷ 42 ∷ 81 ∷ 86 ∷ 42 ∷ 70 ∷ 49 ∷ 42 ∷ 88 ∷ 42 ∷ 67 ∷ 68 ∷ 51 ∷ 50 ∷ 52 ∷ 42 ∷ 78 ∷ 32 ∷ 42 ∷ tail; answer = accepted allOnes }
+    ∷ is (file "*N*QF18144*J1*QPa*QV*F1*X*CD324*N *" "0000") (accepted allOnes)
     -- an L with blanks of every kind
-    ∷ record { text = head ++ 76 ∷ 48 ∷ 32 ∷ 9 ∷ 13 ∷ 10 ∷ 49 ∷ 32 ∷ 42 ∷ 32 ∷ 3 ∷ 48 ∷ 48 ∷ 48 ∷ 48 ∷ 32 ∷ 10 ∷ []; answer = accepted onlyFirst }
+    ∷ is (stx ∷ chars "*QF18144*L0 " ++ 9 ∷ 13 ∷ 10 ∷ chars "1 * " ++ etx ∷ chars "0000 " ++ 10 ∷ []) (accepted onlyFirst)
     -- L fields that touch, and a gap
-    ∷ record { text = head ++ 76 ∷ 48 ∷ 32 ∷ 49 ∷ 42 ∷ 76 ∷ 49 ∷ 32 ∷ 48 ∷ 42 ∷ 76 ∷ 53 ∷ 32 ∷ 48 ∷ 42 ∷ tail; answer = accepted onlyFirst }
-    -- nothing
-    ∷ record { text = []; answer = refused 7 0 }
-    -- a blank before STX
-    ∷ record { text = 32 ∷ 2 ∷ 42 ∷ 81 ∷ 70 ∷ 49 ∷ 56 ∷ 49 ∷ 52 ∷ 52 ∷ 42 ∷ tail; answer = refused 7 0 }
-    -- a design text without its star
-    ∷ record { text = 2 ∷ tail; answer = refused 7 6 }
-    -- ETX in the design text
-    ∷ record { text = 2 ∷ 3 ∷ 42 ∷ tail; answer = refused 7 1 }
-    -- the design text is no field
-    ∷ record { text = 2 ∷ 81 ∷ 70 ∷ 49 ∷ 56 ∷ 49 ∷ 52 ∷ 52 ∷ 42 ∷ tail; answer = refused 8 9 }
-    -- no field
-    ∷ record { text = 2 ∷ 42 ∷ tail; answer = refused 8 2 }
-    -- a field without its star
-    ∷ record { text = head ++ 70 ∷ 49 ∷ tail; answer = refused 7 17 }
-    -- a text that ends early
-    ∷ record { text = head ++ 90 ∷ 90 ∷ []; answer = refused 7 12 }
-    -- ETX inside a field
-    ∷ record { text = head ++ 78 ∷ 120 ∷ 3 ∷ 48 ∷ 48 ∷ 48 ∷ 48 ∷ 42 ∷ 3 ∷ 48 ∷ 48 ∷ 48 ∷ 48 ∷ []; answer = refused 7 10 }
-    -- STX where a field could start
-    ∷ record { text = head ++ 2 ∷ 42 ∷ tail; answer = refused 7 10 }
-    -- an empty field
-    ∷ record { text = head ++ 32 ∷ 42 ∷ tail; answer = refused 7 11 }
-    -- an F before any QF, and the text ends early
-    ∷ record { text = 2 ∷ 42 ∷ 70 ∷ 48 ∷ 42 ∷ 81 ∷ 70 ∷ 49 ∷ []; answer = refused 7 2 }
-    -- an F before the QF
-    ∷ record { text = 2 ∷ 42 ∷ 70 ∷ 48 ∷ 42 ∷ 81 ∷ 70 ∷ 49 ∷ 56 ∷ 49 ∷ 52 ∷ 52 ∷ 42 ∷ tail; answer = refused 7 2 }
-    -- a second QF
-    ∷ record { text = head ++ 81 ∷ 70 ∷ 49 ∷ 56 ∷ 49 ∷ 52 ∷ 52 ∷ 42 ∷ tail; answer = refused 7 10 }
-    -- eight digits
-    ∷ record { text = 2 ∷ 42 ∷ 81 ∷ 70 ∷ 48 ∷ 48 ∷ 48 ∷ 49 ∷ 56 ∷ 49 ∷ 52 ∷ 52 ∷ 42 ∷ tail; answer = refused 7 2 }
-    -- a blank before the star of QF
-    ∷ record { text = 2 ∷ 42 ∷ 81 ∷ 70 ∷ 49 ∷ 56 ∷ 49 ∷ 52 ∷ 52 ∷ 32 ∷ 42 ∷ tail; answer = refused 7 2 }
-    -- of F
-    ∷ record { text = head ++ 70 ∷ 49 ∷ 32 ∷ 42 ∷ tail; answer = refused 7 10 }
-    -- of C
-    ∷ record { text = head ++ 67 ∷ 68 ∷ 51 ∷ 50 ∷ 52 ∷ 32 ∷ 42 ∷ tail; answer = refused 7 10 }
-    -- another count
-    ∷ record { text = 2 ∷ 42 ∷ 81 ∷ 70 ∷ 48 ∷ 48 ∷ 49 ∷ 56 ∷ 49 ∷ 52 ∷ 53 ∷ 42 ∷ tail; answer = refused 8 2 }
-    -- a count of 0
-    ∷ record { text = 2 ∷ 42 ∷ 81 ∷ 70 ∷ 48 ∷ 42 ∷ tail; answer = refused 8 2 }
-    -- an L without a number
-    ∷ record { text = head ++ 76 ∷ 32 ∷ 48 ∷ 32 ∷ 49 ∷ 42 ∷ tail; answer = refused 7 10 }
-    -- an L without states
-    ∷ record { text = head ++ 76 ∷ 49 ∷ 56 ∷ 49 ∷ 52 ∷ 53 ∷ 32 ∷ 42 ∷ tail; answer = refused 7 10 }
-    -- an L after C
-    ∷ record { text = head ++ 67 ∷ 48 ∷ 48 ∷ 48 ∷ 48 ∷ 42 ∷ 76 ∷ 48 ∷ 32 ∷ 49 ∷ 42 ∷ tail; answer = refused 7 16 }
-    -- an F after L
-    ∷ record { text = head ++ 76 ∷ 48 ∷ 32 ∷ 49 ∷ 42 ∷ 70 ∷ 48 ∷ 42 ∷ tail; answer = refused 7 15 }
-    -- a second C
-    ∷ record { text = head ++ 67 ∷ 48 ∷ 48 ∷ 48 ∷ 48 ∷ 42 ∷ 67 ∷ 48 ∷ 48 ∷ 48 ∷ 48 ∷ 42 ∷ tail; answer = refused 7 16 }
-    -- an L over the one before it
-    ∷ record { text = head ++ 76 ∷ 53 ∷ 32 ∷ 49 ∷ 49 ∷ 42 ∷ 76 ∷ 54 ∷ 32 ∷ 49 ∷ 42 ∷ tail; answer = refused 9 16 }
-    -- an L wholly below the one before it
-    ∷ record { text = head ++ 76 ∷ 53 ∷ 32 ∷ 49 ∷ 49 ∷ 42 ∷ 76 ∷ 48 ∷ 32 ∷ 49 ∷ 42 ∷ tail; answer = refused 9 16 }
-    -- an L past the count
-    ∷ record { text = head ++ 76 ∷ 49 ∷ 56 ∷ 49 ∷ 52 ∷ 51 ∷ 32 ∷ 49 ∷ 49 ∷ 42 ∷ tail; answer = refused 9 10 }
-    -- letters that no field has
-    ∷ record { text = head ++ 86 ∷ 49 ∷ 42 ∷ tail; answer = refused 7 10 }
-    -- a Q alone
-    ∷ record { text = head ++ 81 ∷ 42 ∷ tail; answer = refused 7 10 }
-    -- a Q with another letter
-    ∷ record { text = head ++ 81 ∷ 88 ∷ 42 ∷ tail; answer = refused 7 10 }
-    -- a letter in lower case
-    ∷ record { text = head ++ 102 ∷ 49 ∷ 42 ∷ tail; answer = refused 7 10 }
-    -- two digits after ETX and a blank
-    ∷ record { text = head ++ 3 ∷ 48 ∷ 48 ∷ 10 ∷ []; answer = refused 7 13 }
-    -- two digits after ETX
-    ∷ record { text = head ++ 3 ∷ 48 ∷ 48 ∷ []; answer = refused 7 13 }
-    -- a fifth digit after ETX
-    ∷ record { text = head ++ 3 ∷ 48 ∷ 48 ∷ 48 ∷ 48 ∷ 48 ∷ []; answer = refused 7 15 }
-    -- the form comes before the count
-    ∷ record { text = 2 ∷ 42 ∷ 81 ∷ 70 ∷ 49 ∷ 42 ∷ 3 ∷ 48 ∷ 48 ∷ 48 ∷ 48 ∷ 120 ∷ []; answer = refused 7 11 }
+    ∷ is (file "*QF18144*L0 1*L1 0*L5 0*" "0000") (accepted onlyFirst)
+    -- F0
+    ∷ is (file "*QF18144*F0*" "0000") (accepted allZeros)
+    -- no F is as F0
+    ∷ is (file "*QF18144*" "0000") (accepted allZeros)
+    -- an L over F1
+    ∷ is (file "*QF18144*F1*L0 0*" "0000") (accepted allButFirst)
+    -- an L of the last fuse
+    ∷ is (file "*QF18144*L18143 1*" "0000") (accepted onlyLast)
     ∷ []
+
+abbrev pub refusedTexts : List Case
+refusedTexts =
+    -- another transmission sum
+    is (file "*QF18144*F1*CD324*" "03DC") (refused 11 19)
+    -- another fuse sum
+    ∷ is (file "*QF18144*F1*CD325*" "0000") (refused 10 13)
+    -- C before any state is given, compared with the finished image
+    ∷ is (file "*QF18144*C0000*F1*" "0000") (refused 10 10)
+    -- nothing
+    ∷ is ([]) (refused 7 0)
+    -- a blank before STX
+    ∷ is (chars " " ++ stx ∷ chars "*QF18144*" ++ etx ∷ chars "0000") (refused 7 0)
+    -- a design text without its star
+    ∷ is (file "" "0000") (refused 7 6)
+    -- ETX in the design text
+    ∷ is (stx ∷ etx ∷ chars "*" ++ etx ∷ chars "0000") (refused 7 1)
+    -- the design text is no field
+    ∷ is (file "QF18144*" "0000") (refused 8 9)
+    -- no field
+    ∷ is (file "*" "0000") (refused 8 2)
+    -- a field without its star
+    ∷ is (file "*QF18144*F1" "0000") (refused 7 17)
+    -- a text that ends early
+    ∷ is (stx ∷ chars "*QF18144*ZZ") (refused 7 12)
+    -- ETX inside a field
+    ∷ is (stx ∷ chars "*QF18144*Nx" ++ etx ∷ chars "0000*" ++ etx ∷ chars "0000") (refused 7 10)
+    -- STX where a field could start
+    ∷ is (stx ∷ chars "*QF18144*" ++ stx ∷ chars "*" ++ etx ∷ chars "0000") (refused 7 10)
+    -- an empty field
+    ∷ is (file "*QF18144* *" "0000") (refused 7 11)
+    -- an F before any QF, and the text ends early
+    ∷ is (stx ∷ chars "*F0*QF1") (refused 7 2)
+    -- an F before the QF
+    ∷ is (file "*F0*QF18144*" "0000") (refused 7 2)
+    -- a second QF
+    ∷ is (file "*QF18144*QF18144*" "0000") (refused 7 10)
+    -- QF with eight digits
+    ∷ is (file "*QF00018144*" "0000") (refused 7 2)
+    -- a blank before the star of QF
+    ∷ is (file "*QF18144 *" "0000") (refused 7 2)
+    -- a blank before the star of F
+    ∷ is (file "*QF18144*F1 *" "0000") (refused 7 10)
+    -- a blank before the star of C
+    ∷ is (file "*QF18144*CD324 *" "0000") (refused 7 10)
+    -- another count
+    ∷ is (file "*QF0018145*" "0000") (refused 8 2)
+    -- a count of 0
+    ∷ is (file "*QF0*" "0000") (refused 8 2)
+    -- an L without a number
+    ∷ is (file "*QF18144*L 0 1*" "0000") (refused 7 10)
+    -- an L without states
+    ∷ is (file "*QF18144*L18145 *" "0000") (refused 7 10)
+    -- an L after C
+    ∷ is (file "*QF18144*C0000*L0 1*" "0000") (refused 7 16)
+    -- an F after L
+    ∷ is (file "*QF18144*L0 1*F0*" "0000") (refused 7 15)
+    -- a second C
+    ∷ is (file "*QF18144*C0000*C0000*" "0000") (refused 7 16)
+    -- an L over the one before it
+    ∷ is (file "*QF18144*L5 11*L6 1*" "0000") (refused 9 16)
+    -- an L wholly below the one before it
+    ∷ is (file "*QF18144*L5 11*L0 1*" "0000") (refused 9 16)
+    -- an L past the count
+    ∷ is (file "*QF18144*L18143 11*" "0000") (refused 9 10)
+    -- letters that no field has
+    ∷ is (file "*QF18144*V1*" "0000") (refused 7 10)
+    -- a Q alone
+    ∷ is (file "*QF18144*Q*" "0000") (refused 7 10)
+    -- a Q with another letter
+    ∷ is (file "*QF18144*QX*" "0000") (refused 7 10)
+    -- a letter in lower case
+    ∷ is (file "*QF18144*f1*" "0000") (refused 7 10)
+    -- two digits after ETX and a blank
+    ∷ is (stx ∷ chars "*QF18144*" ++ etx ∷ chars "00" ++ 10 ∷ []) (refused 7 13)
+    -- two digits after ETX
+    ∷ is (file "*QF18144*" "00") (refused 7 13)
+    -- a fifth digit after ETX
+    ∷ is (file "*QF18144*" "00000") (refused 7 15)
+    -- the form comes before the count
+    ∷ is (file "*QF1*" "0000x") (refused 7 11)
+    -- a second F
+    ∷ is (file "*QF18144*F0*F0*" "0000") (refused 7 13)
+    -- an L before the QF
+    ∷ is (file "*L0 1*QF18144*" "0000") (refused 7 2)
+    -- a C before the QF
+    ∷ is (file "*C0000*QF18144*" "0000") (refused 7 2)
+    -- QF without digits
+    ∷ is (file "*QF*" "0000") (refused 7 2)
+    -- the character before 0 for a digit
+    ∷ is (file "*QF1814/*" "0000") (refused 7 2)
+    -- the character after 9 for a digit
+    ∷ is (file "*QF1814:*" "0000") (refused 7 2)
+    -- F2
+    ∷ is (file "*QF18144*F2*" "0000") (refused 7 10)
+    -- F01
+    ∷ is (file "*QF18144*F01*" "0000") (refused 7 10)
+    -- F without a digit
+    ∷ is (file "*QF18144*F*" "0000") (refused 7 10)
+    -- C with three digits
+    ∷ is (file "*QF18144*C000*" "0000") (refused 7 10)
+    -- C with five digits
+    ∷ is (file "*QF18144*C00000*" "0000") (refused 7 10)
+    -- C with a G
+    ∷ is (file "*QF18144*C000G*" "0000") (refused 7 10)
+    -- an L without a blank
+    ∷ is (file "*QF18144*L01*" "0000") (refused 7 10)
+    -- an L with a 2
+    ∷ is (file "*QF18144*L0 012*" "0000") (refused 7 10)
+    -- an L of eight digits
+    ∷ is (file "*QF18144*L00000000 1*" "0000") (refused 7 10)
+    -- STX in the design text
+    ∷ is (stx ∷ chars "a" ++ stx ∷ chars "*QF18144*" ++ etx ∷ chars "0000") (refused 7 1)
+    -- STX inside a field
+    ∷ is (stx ∷ chars "*QF18144*N" ++ stx ∷ chars "*" ++ etx ∷ chars "0000") (refused 7 10)
+    -- the character after f for a hex digit
+    ∷ is (file "*QF18144*" "000g") (refused 7 14)
+    -- the character before A for a hex digit
+    ∷ is (file "*QF18144*" "000@") (refused 7 14)
+    -- the character after F for a hex digit
+    ∷ is (file "*QF18144*" "000G") (refused 7 14)
+    -- the character before a for a hex digit
+    ∷ is (file "*QF18144*" "000`") (refused 7 14)
+    -- a vertical tab is no blank
+    ∷ is (stx ∷ chars "*QF18144*" ++ etx ∷ chars "0000" ++ 11 ∷ []) (refused 7 15)
+    -- the lowest of 8, 9, 10 and 11
+    ∷ is (file "*QF18145*L5 11*L0 1*C0000*" "0001") (refused 8 2)
+    -- the lowest of 9, 10 and 11; the first of two L fields
+    ∷ is (file "*QF18144*L5 11*L0 1*L0 1*C0000*" "0001") (refused 9 16)
+    -- the lowest of 10 and 11
+    ∷ is (file "*QF18144*F1*CD325*" "0001") (refused 10 13)
+    -- the lowest of 8 and 11: no QF
+    ∷ is (file "*" "0001") (refused 8 2)
+    ∷ []
+
+-- what is written of eight fuses, 1 0 1 0 0 1 0 1, in one line of two columns
+abbrev pub WrittenText : Type 0
+WrittenText =
+    textWith 8 ((4 ∷ 4 ∷ []) ∷ []) (165 ∷ [])
+    ≡ stx ∷ chars "*" ++ lf ∷ chars "QF8*" ++ lf ∷ chars "F0*" ++ lf ∷ chars "L0000000 1010 0101*" ++ lf ∷ chars "C00A5*" ++ lf ∷ etx ∷ chars "06C7"

@@ -7,4 +7,5 @@ pub mod Rules
 pub mod Meaning
 pub mod Written
 pub mod Form
+pub mod Quoted
 pub mod Cases

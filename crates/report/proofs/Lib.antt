@@ -4,3 +4,4 @@ pub mod Lines
 pub mod Choice
 pub mod Answers
 pub mod Laws
+pub mod Cases

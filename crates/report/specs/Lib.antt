@@ -2,3 +2,4 @@
 -- Assumes nothing.
 pub mod Report
 pub mod Put
+pub mod Cases

@@ -28,7 +28,9 @@ use Rattle.settings.specs.declared.Setting.{Setting}
 use Rattle.setting_places.specs.Places.{main, bitsOf, fuseOf, placeOf, lists}
 use Rattle.setting_places.specs.Back.{candidateAt, settingAt, fieldIndexAtRow, lastUpTo}
 use Rattle.setting_places.specs.Operations.{fuseOfBit, settingAtFuse}
-use Rattle.setting_places.specs.Cases.{UsercodeRows, AllHold, cases}
+use Rattle.setting_places.specs.Cases.{UsercodeRows, AllHold, benchCases, corners, ofMacrocellAndBlock, ofGlobals}
+use Rattle.part.specs.Cases.{twoSmall}
+use Rattle.settings.specs.Cases.{twoLarge}
 use Rattle.setting_places.proofs.Places.{has-place, candidate-again}
 use Rattle.setting_places.proofs.OnFuses as on-fuses
 
@@ -133,6 +135,18 @@ usercode-rows i b hi low high =
     at : {row column bit row2 column2 bit2 : ℕ} → row ≡ row2 → column ≡ column2 → bit ≡ bit2 → main 0 row column bit ≡ main 0 row2 column2 bit2
     at e f g = rw (e, f, g)
 
-pub bench-cases : AllHold cases
+pub bench-cases : AllHold twoSmall benchCases
 unfolding fuseOfBit settingAtFuse settingAt candidateAt known fuseCount placeOfFuse fieldIndexAtRow lastUpTo hasSetting bitsOf placeOf fuseOf
-bench-cases = ((refl, refl), ((refl, refl), ((refl, refl), ((refl, refl), ((refl, refl), ((refl, refl), tt))))))
+bench-cases = (refl, refl)
+
+pub corner-cases : AllHold twoSmall corners
+unfolding fuseOfBit settingAtFuse settingAt candidateAt known fuseCount placeOfFuse fieldIndexAtRow lastUpTo hasSetting bitsOf placeOf fuseOf
+corner-cases = (refl, refl)
+
+pub field-cases : AllHold twoSmall ofMacrocellAndBlock
+unfolding fuseOfBit settingAtFuse settingAt candidateAt known fuseCount placeOfFuse fieldIndexAtRow lastUpTo hasSetting bitsOf placeOf fuseOf
+field-cases = (refl, refl)
+
+pub global-cases : AllHold twoLarge ofGlobals
+unfolding fuseOfBit settingAtFuse settingAt candidateAt known fuseCount placeOfFuse fieldIndexAtRow lastUpTo hasSetting bitsOf placeOf fuseOf
+global-cases = (refl, refl)

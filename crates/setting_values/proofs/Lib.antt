@@ -2,3 +2,4 @@
 -- Assumes nothing.
 pub mod Widths
 pub mod Laws
+pub mod Cases

@@ -2,3 +2,4 @@
 -- Assumes nothing.
 pub mod Kinds
 pub mod Operations
+pub mod Cases

@@ -4,3 +4,4 @@ pub mod Order
 pub mod Numbers
 pub mod Asked
 pub mod Laws
+pub mod Cases

@@ -5,3 +5,4 @@ pub mod Settings
 pub mod Order
 pub mod Answer
 pub mod Operations
+pub mod Cases
