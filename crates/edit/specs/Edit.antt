@@ -38,18 +38,19 @@ ifThere d form bytes s answer =
 unfoldable pub readIn : Device → Bool → List ℕ → Setting → Outcome Value
 readIn d form bytes s = ifThere d form bytes s (ifClean d form bytes s (accepted (valueOf d s (patternAt d form bytes s))))
 
--- setting it to a value: 1, 2, 4, 5, 6
+-- refusal 5 exactly where the setting has no such value
 abbrev pub ifValue : {A : Type 0} → Option ℕ → Outcome A → Outcome A
 ifValue none answer = refused 5 0
 ifValue (some pattern) answer = answer
 
+-- setting it to a value: 1, 2, 4, 5, 6
 unfoldable pub setIn : Device → Bool → List ℕ → Setting → Value → Outcome (Unit {0})
 setIn d form bytes s v = ifThere d form bytes s (ifValue (patternIn (kindOf d s) v) (ifClean d form bytes s (accepted tt)))
 
--- the bytes with the setting set to a value that it has
 abbrev pub patternOr0 : Option ℕ → ℕ
 patternOr0 none = 0
 patternOr0 (some pattern) = pattern
 
+-- the bytes with the setting set to a value that it has
 unfoldable pub withValue : Device → Bool → List ℕ → Setting → Value → List ℕ
 withValue d form bytes s v = withPattern d form bytes s (patternOr0 (patternIn (kindOf d s) v))

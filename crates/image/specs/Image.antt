@@ -33,7 +33,7 @@ unfoldable pub zerosBelow : List ℕ → ℕ → ℕ
 zerosBelow image zero = 0
 zerosBelow image (suc fuse) = zerosBelow image fuse + (1 - state image fuse)
 
--- refusal 2 exactly where the image has not the exact length
+-- refusal 2 exactly where an image or a readout has not the exact length
 abbrev pub ifLength : {A : Type 0} → (bytes exact : ℕ) → Outcome A → Outcome A
 ifLength bytes exact answer = cond (eqb bytes exact) answer (refused 2 0)
 

@@ -78,11 +78,12 @@ decimalDigit x = 48 + x
 abbrev pub hexDigit : ℕ → ℕ
 hexDigit x = cond (leb x 9) (48 + x) (55 + x)
 
--- the number that digits write, after a number that the digits before them wrote
+-- what follows where something was found
 abbrev pub andThen : {A B : Type 0} → Option A → (A → Option B) → Option B
 andThen none f = none
 andThen (some x) f = f x
 
+-- the number that digits write, after a number that the digits before them wrote
 unfoldable pub digitsRead : (base : ℕ) → (ℕ → Option ℕ) → ℕ → List ℕ → Option ℕ
 digitsRead base digit x [] = some x
 digitsRead base digit x (b ∷ bytes) = andThen (digit b) (λ y. digitsRead base digit (x * base + y) bytes)

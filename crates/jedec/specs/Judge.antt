@@ -24,7 +24,7 @@ pub data Judged : Type 0 where
   -- any other
   bad : Judged
 
--- "`QF` and 1 to 7 digits"
+-- a field of the number found, bad where none was
 abbrev pub orBad : Option ℕ → (ℕ → Judged) → Judged
 orBad none f = bad
 orBad (some x) f = f x
@@ -40,10 +40,11 @@ unfoldable pub unbroken : List ℕ → ℕ
 unbroken [] = 0
 unbroken (b ∷ bytes) = cond (isBlank b) 0 (suc (unbroken bytes))
 
--- the states that 0 and 1 write, blanks left out; none if there is any other byte
+-- a state before others
 abbrev pub before : ℕ → List ℕ → Option (List ℕ)
 before state states = some (state ∷ states)
 
+-- the states that 0 and 1 write, blanks left out; none if there is any other byte
 unfoldable pub statesIn : List ℕ → Option (List ℕ)
 statesIn [] = some []
 statesIn (b ∷ bytes) =
@@ -61,7 +62,7 @@ statesFrom (some states) first = listFrom first states
 unfoldable pub listIn : List ℕ → Judged
 listIn bytes = orBad (numberIn (take (unbroken bytes) bytes)) (statesFrom (statesIn (drop (unbroken bytes) bytes)))
 
--- what follows a Q
+-- "`QF` and 1 to 7 digits"; QP and QV are skipped: what follows the Q
 abbrev pub afterQ : List ℕ → Judged
 afterQ [] = bad
 afterQ (b ∷ bytes) = cond (eqb b letterF) (orBad (numberIn bytes) count) (cond (eqb b letterP || eqb b letterV) skipped bad)

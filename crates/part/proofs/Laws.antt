@@ -11,6 +11,7 @@
 --   ascending             the addresses of the readout bytes ascend
 --   none-left-out         every valid address is that of a readout byte
 --   table-of-sizes        document 01's table, with the lengths of the texts
+--   no-devices            a count and a class that no device has are refused
 --   bench-cases           document 01's cases marked P
 use mathlib.Core.Path.{_≡_, refl, sym, _∙_, ap, ap₂, subst₂}
 use mathlib.Core.Bool.{true, cond}
@@ -23,7 +24,7 @@ use Rattle.part.specs.Device.{known, fuseCount, columnWidth, imageBytes,
 use Rattle.part.specs.Answer.{number, value}
 use Rattle.part.specs.Place.{hasPlace, hasByte, widthOf, fuseOfPlace, placeOfFuse, addressOfByte, byteOfAddress, valid}
 use Rattle.part.specs.Convert.{addressOfFuse, fuseOfAddress, sizesOf}
-use Rattle.part.specs.Cases.{TableOfSizes, AllHold, cases}
+use Rattle.part.specs.Cases.{TableOfSizes, NoDevices, AllHold, cases}
 use Rattle.part.specs.declared.Device.{Device}
 use Rattle.part.specs.declared.Place.{Place}
 use Rattle.part.specs.declared.BytePlace.{BytePlace}
@@ -112,6 +113,10 @@ width-small (WireAnd block subarea row column) = width-at 1 7 column (omega arit
 pub table-of-sizes : TableOfSizes
 unfolding sizesOf known fuseCount imageBytes readoutBytes textBytes
 table-of-sizes = (λ class h. rw h, λ class h. rw h, λ class h. rw h, λ class h. rw h, λ class h. rw h, λ class h. rw h)
+
+pub no-devices : NoDevices
+unfolding sizesOf known
+no-devices = (refl, refl)
 
 pub bench-cases : AllHold cases
 unfolding addressOfFuse fuseOfAddress known fuseCount placeOfFuse valid byteOfAddress

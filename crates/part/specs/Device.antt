@@ -1,5 +1,5 @@
 -- Which devices there are, and how many fuses and bytes each has: document 01, "Covered by the first build" and
--- "Three pictures of one part". Public contracts above speak of `known`, the fuse count and the lengths, never of the fields.
+-- "Three pictures of one part". Contracts above speak of `known`, the fuse count and the lengths; those that are given a block count make a device of it.
 use Prim.Native.Nat.{ℕ, _+_, _*_, _-_, _/_}
 use mathlib.Core.Bool.{Bool, cond, _&&_, _||_}
 use lib.Dec.{eqb, ltb}
@@ -100,7 +100,7 @@ blockBytes d = inBlock d mainBytes subareaBytes
 unfoldable pub readoutBytes : Device → ℕ
 readoutBytes d = inDevice d mainBytes subareaBytes
 
--- the decimal digits of a count, which has at most seven
+-- how many decimal digits a count has: at most seven
 abbrev pub decimalDigits : ℕ → ℕ
 decimalDigits x =
     cond (ltb x 10) 1 (cond (ltb x 100) 2 (cond (ltb x 1000) 3 (cond (ltb x 10000) 4 (cond (ltb x 100000) 5 (cond (ltb x 1000000) 6 7)))))

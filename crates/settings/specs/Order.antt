@@ -90,7 +90,7 @@ countOf d = start d globals + size d globals
 unfoldable pub numberOf : Device → Setting → ℕ
 numberOf d s = start d (group s) + position (bounds d (group s)) (indices d s)
 
--- The setting of a number, which the laws `number-again` and `setting-again` tie to the number of a setting: a field by its index ..
+-- The setting of a number, which the law `numbers-inverse` ties to the number of a setting: a field by its index ..
 abbrev pub polarityAt : ℕ → Polarity
 polarityAt x = cond (eqb x 0) P N
 
