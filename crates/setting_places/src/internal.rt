@@ -228,25 +228,10 @@ pub fn bits_of(d: Device, s: Setting) -> u32
     ensures { λ r. ⌜ r ≡ bitsOf s ⌝ }
 {
     match s {
-        Setting::Literal {
-            block: _,
-            macrocell: _,
-            term: _,
-            input: _,
-            polarity: _,
-        } => 1,
-        Setting::WireAnd {
-            block: _,
-            input: _,
-            source: _,
-            macrocell: _,
-        } => 1,
-        Setting::Macrocell {
-            block: _,
-            macrocell: _,
-            field,
-        } => rows_of(settings::internal::macrocell_index(field)),
-        Setting::Block { block: _, field: _ } => 1,
+        Setting::Literal { .. } => 1,
+        Setting::WireAnd { .. } => 1,
+        Setting::Macrocell { field, .. } => rows_of(settings::internal::macrocell_index(field)),
+        Setting::Block { .. } => 1,
         Setting::Global(field) => global_bits(field),
     }
 }

@@ -204,7 +204,7 @@ fn foe_mux(x: FoeMux) -> u64 {
     }
 }
 
-// The place of a field in the list of all of its group.
+// The place of a field in the list of all of its group: not asked of the library, whose order is what is compared.
 fn macrocell_field(field: MacrocellField) -> u64 {
     match field {
         MacrocellField::Alloc(k) => k as u64,
