@@ -72,7 +72,7 @@ const FIELD_INDEX_AT_ROW: [u32; 43] = [
 ];
 
 // The rows of each macrocell field's bits, in the order listed; 0 where it has no such bit.
-const ROW_OF_BIT: [[u32; 3]; 27] = [
+const ROW_OF_BIT: [[u8; 3]; 27] = [
     [12 + 2 * 0, 13 + 2 * 0, 0],
     [12 + 2 * 1, 13 + 2 * 1, 0],
     [12 + 2 * 2, 13 + 2 * 2, 0],
@@ -143,7 +143,7 @@ fn row_of(index: u32, bit: u32) -> u32
     requires { ⌜ (index < 27) × (bit < rows (macrocellFieldAt index)) ⌝ }
     ensures { λ r. ⌜ r ≡ firstRow (macrocellFieldAt index) + bit ⌝ }
 {
-    ROW_OF_BIT[index as usize][bit as usize]
+    ROW_OF_BIT[index as usize][bit as usize] as u32
 }
 
 // .. and how many rows it has.

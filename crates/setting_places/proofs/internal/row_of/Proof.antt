@@ -7,7 +7,7 @@ use Prim.Native.Nat.{ℕ, _+_, _<_}
 use native.Mathlib.Omega.{arith}
 use lib.Dec.{eqb, ltb}
 use lib.ListN.{getD}
-use borrow.Author.Tests.{eqb-true, lt-ltb}
+use borrow.Author.Tests.{eqb-true, lt-ltb, ltb-true}
 use Rattle.settings.specs.Order.{macrocellFieldAt}
 use Rattle.setting_places.specs.Places.{firstRow, rows}
 use Rattle.part.proofs.Tables.{allBelow, below-all}
@@ -30,11 +30,18 @@ right i bit h hb =
     let test = below-all (entryRight i) 3 (below-all (λ i. allBelow (entryRight i) 3) 27 refl i h) bit (omega arith) in
     eqb-true _ _ (rw (lt-ltb bit (rows (macrocellFieldAt i)) hb) at test)
 
+-- each entry is a byte
+abbrev byte : ℕ → ℕ → Bool
+byte i bit = ltb (getD (getD table i []) bit 0) 256
+
+small : (i bit : ℕ) → i < 27 → bit < rows (macrocellFieldAt i) → getD (getD table i []) bit 0 < 256
+unfolding table
+small i bit h hb =
+    let few = rows-few i h in
+    ltb-true _ _ (below-all (byte i) 3 (below-all (λ i. allBelow (byte i) 3) 27 refl i h) bit (omega arith))
+
 mul-result : tie.Need-mul-result
 mul-result c = search needs
-
-mul-result-2 : tie.Need-mul-result-2
-mul-result-2 c = search needs
 
 index-1-result : tie.Need-index-1-result
 index-1-result c = search needs
@@ -42,9 +49,13 @@ index-1-result c = search needs
 index-2-result : tie.Need-index-2-result
 index-2-result c = omega (arith, c .pre, rows-few (c .args .index) (c .pre .0))
 
+cast-result : tie.Need-cast-result
+unfolding table
+cast-result c = omega (arith, small (c .before .args .index) (c .before .args .bit) (c .before .pre .0) (c .before .pre .1))
+
 returns : tie.Need-returns
 unfolding table
 returns c = right (c .before .args .index) (c .before .args .bit) (c .before .pre .0) (c .before .pre .1)
 
 pub row-of-spec : {M : Type 1} → statement M
-row-of-spec = tie.close (tie.spec mul-result mul-result-2 index-1-result index-2-result returns)
+row-of-spec = tie.close (tie.spec mul-result index-1-result index-2-result cast-result returns)
