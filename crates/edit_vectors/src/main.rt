@@ -1,37 +1,30 @@
 // Prints what reading and setting one setting answer in an image and in a readout: document 01's case, then each device.
 // The file stdout beside src/ is what the independent program prints.
-ghost use Prim.Native.Nat.{_≤_};
 use part::Device;
-use part::SizesAnswer;
+use vectors::SMALLEST;
 use vectors::at_most;
+use vectors::near;
 
 // OE_MUX of macrocell 0 of block 0, of the smallest part.
 const OE_MUX: u32 = 15563;
 
-fn read(in_readout: bool, blocks: u32, class: u32, bytes: &[u8], setting: u32) -> u64 {
+fn read(in_readout: bool, d: Device, bytes: &[u8], setting: u32) -> u64 {
     if in_readout {
-        return capi::xc9500_read_in_readout(blocks, class, bytes, setting);
+        return capi::xc9500_read_in_readout(d.blocks, d.class, bytes, setting);
     }
-    capi::xc9500_read_in_image(blocks, class, bytes, setting)
+    capi::xc9500_read_in_image(d.blocks, d.class, bytes, setting)
 }
 
-fn set(
-    in_readout: bool,
-    blocks: u32,
-    class: u32,
-    bytes: &mut [u8],
-    setting: u32,
-    pattern: u32,
-) -> u64 {
+fn set(in_readout: bool, d: Device, bytes: &mut [u8], setting: u32, pattern: u32) -> u64 {
     if in_readout {
-        return capi::xc9500_set_in_readout(blocks, class, bytes, setting, pattern);
+        return capi::xc9500_set_in_readout(d.blocks, d.class, bytes, setting, pattern);
     }
-    capi::xc9500_set_in_image(blocks, class, bytes, setting, pattern)
+    capi::xc9500_set_in_image(d.blocks, d.class, bytes, setting, pattern)
 }
 
 // How many settings a device has, 0 where there is none; below 2^20.
-fn setting_count(blocks: u32, class: u32) -> u32 {
-    (capi::xc9500_setting_count(blocks, class) % 1048576) as u32
+fn setting_count(d: Device) -> u32 {
+    (capi::xc9500_setting_count(d.blocks, d.class) % 1048576) as u32
 }
 
 // The numbers to ask for: from a few past the last down through some hundreds, then in steps through all.
@@ -56,12 +49,12 @@ fn pattern(k: u32, turn: u32) -> u32 {
     (k % 1048576 + turn % 16) % 7 % 5
 }
 
-fn reads(in_readout: bool, blocks: u32, class: u32, bytes: &[u8], count: u32) -> u64 {
+fn reads(in_readout: bool, d: Device, bytes: &[u8], count: u32) -> u64 {
     let mut digest: u64 = 0;
     let mut setting = first_asked(count);
     let mut k: u32 = 0;
     while k < 4900 {
-        let answer = read(in_readout, blocks, class, bytes, setting);
+        let answer = read(in_readout, d, bytes, setting);
         digest = vectors::taken_in(digest, answer);
         setting = next_asked(count, k, setting);
         k += 1;
@@ -70,12 +63,12 @@ fn reads(in_readout: bool, blocks: u32, class: u32, bytes: &[u8], count: u32) ->
 }
 
 // One after the other on the same bytes.
-fn sets(in_readout: bool, blocks: u32, class: u32, bytes: &mut [u8], count: u32, turn: u32) -> u64 {
+fn sets(in_readout: bool, d: Device, bytes: &mut [u8], count: u32, turn: u32) -> u64 {
     let mut digest: u64 = 0;
     let mut setting = first_asked(count);
     let mut k: u32 = 0;
     while k < 4900 {
-        let answer = set(in_readout, blocks, class, bytes, setting, pattern(k, turn));
+        let answer = set(in_readout, d, bytes, setting, pattern(k, turn));
         digest = vectors::taken_in(digest, answer);
         setting = next_asked(count, k, setting);
         k += 1;
@@ -84,113 +77,59 @@ fn sets(in_readout: bool, blocks: u32, class: u32, bytes: &mut [u8], count: u32,
 }
 
 // What is read, what setting answers, what is read then, and the bytes.
-fn edits(in_readout: bool, blocks: u32, class: u32, bytes: &mut [u8], turn: u32) {
-    let count = setting_count(blocks, class);
-    vectors::put(
-        b" read",
-        reads(in_readout, blocks, class, &bytes[..], count),
-    );
-    vectors::put(b" set", sets(in_readout, blocks, class, bytes, count, turn));
-    vectors::put(
-        b" then",
-        reads(in_readout, blocks, class, &bytes[..], count),
-    );
+fn edits(in_readout: bool, d: Device, bytes: &mut [u8], turn: u32) {
+    let count = setting_count(d);
+    vectors::put(b" read", reads(in_readout, d, &bytes[..], count));
+    vectors::put(b" set", sets(in_readout, d, bytes, count, turn));
+    vectors::put(b" then", reads(in_readout, d, &bytes[..], count));
     vectors::put(b" bytes", vectors::digest_of(&bytes[..]));
 }
 
 // On bytes that look random: most bytes of such a readout that can have a stray bit have one.
-fn on_any_bytes(blocks: u32, class: u32, image: &mut [u8], readout: &mut [u8]) {
+fn on_any_bytes(d: Device, image: &mut [u8], readout: &mut [u8]) {
     vectors::fill(image, 1);
     vectors::put(b" image", image.len() as u64);
-    edits(false, blocks, class, image, 0);
+    edits(false, d, image, 0);
     vectors::fill(readout, 2);
     vectors::put(b" readout", readout.len() as u64);
-    edits(true, blocks, class, readout, 1);
+    edits(true, d, readout, 1);
 }
 
 // On the readout of the image, which has no stray bit.
-fn on_its_readout(blocks: u32, class: u32, image: &[u8], readout: &mut [u8]) {
-    let answer = capi::xc9500_image_to_readout(blocks, class, image, readout);
+fn on_its_readout(d: Device, image: &[u8], readout: &mut [u8]) {
+    let answer = capi::xc9500_image_to_readout(d.blocks, d.class, image, readout);
     vectors::put_answer(answer);
-    edits(true, blocks, class, readout, 2);
+    edits(true, d, readout, 2);
 }
 
-fn answers(blocks: u32, class: u32, image: &mut [u8], readout: &mut [u8]) {
-    on_any_bytes(blocks, class, image, readout);
-    on_its_readout(blocks, class, &image[..], readout);
+fn answers(d: Device, image: &mut [u8], readout: &mut [u8]) {
+    on_any_bytes(d, image, readout);
+    on_its_readout(d, &image[..], readout);
     vectors::end_line();
 }
 
-fn with_lengths(blocks: u32, class: u32, image: &mut [u8], readout: &mut [u8], i: usize, r: usize) {
-    vectors::put(b"blocks", blocks as u64);
-    vectors::put(b" class", class as u64);
-    let a = at_most(i, image.len());
-    let b = at_most(r, readout.len());
-    answers(blocks, class, &mut image[..a], &mut readout[..b]);
+// Lengths k of three: the image one byte too short and the readout one too long, both right, and the other way round.
+fn with_lengths(d: Device, image: &mut [u8], readout: &mut [u8], k: u32) {
+    vectors::put_device(d);
+    let sizes = vectors::sizes(d);
+    let i = near(sizes.image_bytes, k % 3, image.len());
+    let r = near(sizes.readout_bytes, 2 - k % 3, readout.len());
+    answers(d, &mut image[..i], &mut readout[..r]);
 }
 
-// The image one byte too short and the readout one too long, both right, and the other way round.
-fn each_length(blocks: u32, class: u32, image: &mut [u8], readout: &mut [u8], i: u32, r: u32) {
-    let mut k: usize = 0;
-    while k < 3 {
-        with_lengths(
-            blocks,
-            class,
-            image,
-            readout,
-            i as usize + k,
-            r as usize + (2 - k),
-        );
-        k += 1;
-    }
-}
-
-fn one_less(n: u32) -> u32 {
-    if n == 0 {
-        return 0;
-    }
-    n - 1
-}
-
-// The lengths of a device, or those of two blocks where there is none.
-fn device(blocks: u32, class: u32, image: &mut [u8], readout: &mut [u8]) {
-    let answer = part::sizes_of(Device { blocks, class });
-    match answer {
-        SizesAnswer::Of(s) => {
-            let i = one_less(s.image_bytes);
-            let r = one_less(s.readout_bytes);
-            each_length(blocks, class, image, readout, i, r);
-        }
-        SizesAnswer::Refused(_) => each_length(blocks, class, image, readout, 2267, 2519),
-    }
-}
-
-// Every block count below 18, known or not, with the two classes and one that is none.
 fn each_device(image: &mut [u8], readout: &mut [u8]) {
-    let mut blocks: u32 = 0;
-    while blocks < 18 {
-        let mut class: u32 = 0;
-        while class < 3 {
-            device(blocks, class, image, readout);
-            class += 1;
-        }
-        blocks += 1;
-    }
-}
-
-fn fill_with_ones(bytes: &mut [u8]) {
-    let mut i: usize = 0;
-    while i < bytes.len() {
-        bytes[i] = 255;
-        i += 1;
+    let mut k: u32 = 0;
+    while k < 3 * vectors::DEVICES {
+        with_lengths(vectors::device(k / 3), image, readout, k % 3);
+        k += 1;
     }
 }
 
 // OE_MUX as it is read, then set to FOE2 and read again.
 fn set_to_foe2(name: &[u8], in_readout: bool, bytes: &mut [u8]) {
-    vectors::put(name, read(in_readout, 2, 0, &bytes[..], OE_MUX));
-    vectors::put(b" set", set(in_readout, 2, 0, bytes, OE_MUX, 4));
-    vectors::put(b" then", read(in_readout, 2, 0, &bytes[..], OE_MUX));
+    vectors::put(name, read(in_readout, SMALLEST, &bytes[..], OE_MUX));
+    vectors::put(b" set", set(in_readout, SMALLEST, bytes, OE_MUX, 4));
+    vectors::put(b" then", read(in_readout, SMALLEST, &bytes[..], OE_MUX));
     vectors::put(b" bytes", vectors::digest_of(&bytes[..]));
     vectors::end_line();
 }
@@ -204,7 +143,7 @@ fn put_byte(name: &[u8], bytes: &[u8], i: usize) {
 
 // Document 01's case: an image of ones, in which two fuses are cleared and one is kept; the same in its readout.
 fn document_case(image: &mut [u8], readout: &mut [u8]) {
-    fill_with_ones(image);
+    vectors::fill_with(image, 255);
     let answer = capi::xc9500_image_to_readout(2, 0, &image[..], readout);
     vectors::put(b"readout of ones", answer);
     vectors::end_line();

@@ -4,7 +4,7 @@
 --   zeros-and-ones  the fuses at 0 and the ones of an image are all its fuses
 use mathlib.Core.Path.{_≡_, refl, sym, _∙_, ap, ap₂}
 use mathlib.Core.List.{List, [], _∷_}
-use Prim.Native.Nat.{ℕ, zero, suc, _+_, _*_, _-_, _/_, _%_, _^_, _≤_, _<_}
+use Prim.Native.Nat.{ℕ, zero, suc, _+_, _*_, _/_, _%_, _^_, _≤_, _<_}
 use native.Mathlib.Omega.{arith}
 use native.Mathlib.Nat.{mod-lt, not-suc-le-zero, le-of-suc-le-suc, add-assoc, add-zero, zero-add, add-suc, div-one, div-eq-of-lt}
 use native.Mathlib.Numerals.{add-one}

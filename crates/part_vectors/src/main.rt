@@ -9,10 +9,9 @@ fn refusal(r: part::Refusal) {
     vectors::put(b" value", part::refusal_value(r) as u64);
 }
 
-fn sizes(blocks: u32, class: u32) {
-    vectors::put(b"blocks", blocks as u64);
-    vectors::put(b" class", class as u64);
-    let answer = part::sizes_of(Device { blocks, class });
+fn sizes(d: Device) {
+    vectors::put_device(d);
+    let answer = part::sizes_of(d);
     match answer {
         SizesAnswer::Of(s) => {
             vectors::put(b" fuses", s.fuses as u64);
@@ -56,18 +55,18 @@ fn bench_cases() {
 }
 
 // Call number i: the address of a fuse, or the fuse of an address with bits 0 to 8 in turn.
-fn call(by_fuse: bool, blocks: u32, class: u32, i: u32) -> u64 {
+fn call(by_fuse: bool, d: Device, i: u32) -> u64 {
     if by_fuse {
-        return capi::xc9500_address_of_fuse(blocks, class, i);
+        return capi::xc9500_address_of_fuse(d.blocks, d.class, i);
     }
-    capi::xc9500_fuse_of_address(blocks, class, i / 9, i % 9)
+    capi::xc9500_fuse_of_address(d.blocks, d.class, i / 9, i % 9)
 }
 
-fn digest(by_fuse: bool, blocks: u32, class: u32, calls: u32) -> u64 {
+fn digest(by_fuse: bool, d: Device, calls: u32) -> u64 {
     let mut digest: u64 = 0;
     let mut i: u32 = 0;
     while i < calls {
-        digest = vectors::taken_in(digest, call(by_fuse, blocks, class, i));
+        digest = vectors::taken_in(digest, call(by_fuse, d, i));
         i += 1;
     }
     digest
@@ -78,30 +77,25 @@ const FUSES: u32 = 300000;
 
 const ADDRESSES: u32 = 9 * 131072;
 
-fn digests(blocks: u32, class: u32) {
-    vectors::put(b"blocks", blocks as u64);
-    vectors::put(b" class", class as u64);
+fn digests(d: Device) {
+    vectors::put_device(d);
     vectors::put(b" fuses", FUSES as u64);
-    vectors::put(b" digest", digest(true, blocks, class, FUSES));
+    vectors::put(b" digest", digest(true, d, FUSES));
     vectors::put(b" addresses", ADDRESSES as u64);
-    vectors::put(b" digest", digest(false, blocks, class, ADDRESSES));
+    vectors::put(b" digest", digest(false, d, ADDRESSES));
     vectors::end_line();
 }
 
-// Every block count below 18, known or not, with the two classes and one that is none.
 fn each_device(sizes_only: bool) {
-    let mut blocks: u32 = 0;
-    while blocks < 18 {
-        let mut class: u32 = 0;
-        while class < 3 {
-            if sizes_only {
-                sizes(blocks, class);
-            } else {
-                digests(blocks, class);
-            }
-            class += 1;
+    let mut k: u32 = 0;
+    while k < vectors::DEVICES {
+        let d = vectors::device(k);
+        if sizes_only {
+            sizes(d);
+        } else {
+            digests(d);
         }
-        blocks += 1;
+        k += 1;
     }
 }
 

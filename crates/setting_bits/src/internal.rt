@@ -167,25 +167,10 @@ fn in_whole_bytes(d: Device, s: Setting) -> bool
     ensures { λ r. ⌜ (r ≡ true → (b : ℕ) → b < bitsOf s → widthOf (placeOf s b .byte) ≡ 8) × (r ≡ false → bitsOf s ≡ 1) ⌝ }
 {
     match s {
-        Setting::Literal {
-            block: _,
-            macrocell: _,
-            term: _,
-            input: _,
-            polarity: _,
-        } => false,
-        Setting::WireAnd {
-            block: _,
-            input: _,
-            source: _,
-            macrocell: _,
-        } => false,
-        Setting::Macrocell {
-            block: _,
-            macrocell: _,
-            field: _,
-        } => true,
-        Setting::Block { block: _, field: _ } => true,
+        Setting::Literal { .. } => false,
+        Setting::WireAnd { .. } => false,
+        Setting::Macrocell { .. } => true,
+        Setting::Block { .. } => true,
         Setting::Global(_) => true,
     }
 }

@@ -54,25 +54,10 @@ pub fn kind_of(d: Device, s: Setting) -> Kind
     ensures { λ r. ⌜ r ≡ kindOf d s ⌝ }
 {
     match s {
-        Setting::Literal {
-            block: _,
-            macrocell: _,
-            term: _,
-            input: _,
-            polarity: _,
-        } => Kind::Flag,
-        Setting::WireAnd {
-            block: _,
-            input: _,
-            source: _,
-            macrocell: _,
-        } => Kind::Flag,
-        Setting::Macrocell {
-            block: _,
-            macrocell: _,
-            field,
-        } => macrocell_kind(field),
-        Setting::Block { block: _, field: _ } => Kind::Flag,
+        Setting::Literal { .. } => Kind::Flag,
+        Setting::WireAnd { .. } => Kind::Flag,
+        Setting::Macrocell { field, .. } => macrocell_kind(field),
+        Setting::Block { .. } => Kind::Flag,
         Setting::Global(field) => global_kind(d, field),
     }
 }

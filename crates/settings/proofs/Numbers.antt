@@ -366,18 +366,10 @@ module _ (d : Device) (s : Setting) (h : hasSetting d s ≡ true) where
   unfolding hasSetting
   has-literal block j k l p e = let facts = simp tests at (rw e at h) in (facts .0 .0 .0, facts .0 .0 .1, facts .0 .1, facts .1)
 
-  pub has-wire-and : (i j k l : ℕ) → s ≡ WireAnd i j k l → (i < blocksOf d) × (j < 36) × (k < blocksOf d) × (l < 18)
-  unfolding hasSetting
-  has-wire-and i j k l e = let facts = simp tests at (rw e at h) in (facts .0 .0 .0, facts .0 .0 .1, facts .0 .1, facts .1)
-
   pub has-macrocell : (block m : ℕ) (f : MacrocellField) → s ≡ Macrocell block m f
       → (block < blocksOf d) × (m < 18) × (macrocellIndex f < macrocellFields)
   unfolding hasSetting
   has-macrocell block m f e = let facts = simp tests at (rw e at h) in (facts .0 .0, facts .0 .1, facts .1)
-
-  pub has-block : (block : ℕ) (f : BlockField) → s ≡ Block block f → block < blocksOf d
-  unfolding hasSetting
-  has-block block f e = ltb-true _ _ (rw e at h)
 
   pub has-global : (f : GlobalField) → s ≡ Global f → globalIndex (foes d) f < globalFields (foes d)
   unfolding hasSetting

@@ -65,7 +65,7 @@ pub fn has_setting(d: Device, s: Setting) -> bool
             macrocell,
             term,
             input,
-            polarity: _,
+            ..
         } => (block < n) & (macrocell < MACROCELLS) & (term < TERMS) & (input < INPUTS),
         Setting::WireAnd {
             block,
@@ -81,7 +81,7 @@ pub fn has_setting(d: Device, s: Setting) -> bool
             let index = macrocell_index(field);
             (block < n) & (macrocell < MACROCELLS) & (index < MACROCELL_FIELDS)
         }
-        Setting::Block { block, field: _ } => block < n,
+        Setting::Block { block, .. } => block < n,
         Setting::Global(field) => {
             let index = global_index(d, field);
             index < global_fields(d)

@@ -29,6 +29,7 @@ use values::RstSetMux;
 use values::TermAlloc;
 use values::UimOeMux;
 use values::Value;
+use vectors::SMALLEST;
 
 // The word of an answer that has no result: no such bit, no setting at the fuse.
 const NONE: u64 = 72057594037927935;
@@ -203,7 +204,7 @@ fn foe_mux(x: FoeMux) -> u64 {
     }
 }
 
-// The place of a field in the list of all of its group.
+// The place of a field in the list of all of its group: not asked of the library, whose order is what is compared.
 fn macrocell_field(field: MacrocellField) -> u64 {
     match field {
         MacrocellField::Alloc(k) => k as u64,
@@ -701,11 +702,6 @@ fn past_digest(d: Device) -> u64 {
     settings_past(settings_past(0, d, just), d, far)
 }
 
-const SMALLEST: Device = Device {
-    blocks: 2,
-    class: 0,
-};
-
 // Number and fuse of a bit of a setting of document 01's cases, and the way back from the fuse that it gives.
 fn document_case(name: &[u8], s: Setting, bit: u32, fuse: u32) {
     vectors::put(name, bit as u64);
@@ -775,8 +771,7 @@ fn oe_mux_cases() {
 }
 
 fn count(d: Device) {
-    vectors::put(b"blocks", d.blocks as u64);
-    vectors::put(b" class", d.class as u64);
+    vectors::put_device(d);
     vectors::put_answer(number_word(settings::setting_count(d)));
 }
 
@@ -794,16 +789,11 @@ fn device(d: Device) {
     vectors::end_line();
 }
 
-// Every block count below 18, known or not, with the two classes and one that is none.
 fn each_device() {
-    let mut blocks: u32 = 0;
-    while blocks < 18 {
-        let mut class: u32 = 0;
-        while class < 3 {
-            device(Device { blocks, class });
-            class += 1;
-        }
-        blocks += 1;
+    let mut k: u32 = 0;
+    while k < vectors::DEVICES {
+        device(vectors::device(k));
+        k += 1;
     }
 }
 

@@ -1,6 +1,40 @@
-// What the programs that run vectors share: a digest of many answers in one number, and the printing of a line.
+// What the programs that run vectors share: the devices to ask, a digest of many answers in one number, the printing of a line.
 // Nothing here is proved of what is printed: it is compared with what the independent program prints.
 ghost use Prim.Native.Nat.{_≤_};
+use part::Device;
+use part::Sizes;
+use part::SizesAnswer;
+
+// The devices to ask: every block count below 18, known or not, with the two classes and one that is none.
+pub const DEVICES: u32 = 18 * 3;
+
+// Device k of these.
+pub fn device(k: u32) -> Device {
+    Device {
+        blocks: k / 3,
+        class: k % 3,
+    }
+}
+
+// The device with the fewest fuses.
+pub const SMALLEST: Device = Device {
+    blocks: 2,
+    class: 0,
+};
+
+// The sizes of a device, or those of the smallest where there is none.
+pub fn sizes(d: Device) -> Sizes {
+    let answer = part::sizes_of(d);
+    match answer {
+        SizesAnswer::Of(s) => s,
+        SizesAnswer::Refused(_) => Sizes {
+            fuses: 18144,
+            image_bytes: 2268,
+            readout_bytes: 2520,
+            text_bytes: 25732,
+        },
+    }
+}
 
 const PRIME: u64 = 4294967291;
 
@@ -25,6 +59,15 @@ pub fn fill(bytes: &mut [u8], seed: u64) {
     }
 }
 
+// The same byte at each place of a slice.
+pub fn fill_with(bytes: &mut [u8], value: u8) {
+    let mut i: usize = 0;
+    while i < bytes.len() {
+        bytes[i] = value;
+        i += 1;
+    }
+}
+
 // The digest of the bytes of a slice.
 pub fn digest_of(bytes: &[u8]) -> u64 {
     let mut digest: u64 = 0;
@@ -40,6 +83,12 @@ pub fn digest_of(bytes: &[u8]) -> u64 {
 pub fn put_answer(w: u64) {
     put(b" refused", w >> 56);
     put(b" result", w % 72057594037927936);
+}
+
+// A device, at the start of a line.
+pub fn put_device(d: Device) {
+    put(b"blocks", d.blocks as u64);
+    put(b" class", d.class as u64);
 }
 
 // A word and a number after it, with a space before each number.
@@ -61,4 +110,18 @@ pub fn at_most(n: usize, limit: usize) -> usize
         return n;
     }
     limit
+}
+
+pub fn one_less(n: u32) -> u32 {
+    if n == 0 {
+        return 0;
+    }
+    n - 1
+}
+
+// One less than a length at step 0, the length at step 1, one more at step 2; or the limit, where that is less.
+pub fn near(length: u32, step: u32, limit: usize) -> usize
+    ensures { λ r. ⌜ r ≤ limit ⌝ }
+{
+    at_most(one_less(length) as usize + step as usize, limit)
 }

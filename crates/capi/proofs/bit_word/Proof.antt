@@ -3,7 +3,6 @@
 use borrow.Author.Needs.{needs}
 use Rattle.capi.proofs.bit_word.Statement.{statement}
 use Rattle.capi.proofs.bit_word.Tie as tie
-use Rattle.capi.proofs.bit_word.Reads as reads
 
 enum-known-answer : tie.Need-enum-known-answer
 enum-known-answer c = search needs

@@ -5,7 +5,6 @@ use Rattle.capi.proofs.Words.{packed-same}
 use borrow.Author.Needs.{needs}
 use Rattle.capi.proofs.xc9500_read_in_image.Statement.{statement}
 use Rattle.capi.proofs.xc9500_read_in_image.Tie as tie
-use Rattle.capi.proofs.xc9500_read_in_image.Reads as reads
 
 read-pattern-in-image-requires : tie.Need-read-pattern-in-image-requires
 read-pattern-in-image-requires c κs = search needs

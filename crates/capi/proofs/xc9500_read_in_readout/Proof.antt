@@ -5,7 +5,6 @@ use Rattle.capi.proofs.Words.{packed-same}
 use borrow.Author.Needs.{needs}
 use Rattle.capi.proofs.xc9500_read_in_readout.Statement.{statement}
 use Rattle.capi.proofs.xc9500_read_in_readout.Tie as tie
-use Rattle.capi.proofs.xc9500_read_in_readout.Reads as reads
 
 read-pattern-in-readout-requires : tie.Need-read-pattern-in-readout-requires
 read-pattern-in-readout-requires c κs = search needs

@@ -19,7 +19,6 @@ use Rattle.capi.specs.Packed.{packed, refusalWord, orNone, settingAndBit
 use borrow.Author.Needs.{needs}
 use Rattle.capi.proofs.xc9500_setting_at_fuse.Statement.{statement}
 use Rattle.capi.proofs.xc9500_setting_at_fuse.Tie as tie
-use Rattle.capi.proofs.xc9500_setting_at_fuse.Reads as reads
 
 there : (a : NamedAnswer) (d : Device) (f : ℕ) (s : Setting) (bit : ℕ) → namedOutcome a ≡ settingAtFuse d f → a ≡ named.Bit s bit
     → (known d ≡ true) × (hasSetting d s ≡ true)

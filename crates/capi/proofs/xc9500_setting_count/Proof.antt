@@ -5,7 +5,6 @@ use Rattle.capi.proofs.Words.{packed-same}
 use borrow.Author.Needs.{needs}
 use Rattle.capi.proofs.xc9500_setting_count.Statement.{statement}
 use Rattle.capi.proofs.xc9500_setting_count.Tie as tie
-use Rattle.capi.proofs.xc9500_setting_count.Reads as reads
 
 setting-count-requires : tie.Need-setting-count-requires
 setting-count-requires c κs = search needs

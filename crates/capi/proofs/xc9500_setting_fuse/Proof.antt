@@ -17,7 +17,6 @@ use Rattle.capi.specs.Packed.{packed, refusalWord, itself, orNone, throu
 use borrow.Author.Needs.{needs}
 use Rattle.capi.proofs.xc9500_setting_fuse.Statement.{statement}
 use Rattle.capi.proofs.xc9500_setting_fuse.Tie as tie
-use Rattle.capi.proofs.xc9500_setting_fuse.Reads as reads
 
 module _ (d : Device) (x bit w : ℕ) (a : SettingAnswer) (e : settingOutcome a ≡ settingOfNumber d x) where
   its-fuse : (s : Setting) (b : BitAnswer) → a ≡ setting.Setting s → bitOutcome b ≡ fuseOfBit d s bit → w ≡ packed (orNone itself) (bitOutcome b)

@@ -6,10 +6,10 @@ use Rattle.edit_vectors.proofs.reads.Statement.{statement}
 use Rattle.edit_vectors.proofs.reads.Tie as tie
 
 abbrev Inv-loop : tie.InvT-loop
-Inv-loop in-readout blocks class bytes count digest₀ setting₀ k₀ digest setting k = Unit {0}
+Inv-loop in-readout d bytes count digest₀ setting₀ k₀ digest setting k = Unit {0}
 
 abbrev μ-loop : tie.MeasureT-loop
-μ-loop in-readout blocks class bytes count digest₀ setting₀ k₀ digest setting k = 4900 - k
+μ-loop in-readout d bytes count digest₀ setting₀ k₀ digest setting k = 4900 - k
 
 first-asked-requires : tie.Need-first-asked-requires Inv-loop μ-loop
 first-asked-requires c κs = search needs

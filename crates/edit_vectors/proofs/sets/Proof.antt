@@ -8,10 +8,10 @@ use Rattle.edit_vectors.proofs.sets.Statement.{statement}
 use Rattle.edit_vectors.proofs.sets.Tie as tie
 
 abbrev Inv-loop : tie.InvT-loop
-Inv-loop in-readout blocks class bytes₀ count turn digest₀ setting₀ k₀ bytes digest setting k = length bytes ≡ length bytes₀
+Inv-loop in-readout d bytes₀ count turn digest₀ setting₀ k₀ bytes digest setting k = length bytes ≡ length bytes₀
 
 abbrev μ-loop : tie.MeasureT-loop
-μ-loop in-readout blocks class bytes₀ count turn digest₀ setting₀ k₀ bytes digest setting k = 4900 - k
+μ-loop in-readout d bytes₀ count turn digest₀ setting₀ k₀ bytes digest setting k = 4900 - k
 
 first-asked-requires : tie.Need-first-asked-requires Inv-loop μ-loop
 first-asked-requires c κs = search needs

@@ -6,10 +6,10 @@ use Rattle.part_vectors.proofs.digest.Statement.{statement}
 use Rattle.part_vectors.proofs.digest.Tie as tie
 
 abbrev Inv-loop : tie.InvT-loop
-Inv-loop by-fuse blocks class calls digest₀ i₀ digest i = Unit {0}
+Inv-loop by-fuse d calls digest₀ i₀ digest i = Unit {0}
 
 abbrev μ-loop : tie.MeasureT-loop
-μ-loop by-fuse blocks class calls digest₀ i₀ digest i = calls - i
+μ-loop by-fuse d calls digest₀ i₀ digest i = calls - i
 
 loop-holds : tie.Need-loop-holds Inv-loop μ-loop
 loop-holds c = search needs

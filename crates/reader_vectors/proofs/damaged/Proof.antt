@@ -8,10 +8,10 @@ use Rattle.reader_vectors.proofs.damaged.Statement.{statement}
 use Rattle.reader_vectors.proofs.damaged.Tie as tie
 
 abbrev Inv-loop : tie.InvT-loop
-Inv-loop blocks class text₀ image₀ word₀ k₀ text image word k = (length text ≡ length text₀) × (length image ≡ length image₀)
+Inv-loop d text₀ image₀ word₀ k₀ text image word k = (length text ≡ length text₀) × (length image ≡ length image₀)
 
 abbrev μ-loop : tie.MeasureT-loop
-μ-loop blocks class text₀ image₀ word₀ k₀ text image word k = 30 - k
+μ-loop d text₀ image₀ word₀ k₀ text image word k = 30 - k
 
 loop-holds : tie.Need-loop-holds Inv-loop μ-loop
 loop-holds c = search needs

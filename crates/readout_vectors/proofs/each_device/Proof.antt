@@ -1,4 +1,4 @@
--- `each_device` is safe and ends: each of the two loops counts up to a constant.
+-- `each_device` is safe and ends: the loop counts up to a constant.
 -- Assumes nothing.
 use mathlib.Core.Path.{_≡_}
 use Prim.Native.Nat.{_-_}
@@ -7,69 +7,53 @@ use borrow.Author.Needs.{needs}
 use Rattle.readout_vectors.proofs.each_device.Statement.{statement}
 use Rattle.readout_vectors.proofs.each_device.Tie as tie
 
-abbrev Inv-loop2 : tie.InvT-loop2
-Inv-loop2 image₀ readout₀ blocks class₀ image readout class = (length image ≡ length image₀) × (length readout ≡ length readout₀)
-
-abbrev μ-loop2 : tie.MeasureT-loop2
-μ-loop2 image₀ readout₀ blocks class₀ image readout class = 3 - class
-
 abbrev Inv-loop : tie.InvT-loop
-Inv-loop image₀ readout₀ blocks₀ image readout blocks = (length image ≡ length image₀) × (length readout ≡ length readout₀)
+Inv-loop image₀ readout₀ k₀ image readout k = (length image ≡ length image₀) × (length readout ≡ length readout₀)
 
 abbrev μ-loop : tie.MeasureT-loop
-μ-loop image₀ readout₀ blocks₀ image readout blocks = 18 - blocks
+μ-loop image₀ readout₀ k₀ image readout k = 486 - k
 
-loop-holds : tie.Need-loop-holds Inv-loop2 μ-loop2 Inv-loop μ-loop
+loop-holds : tie.Need-loop-holds Inv-loop μ-loop
 loop-holds c = search needs
 
-loop2-holds : tie.Need-loop2-holds Inv-loop2 μ-loop2 Inv-loop μ-loop
-loop2-holds c = search needs
+mul-loop : tie.Need-mul-loop Inv-loop μ-loop
+mul-loop c = search needs
 
-device-requires : tie.Need-device-requires Inv-loop2 μ-loop2 Inv-loop μ-loop
+device-requires : tie.Need-device-requires Inv-loop μ-loop
 device-requires c κs = search needs
 
-add-class : tie.Need-add-class Inv-loop2 μ-loop2 Inv-loop μ-loop
-add-class c = search needs
+with-lengths-requires : tie.Need-with-lengths-requires Inv-loop μ-loop
+with-lengths-requires c κs = search needs
 
-loop2-less : tie.Need-loop2-less Inv-loop2 μ-loop2 Inv-loop μ-loop
-loop2-less c = search needs
+add-k : tie.Need-add-k Inv-loop μ-loop
+add-k c = search needs
 
-loop2-again : tie.Need-loop2-again Inv-loop2 μ-loop2 Inv-loop μ-loop
-loop2-again c = search needs
-
-add-blocks : tie.Need-add-blocks Inv-loop2 μ-loop2 Inv-loop μ-loop
-add-blocks c = search needs
-
-loop-less : tie.Need-loop-less Inv-loop2 μ-loop2 Inv-loop μ-loop
+loop-less : tie.Need-loop-less Inv-loop μ-loop
 loop-less c = search needs
 
-loop-again : tie.Need-loop-again Inv-loop2 μ-loop2 Inv-loop μ-loop
+loop-again : tie.Need-loop-again Inv-loop μ-loop
 loop-again c = search needs
 
-same-length : tie.Need-same-length Inv-loop2 μ-loop2 Inv-loop μ-loop
+same-length : tie.Need-same-length Inv-loop μ-loop
 same-length c = search needs
 
-same-length-2 : tie.Need-same-length-2 Inv-loop2 μ-loop2 Inv-loop μ-loop
+same-length-2 : tie.Need-same-length-2 Inv-loop μ-loop
 same-length-2 c = search needs
 
-returns : tie.Need-returns Inv-loop2 μ-loop2 Inv-loop μ-loop
+returns : tie.Need-returns Inv-loop μ-loop
 returns c = search needs
 
 pub each-device-spec : {M : Type 1} → statement M
 each-device-spec =
     tie.close
     (tie.spec
-    Inv-loop2
-    μ-loop2
     Inv-loop
     μ-loop
     loop-holds
-    loop2-holds
+    mul-loop
     device-requires
-    add-class
-    loop2-less
-    loop2-again
-    add-blocks
+    with-lengths-requires
+    add-k
     loop-less
     loop-again
     same-length

@@ -5,23 +5,17 @@ use borrow.Author.Needs.{needs}
 use Rattle.readout_vectors.proofs.with_lengths.Statement.{statement}
 use Rattle.readout_vectors.proofs.with_lengths.Tie as tie
 
-slice-aggregate-put : tie.Need-slice-aggregate-put
-slice-aggregate-put c = search needs
+put-device-requires : tie.Need-put-device-requires
+put-device-requires c κs = search needs
 
-put-requires : tie.Need-put-requires
-put-requires c κs = search needs
+sizes-requires : tie.Need-sizes-requires
+sizes-requires c κs = search needs
 
-slice-aggregate-put-2 : tie.Need-slice-aggregate-put-2
-slice-aggregate-put-2 c = search needs
+near-requires : tie.Need-near-requires
+near-requires c κs = search needs
 
-put-requires-2 : tie.Need-put-requires-2
-put-requires-2 c κs = search needs
-
-at-most-requires : tie.Need-at-most-requires
-at-most-requires c κs = search needs
-
-at-most-requires-2 : tie.Need-at-most-requires-2
-at-most-requires-2 c κs = search needs
+near-requires-2 : tie.Need-near-requires-2
+near-requires-2 c κs = search needs
 
 slice-relend-prefix-answers : tie.Need-slice-relend-prefix-answers
 slice-relend-prefix-answers c = search needs
@@ -51,12 +45,10 @@ pub with-lengths-spec : {M : Type 1} → statement M
 with-lengths-spec =
     tie.close
     (tie.spec
-    slice-aggregate-put
-    put-requires
-    slice-aggregate-put-2
-    put-requires-2
-    at-most-requires
-    at-most-requires-2
+    put-device-requires
+    sizes-requires
+    near-requires
+    near-requires-2
     slice-relend-prefix-answers
     slice-aggregate-answers
     slice-relend-prefix-answers-2

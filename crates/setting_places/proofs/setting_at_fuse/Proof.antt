@@ -78,7 +78,7 @@ place-of-fuse-requires : tie.Need-place-of-fuse-requires
 place-of-fuse-requires c κs = search (needs, is-known, below)
 
 candidate-at-requires : tie.Need-candidate-at-requires
-candidate-at-requires c κs = search (needs, is-known, below, its-place)
+candidate-at-requires c κs = search (needs, below, its-place)
 
 has-setting-requires : tie.Need-has-setting-requires
 has-setting-requires c κs = search needs

@@ -48,7 +48,7 @@ setting-of-requires : tie.Need-setting-of-requires
 setting-of-requires c κs = search (needs, is-known, below)
 
 returns-3 : tie.Need-returns-3
-returns-3 c = search (needs, is-known, below, the-setting)
+returns-3 c = search (needs, is-known, the-setting)
 
 pub setting-of-number-spec : {M : Type 1} → statement M
 setting-of-number-spec =

@@ -14,7 +14,6 @@ use Rattle.part.proofs.Readouts.{of-byte}
 use borrow.Author.Needs.{needs}
 use Rattle.part.proofs.internal.index_of_byte.Statement.{statement}
 use Rattle.part.proofs.internal.index_of_byte.Tie as tie
-use Rattle.part.proofs.internal.index_of_byte.Reads as reads
 
 module _ (d : Device) (byte : BytePlace) where
   small : (x : ℕ) → known d ≡ true → hasByte d byte ≡ true → x ≡ indexOfByte d byte → (x ≡ indexOfByte d byte) × (x ≤ 40320)

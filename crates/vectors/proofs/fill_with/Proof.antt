@@ -1,17 +1,17 @@
--- `fill_with_ones` is safe and ends: what is left of the bytes falls.
+-- `fill_with` is safe and ends: what is left of the bytes falls.
 -- Assumes nothing.
 use mathlib.Core.Path.{_≡_}
 use Prim.Native.Nat.{_-_}
-use lib.ListN.{length, length-set}
+use lib.ListN.{length}
 use borrow.Author.Needs.{needs}
-use Rattle.edit_vectors.proofs.fill_with_ones.Statement.{statement}
-use Rattle.edit_vectors.proofs.fill_with_ones.Tie as tie
+use Rattle.vectors.proofs.fill_with.Statement.{statement}
+use Rattle.vectors.proofs.fill_with.Tie as tie
 
 abbrev Inv-loop : tie.InvT-loop
-Inv-loop bytes₀ i₀ bytes i = length bytes ≡ length bytes₀
+Inv-loop bytes₀ value i₀ bytes i = length bytes ≡ length bytes₀
 
 abbrev μ-loop : tie.MeasureT-loop
-μ-loop bytes₀ i₀ bytes i = length bytes₀ - i
+μ-loop bytes₀ value i₀ bytes i = length bytes₀ - i
 
 loop-holds : tie.Need-loop-holds Inv-loop μ-loop
 loop-holds c = search needs
@@ -34,8 +34,8 @@ same-length c = search needs
 returns : tie.Need-returns Inv-loop μ-loop
 returns c = search needs
 
-pub fill-with-ones-spec : {M : Type 1} → statement M
-fill-with-ones-spec =
+pub fill-with-spec : {M : Type 1} → statement M
+fill-with-spec =
     tie.close
     (tie.spec
     Inv-loop

@@ -1,12 +1,21 @@
--- `with_sizes` is safe: the parts that it lends are within the whole.
+-- `device` is safe: the parts that it lends are within the whole.
 -- Assumes nothing.
 use lib.Seq.{length-take-le}
 use borrow.Author.Needs.{needs}
-use Rattle.reader_vectors.proofs.with_sizes.Statement.{statement}
-use Rattle.reader_vectors.proofs.with_sizes.Tie as tie
+use Rattle.reader_vectors.proofs.device.Statement.{statement}
+use Rattle.reader_vectors.proofs.device.Tie as tie
+
+sizes-requires : tie.Need-sizes-requires
+sizes-requires c κs = search needs
+
+cast-at-most : tie.Need-cast-at-most
+cast-at-most c = search needs
 
 at-most-requires : tie.Need-at-most-requires
 at-most-requires c κs = search needs
+
+cast-at-most-2 : tie.Need-cast-at-most-2
+cast-at-most-2 c = search needs
 
 at-most-requires-2 : tie.Need-at-most-requires-2
 at-most-requires-2 c κs = search needs
@@ -35,11 +44,14 @@ same-length-2 c = search needs
 returns : tie.Need-returns
 returns c = search needs
 
-pub with-sizes-spec : {M : Type 1} → statement M
-with-sizes-spec =
+pub device-spec : {M : Type 1} → statement M
+device-spec =
     tie.close
     (tie.spec
+    sizes-requires
+    cast-at-most
     at-most-requires
+    cast-at-most-2
     at-most-requires-2
     slice-relend-prefix-on-text
     slice-aggregate-on-text
