@@ -6,7 +6,7 @@ use crate::catalogue::{number_of_setting, setting_count};
 use crate::device::{Answer, Device, SMALL};
 use crate::image::{image_bytes, image_to_readout, readout_bytes};
 use crate::setting::{MacrocellField, Setting};
-use crate::value::{pattern_of_value, Value, ValueName};
+use crate::value::{pattern_of_value, value_of_pattern, Value, ValueName};
 use crate::vectors::{devices_and_others, fill, halves, word, Digest};
 use std::fmt::Write;
 
@@ -16,12 +16,15 @@ enum Picture {
     Readout,
 }
 
-fn read(picture: Picture, device: Device, bytes: &[u8], setting: u32) -> u64 {
-    let answer = match picture {
+fn read_pattern(picture: Picture, device: Device, bytes: &[u8], setting: u32) -> Answer<u32> {
+    match picture {
         Picture::Image => read_in_image(device, bytes, setting),
         Picture::Readout => read_in_readout(device, bytes, setting),
-    };
-    word(answer.map(u64::from))
+    }
+}
+
+fn read(picture: Picture, device: Device, bytes: &[u8], setting: u32) -> u64 {
+    word(read_pattern(picture, device, bytes, setting).map(u64::from))
 }
 
 fn set(picture: Picture, device: Device, bytes: &mut [u8], setting: u32, pattern: u32) -> u64 {
@@ -121,6 +124,29 @@ fn set_to_foe2(picture: Picture, device: Device, bytes: &mut [u8], oe_mux: u32) 
     Ok(format!("{before} set {set} then {then} bytes {bytes}"))
 }
 
+/// The same with its values: 0 for PT, 1 for FOE2, 2 for any other, 3 for a refusal.
+fn set_to_foe2_by_name(
+    picture: Picture,
+    device: Device,
+    bytes: &mut [u8],
+    oe_mux: u32,
+) -> Answer<String> {
+    let which = |bytes: &[u8]| match read_pattern(picture, device, bytes, oe_mux)
+        .and_then(|pattern| value_of_pattern(device, oe_mux, pattern))
+    {
+        Ok(Value::Named(ValueName::Pt)) => 0,
+        Ok(Value::Named(ValueName::Foe2)) => 1,
+        Ok(_) => 2,
+        Err(_) => 3,
+    };
+    let before = which(bytes);
+    let foe2 = pattern_of_value(device, oe_mux, Value::Named(ValueName::Foe2))?;
+    let set = set(picture, device, bytes, oe_mux, foe2);
+    let then = which(bytes);
+    let bytes = digest_of(bytes);
+    Ok(format!("{before} set {set} then {then} bytes {bytes}"))
+}
+
 /// Document 01's case: an image of ones, in which two fuses are cleared and one is kept.
 fn document_case(smallest: Device) -> Answer<Vec<String>> {
     let setting = Setting::Macrocell {
@@ -140,6 +166,12 @@ fn document_case(smallest: Device) -> Answer<Vec<String>> {
     }
     let in_readout = set_to_foe2(Picture::Readout, smallest, &mut readout, oe_mux)?;
     lines.push(format!("OE_MUX in the readout {in_readout}"));
+    image.fill(255);
+    let in_image = set_to_foe2_by_name(Picture::Image, smallest, &mut image, oe_mux)?;
+    lines.push(format!("by name in the image {in_image}"));
+    readout.fill(255);
+    let in_readout = set_to_foe2_by_name(Picture::Readout, smallest, &mut readout, oe_mux)?;
+    lines.push(format!("by name in a readout of bytes 255 {in_readout}"));
     Ok(lines)
 }
 

@@ -1,6 +1,12 @@
 // Prints what reading and setting one setting answer in an image and in a readout: document 01's case, then each device.
 // The file stdout beside src/ is what the independent program prints.
 use part::Device;
+use readout::DoneAnswer;
+use setting_values::ValueAnswer;
+use settings::MacrocellField;
+use settings::Setting;
+use values::OeMux;
+use values::Value;
 use vectors::SMALLEST;
 use vectors::at_most;
 use vectors::near;
@@ -134,6 +140,57 @@ fn set_to_foe2(name: &[u8], in_readout: bool, bytes: &mut [u8]) {
     vectors::end_line();
 }
 
+// The same by name and value.
+fn oe_mux() -> Setting {
+    Setting::Macrocell {
+        block: 0,
+        macrocell: 0,
+        field: MacrocellField::OeMux,
+    }
+}
+
+fn read_by_name(in_readout: bool, bytes: &[u8]) -> ValueAnswer {
+    if in_readout {
+        return edit::read_in_readout(SMALLEST, bytes, oe_mux());
+    }
+    edit::read_in_image(SMALLEST, bytes, oe_mux())
+}
+
+fn set_by_name(in_readout: bool, bytes: &mut [u8], v: OeMux) -> DoneAnswer {
+    if in_readout {
+        return edit::set_in_readout(SMALLEST, bytes, oe_mux(), Value::OeMux(v));
+    }
+    edit::set_in_image(SMALLEST, bytes, oe_mux(), Value::OeMux(v))
+}
+
+// 0 for PT, 1 for FOE2, 2 for any other value, 3 for a refusal.
+fn which(answer: ValueAnswer) -> u64 {
+    match answer {
+        ValueAnswer::Value(Value::OeMux(OeMux::Pt)) => 0,
+        ValueAnswer::Value(Value::OeMux(OeMux::Foe2)) => 1,
+        ValueAnswer::Value(_) => 2,
+        ValueAnswer::Refused(_) => 3,
+    }
+}
+
+fn refusal(answer: DoneAnswer) -> u64 {
+    match answer {
+        DoneAnswer::Done => 0,
+        DoneAnswer::Refused(r) => part::refusal_number(r) as u64,
+    }
+}
+
+fn set_to_foe2_by_name(name: &[u8], in_readout: bool, bytes: &mut [u8]) {
+    vectors::put(name, which(read_by_name(in_readout, &bytes[..])));
+    vectors::put(
+        b" set",
+        refusal(set_by_name(in_readout, bytes, OeMux::Foe2)),
+    );
+    vectors::put(b" then", which(read_by_name(in_readout, &bytes[..])));
+    vectors::put(b" bytes", vectors::digest_of(&bytes[..]));
+    vectors::end_line();
+}
+
 fn put_byte(name: &[u8], bytes: &[u8], i: usize) {
     if i < bytes.len() {
         vectors::put(name, bytes[i] as u64);
@@ -152,6 +209,10 @@ fn document_case(image: &mut [u8], readout: &mut [u8]) {
     put_byte(b"byte of fuse 3246", &image[..], 405);
     put_byte(b"byte of fuse 3354", &image[..], 419);
     set_to_foe2(b"OE_MUX in the readout", true, readout);
+    vectors::fill_with(image, 255);
+    set_to_foe2_by_name(b"by name in the image", false, image);
+    vectors::fill_with(readout, 255);
+    set_to_foe2_by_name(b"by name in a readout of bytes 255", true, readout);
 }
 
 fn on_the_smallest(image: &mut [u8], readout: &mut [u8]) {
