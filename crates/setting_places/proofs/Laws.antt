@@ -4,6 +4,7 @@
 --   each-bit          every bit of every setting has a fuse, and it is below the count
 --   apart             no two settings share a fuse, and no setting has a fuse twice
 --   unnamed-iff       a fuse below the count is unnamed exactly if no setting lists it
+--   unnamed-count     how many fuses are unnamed in each class (proofs/Unnamed.antt)
 --   usercode-rows     USERCODE's two rows in document 01's words, from place to bit
 --   bench-cases       document 01's cases about settings and fuses
 use mathlib.Core.Path.{_≡_, refl, sym, _∙_, ap, subst}
@@ -41,7 +42,7 @@ given false x y e = let z : _≡_ {A = ℕ} 0 1 = cc in absurd (omega arith)
 
 -- The way back is the left inverse of the step to the fuse, and leads nowhere else
 module _ (d : Device) (k : known d ≡ true) where
-  listed : (s : Setting) (bit : ℕ) → lists d s bit ≡ true → (hasSetting d s ≡ true) × (bit < bitsOf s)
+  pub listed : (s : Setting) (bit : ℕ) → lists d s bit ≡ true → (hasSetting d s ≡ true) × (bit < bitsOf s)
   listed s bit h = let both = and-iff (hasSetting d s) (ltb bit (bitsOf s)) .0 h in (both .0, ltb-true _ _ (both .1))
 
   pub left-inverse : on-fuses.LeftInverse (fuseCount d) (lists d) (fuseOf d) (settingAt d)

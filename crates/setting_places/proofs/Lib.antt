@@ -3,3 +3,5 @@
 pub mod Places
 pub mod OnFuses
 pub mod Laws
+pub mod Sums
+pub mod Unnamed

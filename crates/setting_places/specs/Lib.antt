@@ -2,6 +2,7 @@
 -- Assumes nothing.
 pub mod Places
 pub mod Back
+pub mod Unnamed
 pub mod Answer
 pub mod Operations
 pub mod Cases
