@@ -1,5 +1,5 @@
 /* The C interface of the XC9500 fuse-map library; link with the archive that `rt staticlib capi` makes.
-   Every function takes any numbers and any slices, and always returns. */
+   Every function takes any numbers and any slices, and always returns. A slice is a pointer, not null, and a length. */
 #ifndef XC9500_H
 #define XC9500_H
 
@@ -56,8 +56,11 @@ uint64_t xc9500_text_to_image(uint32_t blocks, uint32_t class_, const uint8_t *t
 
 /* Settings are numbered from 0 in the listing order: term literals by block, macrocell, term, input, P before N; wire-AND by block, input,
    source block, macrocell; macrocell fields by block, macrocell, field; block fields by block, field; global fields; the last index
-   fastest, fields in the order of the papers (ALLOC[0] to [4], INV, .., IOB_SLEW, HP[0] to [4]; ENABLE, EXPORT_ENABLE, PULLUP_DISABLE,
-   READ_PROT_A, READ_PROT_B, WRITE_PROT; FSR_INV, FCLK INV, FOE INV, FCLK MUX, FOE MUX, USERCODE).
+   fastest, fields in this order:
+   macrocell: ALLOC[0] to [4], INV, IMPORT_UP_ALLOC, IMPORT_DOWN_ALLOC, EXPORT_DIR, SUM_HP, IOB_OE_MUX, OE_MUX, OUT_MUX, CLK_MUX, REG_MODE,
+   RST_MUX, SET_MUX, INIT, UIM_OE_MUX, UIM_OUT_INV, IOB_GND, IOB_SLEW, HP[0] to [4];
+   block: ENABLE, EXPORT_ENABLE, PULLUP_DISABLE, READ_PROT_A, READ_PROT_B, WRITE_PROT;
+   global: FSR_INV, FCLK[0] to [2] INV, FOE[0] to [1] INV (large class: [3]), FCLK[0] to [2] MUX, FOE[0] to [1] MUX (large class: [3]), USERCODE.
    Where a result may be missing it is XC9500_NONE. */
 #define XC9500_NONE (((uint64_t)1 << 56) - 1)
 
@@ -73,8 +76,7 @@ uint64_t xc9500_setting_fuse(uint32_t blocks, uint32_t class_, uint32_t setting,
 uint64_t xc9500_setting_at_fuse(uint32_t blocks, uint32_t class_, uint32_t fuse);
 
 /* A pattern is the states of a setting's fuses, its bit 0 the state of the fuse of bit 0; that of USERCODE is the complement of its
-   number. Refused by the functions below: 1; 2 an image or
-   a readout that has not the exact length; 4 no such setting; 5 a pattern that does not fit (set only); and in a readout 6, a byte
+   number. Refused by the functions below: 1; 2 an image or a readout that has not the exact length; 4 no such setting; 5 a pattern that does not fit (set only); and in a readout 6, a byte
    that holds the setting has a bit above its width, with the lowest index of such a byte. A refusal changes no byte. */
 
 /* The pattern of a setting in an image, and in a readout. */
