@@ -2,6 +2,7 @@
 --   packed-same     equal answers have equal words
 --   unpacked        a caller reads the refusal's number and value, or 0 and the result, where they have 56 bits
 --   unpacked-none   the same where a result may be missing, and it is XC9500_NONE exactly where there is none
+--   each-fits       every answer of the interface is such (proofs/Fitting.antt)
 use mathlib.Core.Path.{_≡_, refl, _∙_, ap}
 use mathlib.Core.Logic.{_↔_}
 use mathlib.Core.Option.{Option}
@@ -13,6 +14,7 @@ use lib.Pow.{high, low}
 use Rattle.part.specs.Outcome.{Outcome}
 use Rattle.part.specs.Outcome.Outcome.{accepted, refused}
 use Rattle.capi.specs.Packed.{packed, orNone, resultIn, Reads, Fits, FitsOrNone}
+pub use Rattle.capi.proofs.Fitting.{each-fits}
 
 pub packed-same : {A : Type 0} (word : A → ℕ) {w : ℕ} {answer o : Outcome A} → w ≡ packed word answer → answer ≡ o → w ≡ packed word o
 packed-same word e f = e ∙ ap (packed word) f
