@@ -83,7 +83,7 @@ abbrev pub etxAt : (design : List ℕ) → List Part → (gap : List ℕ) → �
 etxAt design parts gap = endOf (firstAt design) parts + length gap
 
 -- what the end of a text of good form needs: QF gives the count, no L is out of place, C gives the fuse sum of the image, and the transmission
--- sum is 0000 or the sum of the bytes from STX to ETX
+-- sum is 0000 or the sum of the bytes from STX to ETX; `in-place` and `its-image` in plain terms are `InPlace` and `Described` below
 pub record Concluded (fuses : ℕ) (text image : List ℕ) (end sum : ℕ) (k : Known) : Type 0 where
   pub count-field : At
   pub has-count : k .count ≡ some count-field
