@@ -1,3 +1,4 @@
 -- The laws of `capi` that belong to no one function.
 -- Assumes nothing.
 pub mod Words
+pub mod Fitting

@@ -1,6 +1,7 @@
 -- How an answer is packed into one 64-bit word: the refusal's number in bits 56 to 63 (0: accepted), and its value, or the
 -- result, in the low 56 bits.
-use Prim.Native.Nat.{ℕ, _+_, _*_, _-_, _^_}
+use mathlib.Core.Path.{_≡_}
+use Prim.Native.Nat.{ℕ, _+_, _*_, _-_, _/_, _%_, _^_, _<_}
 use mathlib.Core.Option.{Option}
 use mathlib.Core.Option.Option.{none, some}
 use Rattle.part.specs.Outcome.{Outcome}
@@ -44,3 +45,26 @@ settingAndBit d p = numberOf d (p .0) * 32 + p .1
 abbrev pub through : {A : Type 0} → Outcome Setting → (Setting → Outcome A) → Outcome A
 through (accepted s) answer = answer s
 through (refused number value) answer = refused number value
+
+-- what a caller reads of a word by the header's XC9500_REFUSAL and XC9500_RESULT
+abbrev pub refusalIn : (word : ℕ) → ℕ
+refusalIn word = word / 2 ^ 56
+
+abbrev pub resultIn : (word : ℕ) → ℕ
+resultIn word = word % 2 ^ 56
+
+-- an accepted answer is read as refusal 0 and its result, a refused one as its number and value
+abbrev pub Reads : {A : Type 0} → (A → ℕ) → Outcome A → (word : ℕ) → Type 0
+Reads result (accepted x) word = (refusalIn word ≡ 0) × (resultIn word ≡ result x)
+Reads result (refused number value) word = (refusalIn word ≡ number) × (resultIn word ≡ value)
+
+-- where the result, or the value, has 56 bits
+abbrev pub Fits : {A : Type 0} → (A → ℕ) → Outcome A → Type 0
+Fits result (accepted x) = result x < 2 ^ 56
+Fits result (refused number value) = value < 2 ^ 56
+
+-- .. and a result that there is is not the one that stands for none
+abbrev pub FitsOrNone : {A : Type 0} → (A → ℕ) → Outcome (Option A) → Type 0
+FitsOrNone result (accepted none) = Unit {0}
+FitsOrNone result (accepted (some x)) = result x < 2 ^ 56 - 1
+FitsOrNone result (refused number value) = value < 2 ^ 56

@@ -2,6 +2,7 @@
 --   holds            demand 3, whole (specs/Demand.antt), of the definitions of setting, reading and the passages
 --   some-fuse        each setting of a device lists a fuse at least, so that the field `listed-fuses` is never about none
 --   of-calls         the same of any calls that are those that their names say (`Made`); `both_ways` is such a run
+--   value-iff        a pattern is that of a value exactly if it has the setting's bits and 003's list for the setting gives it this value
 --   read-after-set, read-after-set-image   in any readout, whatever its other bytes hold, and in any image: a setting that was set reads
 --                    as set
 --   other-bits       .. and every bit of every byte that is none of the setting's stands as before
@@ -21,28 +22,24 @@ use Rattle.settings.specs.declared.Setting.{Setting}
 use Rattle.setting_places.specs.Places.{bitsOf, fuseOf}
 use Rattle.values.specs.Patterns.{patternIn}
 use Rattle.values.specs.declared.Value.{Value}
-use Rattle.values.proofs.Laws as values
 use Rattle.setting_values.specs.Kinds.{kindOf}
-use Rattle.setting_values.proofs.Widths.{kind-bits}
 use Rattle.setting_bits.specs.SettingBits.{inImage, inReadout, bytesOf, byteOf, bitIn, withPattern}
 use Rattle.setting_bits.proofs.Edits.{set-length, set-others, set-reads, set-clean, clean-through}
 use Rattle.edit.specs.Edit.{withValue, readIn}
 use Rattle.edit.proofs.NotRefused.{Clean}
 use Rattle.edit.proofs.ReadsAsSet.{image-clean, readout-clean, reads}
 pub use Rattle.setting_bits.proofs.Edits.{some-fuse}
+pub use Rattle.edit.proofs.NotRefused.{value-iff}
 pub use Rattle.edit.proofs.Demand.{holds, of-calls}
 
 module _ (d : Device) (k : known d ≡ true) (s : Setting) (h : hasSetting d s ≡ true) (v : Value) (pattern : ℕ) (p : patternIn (kindOf d s) v ≡ some pattern) where
-  fits : pattern < 2 ^ bitsOf s
-  fits = rw (← kind-bits d s h) (values.pattern-iff (kindOf d s) v pattern .0 p .0)
-
   reads-set : (form : Bool) (bytes : List ℕ) → length bytes ≡ bytesOf d form → Clean d form (withPattern d form bytes s pattern) s
       → readIn d form (withValue d form bytes s v) s ≡ accepted v
   unfolding withValue
   reads-set form bytes e clean =
       rw p
       (reads d form (withPattern d form bytes s pattern) s pattern v k (set-length d k form bytes e s h pattern ∙ e) h clean
-      (set-reads d k form bytes e s h pattern fits) (values.pattern-iff (kindOf d s) v pattern .0 p .1))
+      (set-reads d k form bytes e s h pattern (value-iff d s v pattern h .0 p .0)) (value-iff d s v pattern h .0 p .1))
 
   pub read-after-set-image : (image : List ℕ) → length image ≡ imageBytes d → readIn d inImage (withValue d inImage image s v) s ≡ accepted v
   read-after-set-image image e = reads-set inImage image e (image-clean d _ _)

@@ -1,10 +1,11 @@
 -- Demand 3: "Set it in the image, or set it straight in the readout's few bytes. Neither is refused."
 -- Assumes nothing.
 use mathlib.Core.Path.{_≡_, refl}
+use mathlib.Core.Logic.{_↔_}
 use mathlib.Core.Bool.{Bool, true}
 use mathlib.Core.List.{List}
 use mathlib.Core.Option.Option.{some}
-use Prim.Native.Nat.{ℕ}
+use Prim.Native.Nat.{ℕ, _^_, _<_}
 use native.Mathlib.Omega.{arith}
 use lib.ListN.{length}
 use borrow.Author.Tests.{eq-eqb, le-ltb}
@@ -18,11 +19,21 @@ use Rattle.settings.specs.declared.Setting.{Setting}
 use Rattle.setting_places.specs.Places.{bitsOf, fuseOf}
 use Rattle.values.specs.Patterns.{patternIn}
 use Rattle.values.specs.declared.Value.{Value}
-use Rattle.setting_values.specs.Kinds.{kindOf}
+use Rattle.values.proofs.Laws as values
+use Rattle.setting_values.specs.Kinds.{kindOf, valueOf}
+use Rattle.setting_values.proofs.Widths.{kind-bits}
 use Rattle.setting_bits.specs.SettingBits.{inImage, inReadout, bytesOf, byteOf, strayAmong}
 use Rattle.setting_bits.proofs.Edits.{inside, fuse-below, clean-through}
 use Rattle.edit.specs.Edit.{strayIn, setIn}
 use Rattle.edit.specs.Demand.{Taken}
+
+-- the pattern of a value of a setting
+pub value-iff : (d : Device) (s : Setting) (v : Value) (pattern : ℕ) → hasSetting d s ≡ true
+    → (patternIn (kindOf d s) v ≡ some pattern) ↔ ((pattern < 2 ^ bitsOf s) × (valueOf d s pattern ≡ v))
+value-iff d s v pattern h = rw (← kind-bits d s h) (values.pattern-iff (kindOf d s) v pattern)
+
+pub its-pattern : {d : Device} {image : List ℕ} {s : Setting} {v : Value} {pattern : ℕ} → Taken d image s v pattern → patternIn (kindOf d s) v ≡ some pattern
+its-pattern {d} {image} {s} {v} {pattern} taken = value-iff d s v pattern (taken .setting) .1 (taken .fits, taken .value)
 
 -- no byte that holds the setting has a bit above its width
 abbrev pub Clean : Device → Bool → List ℕ → Setting → Type 0
@@ -49,7 +60,7 @@ pub not-refused : (d : Device) (image : List ℕ) (s : Setting) (v : Value) (pat
     → (setIn d inImage image s v ≡ accepted tt) × (setIn d inReadout (readoutOf d image) s v ≡ accepted tt)
 unfolding strayIn
 not-refused d image s v pattern taken = (
-  sets d inImage image s v pattern (taken .device) (taken .size) (taken .setting) (taken .value) refl,
-  sets d inReadout (readoutOf d image) s v pattern (taken .device) (its-length d image) (taken .setting) (taken .value)
+  sets d inImage image s v pattern (taken .device) (taken .size) (taken .setting) (its-pattern taken) refl,
+  sets d inReadout (readoutOf d image) s v pattern (taken .device) (its-length d image) (taken .setting) (its-pattern taken)
       (its-bits d image s (taken .device) (taken .setting)),
 )

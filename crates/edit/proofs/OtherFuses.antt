@@ -14,13 +14,14 @@ use Rattle.setting_bits.specs.SettingBits.{inImage, inReadout, stateOf}
 use Rattle.setting_bits.proofs.Edits.{set-other-fuses, same-state}
 use Rattle.edit.specs.Edit.{withValue}
 use Rattle.edit.specs.Demand.{Taken}
+use Rattle.edit.proofs.NotRefused.{its-pattern}
 use Rattle.edit.proofs.SameReadout.{start, same-readout}
 
 module _ (d : Device) (image : List ℕ) (s : Setting) (v : Value) (pattern : ℕ) (taken : Taken d image s v pattern)
     (f : ℕ) (l : f < fuseCount d) (apart : (b : ℕ) → b < bitsOf s → fuseOf d s b ≢ f) where
   in-image : stateOf d inImage (withValue d inImage image s v) f ≡ stateOf d inImage image f
   unfolding withValue
-  in-image = rw (taken .value) (set-other-fuses d (taken .device) inImage _ (start d image s v pattern taken .size) s (taken .setting) _ f l apart)
+  in-image = rw (its-pattern taken) (set-other-fuses d (taken .device) inImage _ (start d image s v pattern taken .size) s (taken .setting) _ f l apart)
 
   pub other-fuses : (stateOf d inImage (withValue d inImage image s v) f ≡ stateOf d inImage image f)
       × (stateOf d inReadout (withValue d inReadout (readoutOf d image) s v) f ≡ stateOf d inReadout (readoutOf d image) f)

@@ -18,6 +18,7 @@ use Rattle.setting_bits.specs.SettingBits.{inImage, inReadout, patternAt}
 use Rattle.setting_bits.proofs.Edits.{set-others-read}
 use Rattle.edit.specs.Edit.{readIn, withValue}
 use Rattle.edit.specs.Demand.{Taken}
+use Rattle.edit.proofs.NotRefused.{its-pattern}
 use Rattle.edit.proofs.SameReadout.{start, same-readout}
 use Rattle.edit.proofs.SameImage.{changed}
 use Rattle.edit.proofs.ReadsAsSet.{image-clean, same-reading}
@@ -26,7 +27,7 @@ module _ (d : Device) (image : List ℕ) (s : Setting) (v : Value) (pattern : �
     (t : Setting) (h : hasSetting d t ≡ true) (ne : t ≢ s) where
   stands : patternAt d inImage (withValue d inImage image s v) t ≡ patternAt d inImage image t
   unfolding withValue
-  stands = rw (taken .value) (set-others-read d (taken .device) inImage _ (start d image s v pattern taken .size) s (taken .setting) _ t h ne)
+  stands = rw (its-pattern taken) (set-others-read d (taken .device) inImage _ (start d image s v pattern taken .size) s (taken .setting) _ t h ne)
 
   in-image : readIn d inImage (withValue d inImage image s v) t ≡ readIn d inImage image t
   unfolding readIn

@@ -3,7 +3,7 @@
 use mathlib.Core.Path.{_≡_, refl, _∙_}
 use mathlib.Core.Bool.{Bool, true}
 use mathlib.Core.List.{List}
-use Prim.Native.Nat.{ℕ, _^_, _<_}
+use Prim.Native.Nat.{ℕ}
 use native.Mathlib.Omega.{arith}
 use lib.ListN.{length}
 use borrow.Author.Tests.{eq-eqb, le-ltb}
@@ -15,14 +15,12 @@ use Rattle.settings.specs.Settings.{hasSetting}
 use Rattle.settings.specs.declared.Setting.{Setting}
 use Rattle.setting_places.specs.Places.{bitsOf}
 use Rattle.values.specs.declared.Value.{Value}
-use Rattle.values.proofs.Laws as values
-use Rattle.setting_values.specs.Kinds.{kindOf, valueOf}
-use Rattle.setting_values.proofs.Widths.{kind-bits}
+use Rattle.setting_values.specs.Kinds.{valueOf}
 use Rattle.setting_bits.specs.SettingBits.{inImage, inReadout, bytesOf, patternAt, strayAmong}
 use Rattle.setting_bits.proofs.Edits.{set-reads, same-pattern}
 use Rattle.edit.specs.Edit.{strayIn, readIn, withValue}
 use Rattle.edit.specs.Demand.{Taken}
-use Rattle.edit.proofs.NotRefused.{Clean, its-length, its-bits}
+use Rattle.edit.proofs.NotRefused.{Clean, its-pattern, its-length, its-bits}
 use Rattle.edit.proofs.SameReadout.{start, same-readout}
 use Rattle.edit.proofs.SameImage.{changed}
 
@@ -50,20 +48,14 @@ same-reading d image t k e h =
     rw (k, eq-eqb (length image) (imageBytes d) e, eq-eqb (length (readoutOf d image)) (readoutBytes d) (its-length d image), h, image-clean d image t, readout-clean d (readoutOf d image) t (its-bits d image t k h), le-ltb (imageBytes d) (imageBytes d) (omega arith), le-ltb (readoutBytes d) (readoutBytes d) (omega arith), same-pattern d image k t h)
 
 module _ (d : Device) (image : List ℕ) (s : Setting) (v : Value) (pattern : ℕ) (taken : Taken d image s v pattern) where
-  fits : pattern < 2 ^ bitsOf s
-  fits = rw (← kind-bits d s (taken .setting)) (values.pattern-iff (kindOf d s) v pattern .0 (taken .value) .0)
-
-  means : valueOf d s pattern ≡ v
-  means = values.pattern-iff (kindOf d s) v pattern .0 (taken .value) .1
-
   stands : patternAt d inImage (withValue d inImage image s v) s ≡ pattern
   unfolding withValue
-  stands = rw (taken .value) (set-reads d (taken .device) inImage _ (start d image s v pattern taken .size) s (taken .setting) _ fits)
+  stands = rw (its-pattern taken) (set-reads d (taken .device) inImage _ (start d image s v pattern taken .size) s (taken .setting) _ (taken .fits))
 
   in-image : readIn d inImage (withValue d inImage image s v) s ≡ accepted v
   in-image =
       reads d inImage (withValue d inImage image s v) s _ v (taken .device) (changed d image s v pattern taken .size) (taken .setting)
-      (image-clean d _ _) stands means
+      (image-clean d _ _) stands (taken .value)
 
   pub reads-as-set : (readIn d inImage (withValue d inImage image s v) s ≡ accepted v)
       × (readIn d inReadout (withValue d inReadout (readoutOf d image) s v) s ≡ accepted v)

@@ -12,6 +12,7 @@ use Rattle.setting_bits.specs.SettingBits.{inImage, inReadout}
 use Rattle.setting_bits.proofs.Edits.{set-length, set-small}
 use Rattle.edit.specs.Edit.{withValue}
 use Rattle.edit.specs.Demand.{Taken}
+use Rattle.edit.proofs.NotRefused.{its-pattern}
 use Rattle.edit.proofs.SameReadout.{IsImage, start, same-readout}
 
 module _ (d : Device) (image : List ℕ) (s : Setting) (v : Value) (pattern : ℕ) (taken : Taken d image s v pattern) where
@@ -20,7 +21,7 @@ module _ (d : Device) (image : List ℕ) (s : Setting) (v : Value) (pattern : �
   unfolding withValue
   changed =
       let from = start d image s v pattern taken in
-      rw (taken .value)
+      rw (its-pattern taken)
       (record {
         size = set-length d (taken .device) inImage _ (from .size) s (taken .setting) _ ∙ from .size;
         bytes = λ i. set-small d (taken .device) _ (from .size) s (taken .setting) _ i (from .bytes i);

@@ -13,6 +13,7 @@ use Rattle.setting_bits.specs.SettingBits.{inImage, inReadout}
 use Rattle.setting_bits.proofs.Edits.{agrees}
 use Rattle.edit.specs.Edit.{withValue}
 use Rattle.edit.specs.Demand.{Taken}
+use Rattle.edit.proofs.NotRefused.{its-pattern}
 
 -- an image: its length, and its bytes
 pub record IsImage (d : Device) (image : List ℕ) : Type 0 where
@@ -26,4 +27,4 @@ module _ (d : Device) (image : List ℕ) (s : Setting) (v : Value) (pattern : �
 
   pub same-readout : withValue d inReadout (readoutOf d image) s v ≡ readoutOf d (withValue d inImage image s v)
   unfolding withValue
-  same-readout = rw (taken .value) (sym (agrees d (taken .device) _ (start .size) s (taken .setting) _))
+  same-readout = rw (its-pattern taken) (sym (agrees d (taken .device) _ (start .size) s (taken .setting) _))

@@ -4,7 +4,6 @@ use mathlib.Core.Path.{_≡_}
 use mathlib.Core.Logic.{_≢_}
 use mathlib.Core.Bool.{true}
 use mathlib.Core.List.{List}
-use mathlib.Core.Option.Option.{some}
 use Prim.Native.Nat.{ℕ, _^_, _<_}
 use lib.ListN.{length, getD}
 use Rattle.part.specs.Outcome.{Outcome}
@@ -16,22 +15,22 @@ use Rattle.readout.specs.Readout.{readoutOf, imageOf, doneOutcome}
 use Rattle.settings.specs.Settings.{hasSetting}
 use Rattle.settings.specs.declared.Setting.{Setting}
 use Rattle.setting_places.specs.Places.{bitsOf, fuseOf}
-use Rattle.values.specs.Patterns.{patternIn}
 use Rattle.values.specs.declared.Value.{Value}
-use Rattle.setting_values.specs.Kinds.{kindOf}
+use Rattle.setting_values.specs.Kinds.{valueOf}
 use Rattle.setting_values.specs.Operations.{valueOutcome}
 use Rattle.setting_bits.specs.SettingBits.{inImage, inReadout, stateOf}
 use Rattle.edit.specs.declared.internal.BothAnswer.{BothAnswer}
 use Rattle.edit.specs.Edit.{readIn, setIn, withValue}
 
--- "take any known device, any image of it, the readout of that image, any setting of that device and any value of that setting"; the
--- value stands for a pattern of states: by `pattern-iff` (values/proofs/Laws.antt) the only one that has this value
+-- "take any known device, any image of it, the readout of that image, any setting of that device and any value of that setting": what 003's
+-- list for the setting gives a pattern of its bits; by `value-iff` (proofs/Laws.antt) no other pattern has this value
 pub record Taken (d : Device) (image : List ℕ) (s : Setting) (v : Value) (pattern : ℕ) : Type 0 where
   pub device : known d ≡ true
   pub size : length image ≡ imageBytes d
   pub bytes : (i : ℕ) → getD image i 0 < 2 ^ 8
   pub setting : hasSetting d s ≡ true
-  pub value : patternIn (kindOf d s) v ≡ some pattern
+  pub fits : pattern < 2 ^ bitsOf s
+  pub value : valueOf d s pattern ≡ v
 
 -- what the calls gave: the answers of setting in the image and in the readout; the bytes after that; the readout of the changed image
 -- and the image of the changed readout; the answers of reading

@@ -2,12 +2,16 @@
 --   accepted-texts, refused-texts, written-text, too-long, no-start          texts of document 01's bench section and of points that it leaves room for (specs/Cases.antt) mean what stands there
 --   accepted-iff        a text is accepted with an image exactly if it is of the form, its C field gives the fuse sum of that image, and its
 --                       transmission sum is 0000 or the sum of its bytes from STX to ETX (`Accepted` in specs/Form.antt)
+--   in-place-iff        no L is refused exactly if each starts at or after the end of the L before it and ends at or before the count
+--   finished-state      the image of fields in order, with each L in place, is the one in which each L gives its fuses their states and every
+--                       other fuse has the start state (`Described` in specs/Form.antt)
 --   assembled-accepted  a text put together in that form, with fields in order and right counts and sums, is accepted
 --   read-back           what the writer writes of an image is accepted and gives that image
 --   seven-back, count-back, sum-back   seven digits, a plain count and four hex digits are read back as the number that was written
 --   values-small        a refusal has a number of 7 to 11, and its value is no larger than the longest text
 pub use Rattle.jedec.proofs.Cases.{accepted-texts, refused-texts, written-text, too-long, no-start}
 pub use Rattle.jedec.proofs.Conditions.{accepted-iff}
+pub use Rattle.jedec.proofs.States.{in-place-iff, finished-state}
 pub use Rattle.jedec.proofs.Forms.{assembled-accepted}
 pub use Rattle.jedec.proofs.ReadBack.{read-back}
 pub use Rattle.jedec.proofs.Numbers.{seven-back, count-back, sum-back}

@@ -8,4 +8,5 @@ pub mod Forms
 pub mod Judging
 pub mod ReadBack
 pub mod Places
+pub mod States
 pub mod Laws

@@ -23,7 +23,7 @@ use Rattle.jedec.specs.Rules.Fields.{known, badAt}
 use Rattle.jedec.specs.Meaning.{longest, unless, wrongSum, concluded, withTail, withEnd, withFields, ofCut, ofPieces, meaning}
 
 -- what holds of both holds of the choice
-chosen : {A : Type 0} (P : A → Type 0) (t : Bool) {a b : A} → P a → P b → P (cond t a b)
+pub chosen : {A : Type 0} (P : A → Type 0) (t : Bool) {a b : A} → P a → P b → P (cond t a b)
 chosen P true x y = x
 chosen P false x y = y
 

@@ -186,7 +186,7 @@ byte-state : (image : List ℕ) (i b : ℕ) → b < 8 → state image (i * 8 + b
 unfolding state bitAt
 byte-state image i b l = let q : (i * 8 + b) / 8 ≡ i = omega arith in let r : (i * 8 + b) % 8 ≡ b = omega arith in rw (q, r)
 
-image-given : (fuses : ℕ) (image : List ℕ) → Image fuses image → (states : ℕ → ℕ) → ((fuse : ℕ) → fuse < fuses → states fuse ≡ state image fuse)
+pub image-given : (fuses : ℕ) (image : List ℕ) → Image fuses image → (states : ℕ → ℕ) → ((fuse : ℕ) → fuse < fuses → states fuse ≡ state image fuse)
     → imageWith fuses states ≡ image
 unfolding imageWith
 image-given fuses image its states same =

@@ -1,5 +1,5 @@
 -- A text of document 01's form, put together from its parts, and what it is for a text to be accepted: what the laws speak of.
--- The laws are `accepted-iff`, `assembled-accepted` and `read-back` in proofs/Laws.antt.
+-- The laws are `accepted-iff`, `in-place-iff`, `finished-state`, `assembled-accepted` and `read-back` in proofs/Laws.antt.
 use Prim.Native.Nat.{ℕ, _+_, _/_, _^_, _<_, _≤_}
 use mathlib.Core.Path.{_≡_}
 use mathlib.Core.Logic.{_⊎_}
@@ -12,7 +12,7 @@ use Rattle.image.specs.Image.{state, sum16}
 use Rattle.jedec.specs.Characters.{stx, etx, star, isBlank, sumIn}
 use Rattle.jedec.specs.Cut.{pieces, Field, startsWith, fieldsFrom, holdsMark, tailFrom}
 use Rattle.jedec.specs.Cut.Tail.{given}
-use Rattle.jedec.specs.Rules.{At, Known, nothing, allFields, misplaced, finished}
+use Rattle.jedec.specs.Rules.{At, Listed, Known, nothing, allFields, misplaced, startState, finished}
 use Rattle.jedec.specs.Rules.Fields.{known}
 use Rattle.jedec.specs.Meaning.{longest}
 
@@ -83,7 +83,7 @@ abbrev pub etxAt : (design : List ℕ) → List Part → (gap : List ℕ) → �
 etxAt design parts gap = endOf (firstAt design) parts + length gap
 
 -- what the end of a text of good form needs: QF gives the count, no L is out of place, C gives the fuse sum of the image, and the transmission
--- sum is 0000 or the sum of the bytes from STX to ETX
+-- sum is 0000 or the sum of the bytes from STX to ETX; `in-place` and `its-image` in plain terms are `InPlace` and `Described` below
 pub record Concluded (fuses : ℕ) (text image : List ℕ) (end sum : ℕ) (k : Known) : Type 0 where
   pub count-field : At
   pub has-count : k .count ≡ some count-field
@@ -115,3 +115,28 @@ pub record Image (fuses : ℕ) (image : List ℕ) : Type 0 where
   pub size : length image ≡ (fuses + 7) / 8
   pub bytes : (i : ℕ) → getD image i 0 < 2 ^ 8
   pub no-more : (fuse : ℕ) → fuses ≤ fuse → state image fuse ≡ 0
+
+-- each L starts at or after the end of the L before it, the first at or after `end`, and ends at or before the count
+abbrev pub InPlace : (fuses end : ℕ) → List Listed → Type 0
+InPlace fuses end [] = Unit {0}
+InPlace fuses end (l ∷ lists) =
+    (end ≤ l .first) × (l .first + length (l .states) ≤ fuses) × InPlace fuses (l .first + length (l .states)) lists
+
+-- something holds of each L
+abbrev pub Each : (Listed → Type 0) → List Listed → Type 0
+Each P [] = Unit {0}
+Each P (l ∷ lists) = P l × Each P lists
+
+-- a fuse is before the first or after the last of an L
+abbrev pub Outside : (fuse : ℕ) → Listed → Type 0
+Outside fuse l = (fuse < l .first) ⊎ (l .first + length (l .states) ≤ fuse)
+
+-- the fuses from the first of an L on have its states, one after the other
+abbrev pub Gives : (stateOf : ℕ → ℕ) → Listed → Type 0
+Gives stateOf l = (i : ℕ) → i < length (l .states) → stateOf (l .first + i) ≡ getD (l .states) i 0
+
+-- the image that fields describe: each L gives its fuses their states, and every other fuse has the start state
+pub record Described (fuses : ℕ) (k : Known) (image : List ℕ) : Type 0 where
+  pub its : Image fuses image
+  pub listed : Each (Gives (state image)) (k .lists)
+  pub others : (fuse : ℕ) → fuse < fuses → Each (Outside fuse) (k .lists) → state image fuse ≡ startState (k .start)

@@ -1,0 +1,220 @@
+-- Every answer of the interface fits its word: the results are below the sizes of a part, and so are the values of the refusals.
+-- Assumes nothing.
+use mathlib.Core.Path.{_≡_, refl}
+use mathlib.Core.Bool.{Bool, true, false, cond, _&&_}
+use mathlib.Core.List.{List}
+use mathlib.Core.Option.{Option}
+use mathlib.Core.Option.Option.{none, some}
+use Prim.Native.Nat.{ℕ, zero, suc, _^_, _≤_, _<_}
+use native.Mathlib.Nat.{lt-of-lt-of-le}
+use native.Mathlib.Omega.{arith}
+use lib.Dec.{eqb, ltb}
+use lib.ListN.{length}
+use lib.Pow.{pow-mono}
+use borrow.Author.Tests.{lt-ltb, ltb-true}
+use Rattle.part.specs.Outcome.{Outcome}
+use Rattle.part.specs.Outcome.Outcome.{accepted, refused}
+use Rattle.part.specs.Device.{known, fuseCount, imageBytes, readoutBytes, textBytes}
+use Rattle.part.specs.Place.{widthOf, fuseOfPlace, placeOfFuse, addressOfByte, byteOfAddress, valid}
+use Rattle.part.specs.Convert.{addressOfFuse, fuseOfAddress}
+use Rattle.part.specs.declared.Device.{Device}
+use Rattle.part.proofs.Facts.{and-iff, by-cases}
+use Rattle.part.proofs.Devices.{by-count, known-count, fuses-small}
+use Rattle.part.proofs.Laws.{at-valid, each-address, width-small}
+use Rattle.image.specs.Image.{sum16, zerosBelow, fuseSum, zeroCount}
+use Rattle.image.proofs.Bits.{gathered-small}
+use Rattle.readout.specs.Readout.{firstStray, toReadout, toImage}
+use Rattle.settings.specs.Settings.{hasSetting}
+use Rattle.settings.specs.Order.{settingOf, countOf}
+use Rattle.settings.specs.Operations.{countOfSettings, settingOfNumber}
+use Rattle.settings.specs.declared.Setting.{Setting}
+use Rattle.settings.proofs.Numbers.{number-below, number-again, count-small}
+use Rattle.setting_places.specs.Places.{bitsOf, fuseOf}
+use Rattle.setting_places.specs.Back.{settingAt}
+use Rattle.setting_places.specs.Operations.{fuseOfBit, settingAtFuse}
+use Rattle.setting_places.proofs.Laws.{sound}
+use Rattle.setting_bits.specs.SettingBits.{inReadout, bytesOf, stateOf, patternAt}
+use Rattle.setting_bits.proofs.Steps.{bytes-between, bits-few, state-small}
+use Rattle.setting_bits.proofs.Edits.{fuse-below}
+use Rattle.jedec.specs.Meaning.{meaning}
+use Rattle.jedec.proofs.Laws.{values-small}
+use Rattle.jedec_writer.specs.Pattern.{toText}
+use Rattle.jedec_reader.specs.Reader.{verdict, toImageFromText}
+use Rattle.edit.specs.Edit.{strayIn, ifClean}
+use Rattle.edit_by_number.specs.ByNumber.{readPattern, setPattern}
+use Rattle.capi.specs.Packed.{addressAndBit, itself, nothing, settingAndBit, through, Fits, FitsOrNone}
+use Rattle.capi.specs.Words.{EachFits}
+
+-- what holds of the answer where a test fails, and of the one where it passes
+chosen : {A : Type 0} (P : A → Type 0) (t : Bool) {a b : A} → P b → (t ≡ true → P a) → P (cond t a b)
+chosen P t {a} {b} wrong right = go t refl
+  where
+    go : (u : Bool) → t ≡ u → P (cond u a b)
+    go true e = right e
+    go false e = wrong
+
+module _ (d : Device) where
+  address-of-fuse : (fuse : ℕ) → Fits addressAndBit (addressOfFuse d fuse)
+  unfolding addressOfFuse
+  address-of-fuse fuse =
+      chosen (Fits addressAndBit) (known d) (omega arith)
+      (λ k.
+      by-cases (Fits addressAndBit) fuse (fuseCount d)
+      (λ l.
+      let place = placeOfFuse d fuse in
+      let at : addressOfFuse d fuse ≡ accepted (addressOfByte (place .byte), place .bit) = rw (k, lt-ltb fuse (fuseCount d) l) in
+      let its = at-valid d fuse (addressOfByte (place .byte)) (place .bit) at in
+      omega (arith, its .1, its .2, width-small (byteOfAddress (addressOfByte (place .byte)))))
+      (λ g. omega arith))
+
+  fuse-of-address : (address bit : ℕ) → Fits itself (fuseOfAddress d address bit)
+  unfolding fuseOfAddress
+  fuse-of-address address bit =
+      chosen (Fits itself) (known d) (omega arith)
+      (λ k.
+      chosen (Fits itself) (valid d address && ltb bit (widthOf (byteOfAddress address))) (omega arith)
+      (λ e.
+      let both = and-iff (valid d address) _ .0 e in
+      let its = each-address d k address bit (both .0) (ltb-true _ _ (both .1)) in
+      let there : fuseOfAddress d address bit ≡ accepted (fuseOfPlace d (record { byte = byteOfAddress address; bit = bit })) = rw (k, e) in
+      let same : fuseOfPlace d (record { byte = byteOfAddress address; bit = bit }) ≡ its .0 = cc (its .2) in
+      omega (arith, its .1, fuses-small d k)))
+
+  fuse-sum : (image : List ℕ) → Fits itself (fuseSum d image)
+  unfolding fuseSum sum16
+  fuse-sum image = chosen (Fits itself) (known d) (omega arith) (λ k. chosen (Fits itself) (eqb (length image) (imageBytes d)) (omega arith) (λ e. omega arith))
+
+  zeros-few : (image : List ℕ) (n : ℕ) → zerosBelow image n ≤ n
+  unfolding zerosBelow
+  zeros-few image zero = omega arith
+  zeros-few image (suc n) = omega (arith, zeros-few image n)
+
+  zero-count : (image : List ℕ) → Fits itself (zeroCount d image)
+  unfolding zeroCount
+  zero-count image =
+      chosen (Fits itself) (known d) (omega arith) (λ k. chosen (Fits itself) (eqb (length image) (imageBytes d)) (omega arith) (λ e. omega (arith, zeros-few image (fuseCount d), fuses-small d k)))
+
+  image-to-readout : (image target : List ℕ) → Fits nothing (toReadout d image target)
+  unfolding toReadout
+  image-to-readout image target =
+      chosen (Fits nothing) (known d) (omega arith)
+      (λ k. chosen (Fits nothing) (eqb (length image) (imageBytes d)) (omega arith) (λ e. chosen (Fits nothing) (eqb (length target) (readoutBytes d)) (omega arith) (λ f. omega arith)))
+
+  readout-to-image : (readout target : List ℕ) → Fits nothing (toImage d readout target)
+  unfolding toImage
+  readout-to-image readout target =
+      chosen (Fits nothing) (known d) (omega arith)
+      (λ k.
+      chosen (Fits nothing) (eqb (length readout) (readoutBytes d)) (omega arith)
+      (λ e.
+      chosen (Fits nothing) (eqb (length target) (imageBytes d)) (omega arith)
+      (λ f.
+      by-cases (Fits nothing) (firstStray d readout) (readoutBytes d) (λ l. omega (arith, bytes-between d inReadout k)) (λ g. omega arith))))
+
+  text-small : known d ≡ true → textBytes d < 2 ^ 56
+  unfolding textBytes fuseCount
+  text-small k =
+      by-count (λ n. textBytes (record { blocks = n; class = d .class }) < 2 ^ 56) (omega arith) (omega arith) (omega arith) (omega arith) (omega arith) (omega arith) (d .blocks) (known-count d k)
+
+  image-to-text : (image : List ℕ) (room : ℕ) → Fits itself (toText d image room)
+  unfolding toText
+  image-to-text image room =
+      chosen (Fits itself) (known d) (omega arith)
+      (λ k. chosen (Fits itself) (eqb (length image) (imageBytes d)) (omega arith) (λ e. by-cases (Fits itself) room (textBytes d) (λ l. text-small k) (λ g. text-small k)))
+
+  of-meaning : (text : List ℕ) (o : Outcome (List ℕ)) → meaning (fuseCount d) text ≡ o → Fits nothing (verdict o)
+  of-meaning text (accepted image) e = omega arith
+  of-meaning text (refused number value) e = omega (arith, values-small (fuseCount d) text number value e .2)
+
+  text-to-image : (text target : List ℕ) → Fits nothing (toImageFromText d text target)
+  unfolding toImageFromText
+  text-to-image text target =
+      chosen (Fits nothing) (known d) (omega arith) (λ k. chosen (Fits nothing) (eqb (length target) (imageBytes d)) (omega arith) (λ e. of-meaning text (meaning (fuseCount d) text) refl))
+
+  setting-count : Fits itself (countOfSettings d)
+  unfolding countOfSettings
+  setting-count = chosen (Fits itself) (known d) (omega arith) (λ k. omega (arith, count-small d k))
+
+  fuse-of-bit : (s : Setting) (bit : ℕ) → FitsOrNone itself (fuseOfBit d s bit)
+  unfolding fuseOfBit
+  fuse-of-bit s bit =
+      chosen (FitsOrNone itself) (known d) (omega arith)
+      (λ k.
+      chosen (FitsOrNone itself) (hasSetting d s) (omega arith)
+      (λ h.
+      by-cases (λ (o : Option ℕ). FitsOrNone itself (accepted o)) bit (bitsOf s)
+      (λ l. omega (arith, fuse-below d k s h bit l, fuses-small d k))
+      (λ g. tt)))
+
+  abbrev ThroughFits : (bit : ℕ) → Outcome Setting → Type 0
+  ThroughFits bit o = FitsOrNone itself (through o (λ s. fuseOfBit d s bit))
+
+  setting-fuse : (setting bit : ℕ) → ThroughFits bit (settingOfNumber d setting)
+  unfolding settingOfNumber
+  setting-fuse setting bit =
+      chosen (ThroughFits bit) (known d) (omega arith)
+      (λ k. by-cases (ThroughFits bit) setting (countOf d) (λ l. fuse-of-bit (settingOf d setting) bit) (λ g. omega arith))
+
+  named : known d ≡ true → (fuse : ℕ) (o : Option (Setting × ℕ)) → settingAt d fuse ≡ o → FitsOrNone (settingAndBit d) (accepted o)
+  named k fuse none e = tt
+  named k fuse (some (s, bit)) e =
+      let both = and-iff (hasSetting d s) (ltb bit (bitsOf s)) .0 (sound d k fuse s bit e .0) in
+      omega (arith, number-below d s (both .0), count-small d k, ltb-true bit (bitsOf s) (both .1), bits-few d s (both .0))
+
+  setting-at-fuse : (fuse : ℕ) → FitsOrNone (settingAndBit d) (settingAtFuse d fuse)
+  unfolding settingAtFuse
+  setting-at-fuse fuse =
+      chosen (FitsOrNone (settingAndBit d)) (known d) (omega arith)
+      (λ k. by-cases (FitsOrNone (settingAndBit d)) fuse (fuseCount d) (λ l. named k fuse (settingAt d fuse) refl) (λ g. omega arith))
+
+  -- by number: refusals 1, 2, 4, and then 6 with an index below the length
+  module _ (form : Bool) (bytes : List ℕ) (setting : ℕ) where
+    pattern-small : setting < countOf d → patternAt d form bytes (settingOf d setting) < 2 ^ 56
+    unfolding patternAt
+    pattern-small l =
+        let s = settingOf d setting in
+        lt-of-lt-of-le (gathered-small (λ b. stateOf d form bytes (fuseOf d s b)) (λ b. state-small d form bytes (fuseOf d s b)) (bitsOf s)) (pow-mono {j = 56} (omega (arith, bits-few d s (number-again d setting l .0))))
+
+    if-clean : {A : Type 0} (result : A → ℕ) (answer : Outcome A) → known d ≡ true → Fits result answer → Fits result (ifClean d form bytes (settingOf d setting) answer)
+    if-clean result answer k fits =
+        by-cases (Fits result) (strayIn d form bytes (settingOf d setting)) (bytesOf d form) (λ l. omega (arith, bytes-between d form k)) (λ g. fits)
+
+    read : Fits itself (readPattern d form bytes setting)
+    unfolding readPattern
+    read =
+        chosen (Fits itself) (known d) (omega arith)
+        (λ k.
+        chosen (Fits itself) (eqb (length bytes) (bytesOf d form)) (omega arith)
+        (λ e.
+        by-cases (Fits itself) setting (countOf d)
+        (λ l. if-clean itself (accepted (patternAt d form bytes (settingOf d setting))) k (pattern-small l))
+        (λ g. omega arith)))
+
+    set : (pattern : ℕ) → Fits nothing (setPattern d form bytes setting pattern)
+    unfolding setPattern
+    set pattern =
+        chosen (Fits nothing) (known d) (omega arith)
+        (λ k.
+        chosen (Fits nothing) (eqb (length bytes) (bytesOf d form)) (omega arith)
+        (λ e.
+        by-cases (Fits nothing) setting (countOf d)
+        (λ l. by-cases (Fits nothing) pattern (2 ^ bitsOf (settingOf d setting)) (λ m. if-clean nothing (accepted tt) k (omega arith)) (λ g. omega arith))
+        (λ g. omega arith)))
+
+pub each-fits : EachFits
+each-fits =
+    record {
+      address-of-fuse = address-of-fuse;
+      fuse-of-address = fuse-of-address;
+      fuse-sum = fuse-sum;
+      zero-count = zero-count;
+      image-to-readout = image-to-readout;
+      readout-to-image = readout-to-image;
+      image-to-text = image-to-text;
+      text-to-image = text-to-image;
+      setting-count = setting-count;
+      setting-fuse = setting-fuse;
+      setting-at-fuse = setting-at-fuse;
+      read = read;
+      set = set;
+    }
