@@ -5,6 +5,7 @@ pub mod RowsOut
 pub mod Widths
 pub mod Passages
 pub mod Targets
+pub mod Fields
 pub mod RowsIn
 pub mod Strays
 pub mod Laws

@@ -1,22 +1,22 @@
 -- The way back: cells joined above what is left over, and whole bytes taken off, are the bytes of the number that all cells join to.
 -- Then the loops over rows and blocks.
-use mathlib.Core.Path.{_≡_, refl, sym, _∙_, ap, subst}
+use mathlib.Core.Path.{_≡_, refl, sym, _∙_, ap, ap₂, subst}
 use mathlib.Core.Bool.{true, false}
 use mathlib.Core.List.{List, [], _++_}
 use Prim.Native.Nat.{ℕ, suc, _+_, _*_, _-_, _/_, _%_, _^_, _≤_, _<_}
 use native.Mathlib.Omega.{arith}
-use native.Mathlib.Nat.{mul-assoc, add-comm, zero-add, div-eq-of-lt, add-mul-div-right, add-mul-mod-self-right, mod-lt}
+use native.Mathlib.Nat.{mul-assoc, add-comm, add-zero, zero-add, div-eq-of-lt, add-mul-div-right, add-mul-mod-self-right, mod-lt}
 use lib.Arith.{digits-lt}
-use lib.ListN.{length, getD, drop, replicate, length-replicate, replicate-append-replicate}
-use lib.Pow.{pow-pos, pow-add, pow-mono, shl-exact, shr-lt, mod-mod-pow}
-use lib.Bits.{bitAnd, and-block, and-mask, and-zero-r}
+use lib.ListN.{length, drop, replicate, length-replicate, replicate-append-replicate}
+use lib.Pow.{pow-pos, pow-add, pow-mono, shl-exact, shr-lt, shr-shr, high, low, mod-pow-add}
 use lib.Seq.{sets, length-sets, drop-drop}
 use mir.Syntax.{w64}
 use mir.Val.{Fits}
-use Rattle.cells.specs.Cells.{cut, join, total, repeat, number}
-use Rattle.cells.proofs.Laws.{word-at, cut-append, cut-low, cut-length, regrouped, join-append, join-small, join-few, total-append, total-replicate, sets-append}
+use Rattle.cells.specs.Cells.{cut, join, total, repeat}
+use Rattle.cells.proofs.Laws.{cut-append, cut-low, cut-sets, cut-length, regrouped, join-append, join-small, join-few, total-append, total-replicate, sets-append}
 use Rattle.part.specs.Device.{known, imageBytes, readoutBytes}
 use Rattle.part.specs.declared.Device.{Device}
+use Rattle.readout.proofs.Fields.{narrow, packed-at}
 use Rattle.readout.proofs.Sizes.{room, pairs-of-block, main-total, main-length, main-whole, device-size, device-whole}
 use Rattle.readout.specs.Widths.{rowWidths, pairWidths, blockWidths, widths, wholeBytes, bytesIn}
 
@@ -49,100 +49,68 @@ pub of-cells : (x cells carry shift byte bytes r : ℕ) (out next : List ℕ) �
 of-cells x cells carry shift byte bytes r out next e f g =
     (f ∙ ap (λ (y : ℕ). (y * 2 ^ shift + carry) / 2 ^ (bytes * 8)) e, g ∙ ap (λ (y : ℕ). sets out byte (cut (replicate bytes 8) (y * 2 ^ shift + carry))) e)
 
-first-bytes : (readout : List ℕ) (at count word x : ℕ) → at + 8 ≤ length readout → count ≤ 6 → word ≡ join (replicate 8 8) (drop at readout)
-    → x ≡ word % 2 ^ (count * 8) → x ≡ join (replicate count 8) (drop at readout)
-first-bytes readout at count word x h hc e f =
-    let n = number readout / 2 ^ (at * 8) in
-    let whole : 64 ≡ 64 - count * 8 + count * 8 = omega arith in
-    let again : n % 2 ^ 64 % 2 ^ (count * 8) ≡ n % 2 ^ (count * 8) = ap (λ (j : ℕ). n % 2 ^ j % 2 ^ (count * 8)) whole ∙ mod-mod-pow n (64 - count * 8) (count * 8) in
-    f ∙ rw (e, word-at readout at 8 h) (again ∙ sym (word-at readout at count (omega arith)))
+-- the same of a whole word and eight bytes: what the shift loses is what is left over
+wrapped : (word x shift : ℕ) → x < 2 ^ shift → shift ≤ 36 → (word * 2 ^ shift + x) % 2 ^ 64 ≡ word % 2 ^ (64 - shift) * 2 ^ shift + x
+wrapped word x shift h hs =
+    let whole : 64 ≡ 64 - shift + shift = omega arith in
+    ap (λ (j : ℕ). (word * 2 ^ shift + x) % 2 ^ j) whole
+    ∙ mod-pow-add (word * 2 ^ shift + x) (64 - shift) shift
+    ∙ ap₂ (λ (y z : ℕ). y % 2 ^ (64 - shift) * 2 ^ shift + z) (high word shift h) (low word shift h)
 
-pub few-bytes : (readout : List ℕ) (at count word x : ℕ) → at + 8 ≤ length readout → count ≤ 6 → word ≡ join (replicate 8 8) (drop at readout)
-    → x ≡ word % 2 ^ (count * 8) → x < 2 ^ 48
-few-bytes readout at count word x h hc e f = few count 8 x (drop at readout) hc (omega arith) (first-bytes readout at count word x h hc e f)
+eight-low : (word carry shift : ℕ) → carry < 2 ^ shift → shift ≤ 36 → word * 2 ^ shift % 2 ^ 64 + carry ≡ (word * 2 ^ shift + carry) % 2 ^ 64
+eight-low word carry shift h hs =
+    ap (λ (y : ℕ). y % 2 ^ 64 + carry) (sym (add-zero (word * 2 ^ shift)))
+    ∙ ap (λ (y : ℕ). y + carry) (wrapped word 0 shift (pow-pos shift) hs ∙ add-zero (word % 2 ^ (64 - shift) * 2 ^ shift))
+    ∙ sym (wrapped word carry shift h hs)
 
-pub of-bytes : (readout : List ℕ) (at count word x carry shift byte bytes r : ℕ) (out next : List ℕ) → at + 8 ≤ length readout → count ≤ 6
-    → word ≡ join (replicate 8 8) (drop at readout) → x ≡ word % 2 ^ (count * 8) → r ≡ (x * 2 ^ shift + carry) / 2 ^ (bytes * 8)
-    → next ≡ sets out byte (cut (replicate bytes 8) (x * 2 ^ shift + carry))
-    → (r ≡ (join (replicate count 8) (drop at readout) * 2 ^ shift + carry) / 2 ^ (bytes * 8))
-    × (next ≡ sets out byte (cut (replicate bytes 8) (join (replicate count 8) (drop at readout) * 2 ^ shift + carry)))
-of-bytes readout at count word x carry shift byte bytes r out next h hc e f =
-    of-cells x (join (replicate count 8) (drop at readout)) carry shift byte bytes r out next (first-bytes readout at count word x h hc e f)
+pub eight-fits : (word carry shift : ℕ) → carry < 2 ^ shift → shift ≤ 36 → Fits w64 (word * 2 ^ shift % 2 ^ 64 + carry)
+eight-fits word carry shift h hs =
+    let small : (word * 2 ^ shift + carry) % 2 ^ 64 < 2 ^ 64 = mod-lt (word * 2 ^ shift + carry) (pow-pos 64) in
+    rw (eight-low word carry shift h hs) (omega arith)
 
--- the two masks of `four_together`, field by field
-and-four : (a b c e p q r s : ℕ) → a < 2 ^ 8 → b < 2 ^ 8 → c < 2 ^ 8 → p < 2 ^ 8 → q < 2 ^ 8 → r < 2 ^ 8
-    → bitAnd (((e * 2 ^ 8 + c) * 2 ^ 8 + b) * 2 ^ 8 + a) (((s * 2 ^ 8 + r) * 2 ^ 8 + q) * 2 ^ 8 + p)
-    ≡ ((bitAnd e s * 2 ^ 8 + bitAnd c r) * 2 ^ 8 + bitAnd b q) * 2 ^ 8 + bitAnd a p
-and-four a b c e p q r s ha hb hc hp hq hr =
-    and-block 8 ((e * 2 ^ 8 + c) * 2 ^ 8 + b) ((s * 2 ^ 8 + r) * 2 ^ 8 + q) a p ha hp
-    ∙ ap (λ (x : ℕ). x * 2 ^ 8 + bitAnd a p)
-    (and-block 8 (e * 2 ^ 8 + c) (s * 2 ^ 8 + r) b q hb hq ∙ ap (λ (x : ℕ). x * 2 ^ 8 + bitAnd b q) (and-block 8 e s c r hc hr))
+pub eight-over : (word carry shift : ℕ) → carry < 2 ^ shift → shift ≤ 36
+    → word / 2 ^ 1 / 2 ^ (63 - shift) ≡ (word * 2 ^ shift + carry) / 2 ^ (8 * 8)
+eight-over word carry shift h hs =
+    let x = word * 2 ^ shift + carry in
+    let less : 1 + (63 - shift) ≡ 64 - shift = omega arith in
+    let whole : shift + (64 - shift) ≡ 64 = omega arith in
+    shr-shr word 1 (63 - shift)
+    ∙ ap (λ (j : ℕ). word / 2 ^ j) less
+    ∙ ap (λ (y : ℕ). y / 2 ^ (64 - shift)) (sym (high word shift h))
+    ∙ shr-shr x shift (64 - shift)
+    ∙ ap (λ (j : ℕ). x / 2 ^ j) whole
 
-flat : (a b c e : ℕ) → ((e * 2 ^ 8 + c) * 2 ^ 8 + b) * 2 ^ 8 + a ≡ a + b * 2 ^ 8 + c * 2 ^ 16 + e * 2 ^ 24
-flat a b c e = omega arith
+pub eight-stored : (word carry shift byte : ℕ) (out next : List ℕ) → carry < 2 ^ shift → shift ≤ 36
+    → next ≡ sets out byte (cut (replicate 8 8) (word * 2 ^ shift % 2 ^ 64 + carry)) → next ≡ sets out byte (cut (replicate 8 8) (word * 2 ^ shift + carry))
+unfolding total
+eight-stored word carry shift byte out next h hs e =
+    e ∙ ap (sets out byte) (ap (cut (replicate 8 8)) (eight-low word carry shift h hs) ∙ cut-low (replicate 8 8) (word * 2 ^ shift + carry) 0)
 
-pub low-fields : (w : ℕ) → w < 2 ^ 32
-    → bitAnd w 0x7F7F7F7F ≡ w % 2 ^ 7 + w / 2 ^ 8 % 2 ^ 7 * 2 ^ 8 + w / 2 ^ 16 % 2 ^ 7 * 2 ^ 16 + w / 2 ^ 24 % 2 ^ 7 * 2 ^ 24
-low-fields w h =
-    let a = w % 2 ^ 8 in
-    let b = w / 2 ^ 8 % 2 ^ 8 in
-    let c = w / 2 ^ 16 % 2 ^ 8 in
-    let e = w / 2 ^ 24 in
-    let parts : w ≡ ((e * 2 ^ 8 + c) * 2 ^ 8 + b) * 2 ^ 8 + a = omega arith in
-    let cut : bitAnd w 0x7F7F7F7F ≡ ((bitAnd e 127 * 2 ^ 8 + bitAnd c 127) * 2 ^ 8 + bitAnd b 127) * 2 ^ 8 + bitAnd a 127 = ap (λ (x : ℕ). bitAnd x 0x7F7F7F7F) parts ∙ and-four a b c e 127 127 127 127 (omega arith) (omega arith) (omega arith) (omega arith) (omega arith) (omega arith) in
-    let fa : bitAnd a 127 ≡ w % 2 ^ 7 = and-mask a 7 ∙ mod-mod-pow w 1 7 in
-    let fb : bitAnd b 127 ≡ w / 2 ^ 8 % 2 ^ 7 = and-mask b 7 ∙ mod-mod-pow (w / 2 ^ 8) 1 7 in
-    let fc : bitAnd c 127 ≡ w / 2 ^ 16 % 2 ^ 7 = and-mask c 7 ∙ mod-mod-pow (w / 2 ^ 16) 1 7 in
-    cut ∙ rw (fa, fb, fc, and-mask e 7) (flat _ _ _ _)
+-- six cells of 6 bits, out of eight bytes
+pub few-six : (cells : List ℕ) (x : ℕ) → x ≡ join (replicate 6 6) cells → x < 2 ^ 48
+few-six cells x e = few 6 6 x cells (omega arith) (omega arith) e
 
-pub odd-fields : (y a b c e : ℕ) → a < 2 ^ 7 → b < 2 ^ 7 → c < 2 ^ 7 → e < 2 ^ 7 → y ≡ a + b * 2 ^ 8 + c * 2 ^ 16 + e * 2 ^ 24
-    → bitAnd y 0x7F007F00 ≡ b * 2 ^ 8 + e * 2 ^ 24
-odd-fields y a b c e ha hb hc he f =
-    let parts : y ≡ ((e * 2 ^ 8 + c) * 2 ^ 8 + b) * 2 ^ 8 + a = omega arith in
-    let cut : bitAnd y 0x7F007F00 ≡ ((bitAnd e 127 * 2 ^ 8 + bitAnd c 0) * 2 ^ 8 + bitAnd b 127) * 2 ^ 8 + bitAnd a 0 = ap (λ (x : ℕ). bitAnd x 0x7F007F00) parts ∙ and-four a b c e 0 127 0 127 (omega arith) (omega arith) (omega arith) (omega arith) (omega arith) (omega arith) in
-    omega (arith, and-mask b 7, and-mask e 7, and-zero-r a, and-zero-r c)
-
--- the fields of four bytes
-abbrev bytes-of : (a b c e : ℕ) → ℕ
-bytes-of a b c e = (((0 * 2 ^ 8 + e) * 2 ^ 8 + c) * 2 ^ 8 + b) * 2 ^ 8 + a
-
-take-a : (a b c e : ℕ) → a < 2 ^ 8 → bytes-of a b c e % 2 ^ 7 ≡ a % 2 ^ 7
-take-a a b c e ha = omega arith
-
-take-b : (a b c e : ℕ) → a < 2 ^ 8 → b < 2 ^ 8 → bytes-of a b c e / 2 ^ 8 % 2 ^ 7 ≡ b % 2 ^ 7
-take-b a b c e ha hb = omega arith
-
-take-c : (a b c e : ℕ) → a < 2 ^ 8 → b < 2 ^ 8 → c < 2 ^ 8 → bytes-of a b c e / 2 ^ 16 % 2 ^ 7 ≡ c % 2 ^ 7
-take-c a b c e ha hb hc = omega arith
-
-take-e : (a b c e : ℕ) → a < 2 ^ 8 → b < 2 ^ 8 → c < 2 ^ 8 → bytes-of a b c e / 2 ^ 24 % 2 ^ 7 ≡ e % 2 ^ 7
-take-e a b c e ha hb hc = omega arith
-
-seven : (a b c e : ℕ) → a + b * 2 ^ 7 + c * 2 ^ 14 + e * 2 ^ 21 ≡ (((0 * 2 ^ 7 + e) * 2 ^ 7 + c) * 2 ^ 7 + b) * 2 ^ 7 + a
-seven a b c e = omega arith
-
--- four bytes taken as one word, and put together, are four cells of 7 bits
-four-cells : (cells : List ℕ) (word : ℕ) → word ≡ join (replicate 4 8) cells
-    → word % 2 ^ 7 + word / 2 ^ 8 % 2 ^ 7 * 2 ^ 7 + word / 2 ^ 16 % 2 ^ 7 * 2 ^ 14 + word / 2 ^ 24 % 2 ^ 7 * 2 ^ 21 ≡ join (replicate 4 7) cells
-unfolding join
-four-cells cells word e =
-    let x = getD cells 0 0 in
-    let y = getD (drop 1 cells) 0 0 in
-    let z = getD (drop 1 (drop 1 cells)) 0 0 in
-    let v = getD (drop 1 (drop 1 (drop 1 cells))) 0 0 in
-    rw (e, take-a (x % 2 ^ 8) (y % 2 ^ 8) (z % 2 ^ 8) (v % 2 ^ 8) (mod-lt x (pow-pos 8)), take-b (x % 2 ^ 8) (y % 2 ^ 8) (z % 2 ^ 8) (v % 2 ^ 8) (mod-lt x (pow-pos 8)) (mod-lt y (pow-pos 8)), take-c (x % 2 ^ 8) (y % 2 ^ 8) (z % 2 ^ 8) (v % 2 ^ 8) (mod-lt x (pow-pos 8)) (mod-lt y (pow-pos 8)) (mod-lt z (pow-pos 8)), take-e (x % 2 ^ 8) (y % 2 ^ 8) (z % 2 ^ 8) (v % 2 ^ 8) (mod-lt x (pow-pos 8)) (mod-lt y (pow-pos 8)) (mod-lt z (pow-pos 8)), mod-mod-pow x 1 7, mod-mod-pow y 1 7, mod-mod-pow z 1 7, mod-mod-pow v 1 7)
-    (seven (x % 2 ^ 7) (y % 2 ^ 7) (z % 2 ^ 7) (v % 2 ^ 7))
-
-pub few-four : (cells : List ℕ) (word : ℕ) → word ≡ join (replicate 4 8) cells → word < 2 ^ 32
-few-four cells word e = rw e (join-few 4 8 4 cells (omega arith) (omega arith))
-
-pub of-four : (cells : List ℕ) (word x carry shift byte bytes r : ℕ) (out next : List ℕ) → word ≡ join (replicate 4 8) cells
-    → x ≡ word % 2 ^ 7 + word / 2 ^ 8 % 2 ^ 7 * 2 ^ 7 + word / 2 ^ 16 % 2 ^ 7 * 2 ^ 14 + word / 2 ^ 24 % 2 ^ 7 * 2 ^ 21
+pub of-six : (readout : List ℕ) (at skip word x carry shift byte bytes r : ℕ) (out next : List ℕ) → skip ≤ 2 → skip ≤ at → at + (8 - skip) ≤ length readout
+    → word ≡ join (replicate 8 8) (drop (at - skip) readout) → x ≡ join (replicate 6 6) (cut (replicate 6 8) (word / 2 ^ (skip * 8)))
     → r ≡ (x * 2 ^ shift + carry) / 2 ^ (bytes * 8) → next ≡ sets out byte (cut (replicate bytes 8) (x * 2 ^ shift + carry))
-    → (r ≡ (join (replicate 4 7) cells * 2 ^ shift + carry) / 2 ^ (bytes * 8))
-    × (next ≡ sets out byte (cut (replicate bytes 8) (join (replicate 4 7) cells * 2 ^ shift + carry)))
-of-four cells word x carry shift byte bytes r out next e f =
-    of-cells x (join (replicate 4 7) cells) carry shift byte bytes r out next (f ∙ four-cells cells word e)
+    → (r ≡ (join (replicate 6 6) (drop at readout) * 2 ^ shift + carry) / 2 ^ (bytes * 8))
+    × (next ≡ sets out byte (cut (replicate bytes 8) (join (replicate 6 6) (drop at readout) * 2 ^ shift + carry)))
+unfolding narrow
+of-six readout at skip word x carry shift byte bytes r out next h1 h2 h3 e f =
+    of-cells x (join (replicate 6 6) (drop at readout)) carry shift byte bytes r out next
+    (f ∙ packed-at (replicate 6 6) readout (at - skip) at skip 8 word refl (omega arith) (omega arith) (omega arith) e)
+
+-- a wire-AND row, out of eight bytes
+pub of-row : (readout : List ℕ) (at skip word x : ℕ) → skip ≤ 3 → skip ≤ at → at + (8 - skip) ≤ length readout
+    → word ≡ join (replicate 8 8) (drop (at - skip) readout) → x ≡ join (rowWidths false) (cut (replicate 5 8) (word / 2 ^ (skip * 8)))
+    → x ≡ join (rowWidths false) (drop at readout)
+unfolding narrow rowWidths
+of-row readout at skip word x h1 h2 h3 e f =
+    f ∙ packed-at (rowWidths false) readout (at - skip) at skip 8 word refl (omega arith) (omega arith) (omega arith) e
+
+pub small-row : (cells : List ℕ) (x : ℕ) → x ≡ join (rowWidths false) cells → x < 2 ^ 36
+unfolding rowWidths total
+small-row cells x e = rw e (join-small (rowWidths false) cells)
 
 -- One step: of the cells `cs` and then `ws`, joined above a carry of s bits, k bytes are stored and s' bits are left over; what
 -- remains to be stored, stored now, gives what all gives.
@@ -174,47 +142,45 @@ left-over cs cells carry over s s' k h t e =
 
 -- two rows of the main area
 pub main-rows : (readout o0 o1 o2 o3 o4 o5 o6 : List ℕ) (at byte c1 c2 c3 c4 c5 : ℕ)
-    → c1 ≡ (join (replicate 4 8) (drop at readout) * 2 ^ 0 + 0) / 2 ^ (4 * 8)
-    → o1 ≡ sets o0 byte (cut (replicate 4 8) (join (replicate 4 8) (drop at readout) * 2 ^ 0 + 0))
-    → c2 ≡ (join (replicate 5 8) (drop (at + 4) readout) * 2 ^ 0 + c1) / 2 ^ (5 * 8)
-    → o2 ≡ sets o1 (byte + 4) (cut (replicate 5 8) (join (replicate 5 8) (drop (at + 4) readout) * 2 ^ 0 + c1))
+    → c1 ≡ (join (replicate 8 8) (drop at readout) * 2 ^ 0 + 0) / 2 ^ (8 * 8)
+    → o1 ≡ sets o0 byte (cut (replicate 8 8) (join (replicate 8 8) (drop at readout) * 2 ^ 0 + 0))
+    → c2 ≡ (join (replicate 1 8) (drop (at + 8) readout) * 2 ^ 0 + c1) / 2 ^ (1 * 8)
+    → o2 ≡ sets o1 (byte + 8) (cut (replicate 1 8) (join (replicate 1 8) (drop (at + 8) readout) * 2 ^ 0 + c1))
     → c3 ≡ (join (replicate 6 6) (drop (at + 9) readout) * 2 ^ 0 + c2) / 2 ^ (4 * 8)
     → o3 ≡ sets o2 (byte + 9) (cut (replicate 4 8) (join (replicate 6 6) (drop (at + 9) readout) * 2 ^ 0 + c2))
-    → c4 ≡ (join (replicate 4 8) (drop (at + 15) readout) * 2 ^ 4 + c3) / 2 ^ (4 * 8)
-    → o4 ≡ sets o3 (byte + 13) (cut (replicate 4 8) (join (replicate 4 8) (drop (at + 15) readout) * 2 ^ 4 + c3))
-    → c5 ≡ (join (replicate 5 8) (drop (at + 19) readout) * 2 ^ 4 + c4) / 2 ^ (5 * 8)
-    → o5 ≡ sets o4 (byte + 17) (cut (replicate 5 8) (join (replicate 5 8) (drop (at + 19) readout) * 2 ^ 4 + c4))
+    → c4 ≡ (join (replicate 8 8) (drop (at + 15) readout) * 2 ^ 4 + c3) / 2 ^ (8 * 8)
+    → o4 ≡ sets o3 (byte + 13) (cut (replicate 8 8) (join (replicate 8 8) (drop (at + 15) readout) * 2 ^ 4 + c3))
+    → c5 ≡ (join (replicate 1 8) (drop (at + 23) readout) * 2 ^ 4 + c4) / 2 ^ (1 * 8)
+    → o5 ≡ sets o4 (byte + 21) (cut (replicate 1 8) (join (replicate 1 8) (drop (at + 23) readout) * 2 ^ 4 + c4))
     → o6 ≡ sets o5 (byte + 22) (cut (replicate 5 8) (join (replicate 6 6) (drop (at + 24) readout) * 2 ^ 4 + c5))
     → o6 ≡ sets o0 byte (bytesIn (pairWidths true) (drop at readout))
 unfolding rowWidths pairWidths wholeBytes bytesIn total cut
 main-rows readout o0 o1 o2 o3 o4 o5 o6 at byte c1 c2 c3 c4 c5 d1 e1 d2 e2 d3 e3 d4 e4 d5 e5 e6 =
     let all : join (rowWidths true ++ rowWidths true) (drop at readout) * 2 ^ 0 + 0 ≡ join (rowWidths true ++ rowWidths true) (drop at readout) = omega arith in
     chunk (replicate 6 6) [] readout o5 o6 (at + 24) (at + 30) c5 _ 4 0 (byte + 22) (byte + 27) 5 0 refl (omega arith) (omega arith) refl e6
-    ∙ chunk (replicate 5 8) (replicate 6 6 ++ []) readout o4 o5 (at + 19) (at + 24) c4 c5 4 4 (byte + 17) (byte + 22) 5 5 refl (omega arith) (omega arith) d5 e5
-    ∙ chunk (replicate 4 8) (replicate 5 8 ++ (replicate 6 6 ++ [])) readout o3 o4 (at + 15) (at + 19) c3 c4 4 4 (byte + 13) (byte + 17) 4 10 refl (omega arith) (omega arith) d4 e4
-    ∙ chunk (replicate 6 6) (replicate 4 8 ++ (replicate 5 8 ++ (replicate 6 6 ++ []))) readout o2 o3 (at + 9) (at + 15) c2 c3 0 4 (byte + 9) (byte + 13) 4 14 refl (omega arith) (omega arith) d3 e3
-    ∙ chunk (replicate 5 8) (replicate 6 6 ++ (replicate 4 8 ++ (replicate 5 8 ++ (replicate 6 6 ++ [])))) readout o1 o2 (at + 4) (at + 9) c1 c2 0 0 (byte + 4) (byte + 9) 5 18 refl (omega arith) (omega arith) d2 e2
-    ∙ chunk (replicate 4 8) (replicate 5 8 ++ (replicate 6 6 ++ (replicate 4 8 ++ (replicate 5 8 ++ (replicate 6 6 ++ []))))) readout o0 o1 at (at + 4) 0 c1 0 0 byte (byte + 4) 4 23 refl (omega arith) (omega arith) d1 e1
+    ∙ chunk (replicate 1 8) (replicate 6 6 ++ []) readout o4 o5 (at + 23) (at + 24) c4 c5 4 4 (byte + 21) (byte + 22) 1 5 refl (omega arith) (omega arith) d5 e5
+    ∙ chunk (replicate 8 8) (replicate 1 8 ++ (replicate 6 6 ++ [])) readout o3 o4 (at + 15) (at + 23) c3 c4 4 4 (byte + 13) (byte + 21) 8 6 refl (omega arith) (omega arith) d4 e4
+    ∙ chunk (replicate 6 6) (replicate 8 8 ++ (replicate 1 8 ++ (replicate 6 6 ++ []))) readout o2 o3 (at + 9) (at + 15) c2 c3 0 4 (byte + 9) (byte + 13) 4 14 refl (omega arith) (omega arith) d3 e3
+    ∙ chunk (replicate 1 8) (replicate 6 6 ++ (replicate 8 8 ++ (replicate 1 8 ++ (replicate 6 6 ++ [])))) readout o1 o2 (at + 8) (at + 9) c1 c2 0 0 (byte + 8) (byte + 9) 1 18 refl (omega arith) (omega arith) d2 e2
+    ∙ chunk (replicate 8 8) (replicate 1 8 ++ (replicate 6 6 ++ (replicate 8 8 ++ (replicate 1 8 ++ (replicate 6 6 ++ []))))) readout o0 o1 at (at + 8) 0 c1 0 0 byte (byte + 8) 8 19 refl (omega arith) (omega arith) d1 e1
     ∙ ap (λ (x : ℕ). sets o0 byte (cut (replicate 27 8) x)) all
 
 -- two rows of the wire-AND area
-pub wire-and-rows : (readout o0 o1 o2 o3 o4 : List ℕ) (at byte c1 c2 c3 : ℕ)
-    → c1 ≡ (join (replicate 1 8) (drop at readout) * 2 ^ 0 + 0) / 2 ^ (1 * 8)
-    → o1 ≡ sets o0 byte (cut (replicate 1 8) (join (replicate 1 8) (drop at readout) * 2 ^ 0 + 0))
-    → c2 ≡ (join (replicate 4 7) (drop (at + 1) readout) * 2 ^ 0 + c1) / 2 ^ (3 * 8)
-    → o2 ≡ sets o1 (byte + 1) (cut (replicate 3 8) (join (replicate 4 7) (drop (at + 1) readout) * 2 ^ 0 + c1))
-    → c3 ≡ (join (replicate 1 8) (drop (at + 5) readout) * 2 ^ 4 + c2) / 2 ^ (1 * 8)
-    → o3 ≡ sets o2 (byte + 4) (cut (replicate 1 8) (join (replicate 1 8) (drop (at + 5) readout) * 2 ^ 4 + c2))
-    → o4 ≡ sets o3 (byte + 5) (cut (replicate 4 8) (join (replicate 4 7) (drop (at + 6) readout) * 2 ^ 4 + c3))
-    → o4 ≡ sets o0 byte (bytesIn (pairWidths false) (drop at readout))
-unfolding rowWidths pairWidths wholeBytes bytesIn total cut
-wire-and-rows readout o0 o1 o2 o3 o4 at byte c1 c2 c3 d1 e1 d2 e2 d3 e3 e4 =
-    let all : join (rowWidths false ++ rowWidths false) (drop at readout) * 2 ^ 0 + 0 ≡ join (rowWidths false ++ rowWidths false) (drop at readout) = omega arith in
-    chunk (replicate 4 7) [] readout o3 o4 (at + 6) (at + 10) c3 _ 4 0 (byte + 5) (byte + 9) 4 0 refl (omega arith) (omega arith) refl e4
-    ∙ chunk (replicate 1 8) (replicate 4 7 ++ []) readout o2 o3 (at + 5) (at + 6) c2 c3 4 4 (byte + 4) (byte + 5) 1 4 refl (omega arith) (omega arith) d3 e3
-    ∙ chunk (replicate 4 7) (replicate 1 8 ++ (replicate 4 7 ++ [])) readout o1 o2 (at + 1) (at + 5) c1 c2 0 4 (byte + 1) (byte + 4) 3 5 refl (omega arith) (omega arith) d2 e2
-    ∙ chunk (replicate 1 8) (replicate 4 7 ++ (replicate 1 8 ++ (replicate 4 7 ++ []))) readout o0 o1 at (at + 1) 0 c1 0 0 byte (byte + 1) 1 8 refl (omega arith) (omega arith) d1 e1
-    ∙ ap (λ (x : ℕ). sets o0 byte (cut (replicate 9 8) x)) all
+pub wire-and-rows : (readout o0 o1 o2 : List ℕ) (at byte one two top : ℕ)
+    → one ≡ join (rowWidths false) (drop at readout) → two ≡ join (rowWidths false) (drop (at + 5) readout)
+    → top ≡ (two * 2 ^ 36 + one) / 2 ^ (8 * 8) → o1 ≡ sets o0 byte (cut (replicate 8 8) (two * 2 ^ 36 + one))
+    → o2 ≡ sets o1 (byte + 8) (cut (replicate 1 8) top)
+    → o2 ≡ sets o0 byte (bytesIn (pairWidths false) (drop at readout))
+unfolding rowWidths pairWidths wholeBytes bytesIn total
+wire-and-rows readout o0 o1 o2 at byte one two top e1 e2 e3 e4 e5 =
+    let ws = rowWidths false in
+    let cells = drop at readout in
+    let x = two * 2 ^ 36 + one in
+    let all : join (ws ++ ws) cells ≡ x = join-append ws ws cells ∙ ap (λ (l : List ℕ). join ws cells + join ws l * 2 ^ 36) (drop-drop 5 at readout) ∙ ap₂ (λ (y z : ℕ). y + z * 2 ^ 36) (sym e1) (sym e2) ∙ add-comm one (two * 2 ^ 36) in
+    e5
+    ∙ ap₂ (λ (l : List ℕ) (y : ℕ). sets l (byte + 8) (cut (replicate 1 8) y)) e4 e3
+    ∙ cut-sets o0 (replicate 8 8) (replicate 1 8) byte x 8 64 refl refl
+    ∙ ap (λ (y : ℕ). sets o0 byte (cut (replicate 9 8) y)) (sym all)
 
 -- cells in two parts, of which the first is whole bytes: their image bytes, stored part by part
 pub parts-in : (ws vs readout out next : List ℕ) (at at' byte byte' : ℕ) → total ws ≡ wholeBytes ws * 8 → at' ≡ at + length ws → byte' ≡ byte + wholeBytes ws

@@ -2,7 +2,7 @@
 // Nothing here is part of the public interface.
 ghost use mathlib.Core.Path.{_≡_};
 ghost use mathlib.Core.Bool.{true, false};
-ghost use Prim.Native.Nat.{_+_, _*_, _/_, _%_, _^_, _<_, _≤_};
+ghost use Prim.Native.Nat.{_+_, _*_, _-_, _/_, _^_, _<_, _≤_};
 ghost use lib.ListN.{length, drop, replicate};
 ghost use lib.Seq.{sets};
 ghost use Rattle.cells.specs.Cells.{cut, join, repeat, number};
@@ -11,7 +11,6 @@ ghost use Rattle.readout.specs.Widths.{rowWidths, pairWidths, blockWidth
 use cells::internal::joined;
 use cells::internal::low_bits;
 use cells::internal::put_cells;
-use cells::internal::word4;
 use cells::internal::word8;
 use part::Device;
 
@@ -179,60 +178,73 @@ fn push(
     )
 }
 
-// The same of cells of 8 bits, where eight bytes can be read: of these, `count` are taken.
-fn push_bytes(
+// What `put_above` says, of a whole word and eight bytes: of the word, what is left over is the top.
+fn put_eight(word: u64, carry: u64, shift: u32, image: &mut [u8], byte: usize) -> u64
+    requires { ⌜ (carry < 2 ^ shift) × (shift ≤ 36) × (byte + 8 ≤ length (now image)) ⌝ }
+    ensures { λ r. ⌜ r ≡ (word * 2 ^ shift + carry) / 2 ^ (8 * 8) ⌝ }
+    ensures { λ _. ⌜ now (image .exit) ≡ sets (now (image .entry)) byte (cut (replicate 8 8) (word * 2 ^ shift + carry)) ⌝ }
+{
+    put_cells((word << shift) + carry, 8, 8, image, byte);
+    (word >> 1) >> (63 - shift)
+}
+
+// What `push` says, of eight cells of 8 bits.
+fn push_eight(
     readout: &[u8],
     at: usize,
-    count: usize,
     carry: u64,
     shift: u32,
     image: &mut [u8],
     byte: usize,
-    bytes: usize,
 ) -> u64
-    requires { ⌜ (at + 8 ≤ length (now readout)) × (count ≤ 6) × (carry < 2 ^ shift) × (shift ≤ 4) × (byte + bytes ≤ length (now image)) × (bytes ≤ 7) ⌝ }
-    ensures { λ r. ⌜ r ≡ (join (replicate count 8) (drop at (now (readout .entry))) * 2 ^ shift + carry) / 2 ^ (bytes * 8) ⌝ }
-    ensures { λ _. ⌜ now (image .exit) ≡ sets (now (image .entry)) byte (cut (replicate bytes 8) (join (replicate count 8) (drop at (now (readout .entry))) * 2 ^ shift + carry)) ⌝ }
+    requires { ⌜ (at + 8 ≤ length (now readout)) × (carry < 2 ^ shift) × (shift ≤ 4) × (byte + 8 ≤ length (now image)) ⌝ }
+    ensures { λ r. ⌜ r ≡ (join (replicate 8 8) (drop at (now (readout .entry))) * 2 ^ shift + carry) / 2 ^ (8 * 8) ⌝ }
+    ensures { λ _. ⌜ now (image .exit) ≡ sets (now (image .entry)) byte (cut (replicate 8 8) (join (replicate 8 8) (drop at (now (readout .entry))) * 2 ^ shift + carry)) ⌝ }
 {
-    let bits = count as u32 * 8;
-    put_above(
-        low_bits(word8(readout, at), bits),
-        carry,
-        shift,
-        image,
-        byte,
-        bytes,
-    )
+    put_eight(word8(readout, at), carry, shift, image, byte)
 }
 
-// Four cells of 7 bits, each in a byte of a word, put together: first each with the one above it, then two and two.
-fn four_together(word: u64) -> u64
-    requires { ⌜ word < 2 ^ 32 ⌝ }
-    ensures { λ r. ⌜ r ≡ word % 2 ^ 7 + word / 2 ^ 8 % 2 ^ 7 * 2 ^ 7 + word / 2 ^ 16 % 2 ^ 7 * 2 ^ 14 + word / 2 ^ 24 % 2 ^ 7 * 2 ^ 21 ⌝ }
+// Six cells of 6 bits, each in a byte of a word, put together: first each with the one above it, then two and two. At the end
+// what is below is moved up and all down again: so it stays one word for the compiler, and is stored as one.
+fn six_together(word: u64) -> u64
+    ensures { λ r. ⌜ r ≡ join (replicate 6 6) (cut (replicate 6 8) word) ⌝ }
 {
-    let low = word & 0x7F7F_7F7F;
-    let odd = low & 0x7F00_7F00;
+    let low = word & 0x3F3F_3F3F_3F3F;
+    let odd = word & 0x3F00_3F00_3F00;
+    let pairs = low - (odd >> 2) * 3;
+    let two = pairs + pairs % 0x0001_0000 * 15;
+    let all = two + two % 0x0001_0000_0000 * 15;
+    all >> 8
+}
+
+// The same of a wire-AND row, a cell of 8 bits and four of 7.
+fn five_together(word: u64) -> u64
+    ensures { λ r. ⌜ r ≡ join (rowWidths false) (cut (replicate 5 8) word) ⌝ }
+{
+    let low = word & 0x007F_7F7F_7FFF;
+    let odd = word & 0x007F_007F_0000;
     let pairs = low - (odd >> 1);
-    let high = (pairs >> 16) << 14;
-    pairs - high * 3
+    let all = pairs + pairs % 0x0100_0000 * 3;
+    all >> 2
 }
 
-// What `push` says, of four cells of 7 bits.
-fn push_four(
+// What `push` says, of six cells of 6 bits: they are taken from eight bytes, which may begin before them.
+fn push_six(
     readout: &[u8],
     at: usize,
+    skip: usize,
     carry: u64,
     shift: u32,
     image: &mut [u8],
     byte: usize,
     bytes: usize,
 ) -> u64
-    requires { ⌜ (at + 4 ≤ length (now readout)) × (carry < 2 ^ shift) × (shift ≤ 4) × (byte + bytes ≤ length (now image)) × (bytes ≤ 7) ⌝ }
-    ensures { λ r. ⌜ r ≡ (join (replicate 4 7) (drop at (now (readout .entry))) * 2 ^ shift + carry) / 2 ^ (bytes * 8) ⌝ }
-    ensures { λ _. ⌜ now (image .exit) ≡ sets (now (image .entry)) byte (cut (replicate bytes 8) (join (replicate 4 7) (drop at (now (readout .entry))) * 2 ^ shift + carry)) ⌝ }
+    requires { ⌜ (skip ≤ 2) × (skip ≤ at) × (at + (8 - skip) ≤ length (now readout)) × (carry < 2 ^ shift) × (shift ≤ 4) × (byte + bytes ≤ length (now image)) × (bytes ≤ 7) ⌝ }
+    ensures { λ r. ⌜ r ≡ (join (replicate 6 6) (drop at (now (readout .entry))) * 2 ^ shift + carry) / 2 ^ (bytes * 8) ⌝ }
+    ensures { λ _. ⌜ now (image .exit) ≡ sets (now (image .entry)) byte (cut (replicate bytes 8) (join (replicate 6 6) (drop at (now (readout .entry))) * 2 ^ shift + carry)) ⌝ }
 {
     put_above(
-        four_together(word4(readout, at)),
+        six_together(word8(readout, at - skip) >> (skip * 8)),
         carry,
         shift,
         image,
@@ -246,12 +258,20 @@ fn main_rows_in(readout: &[u8], at: usize, image: &mut [u8], byte: usize)
     requires { ⌜ (at + 30 ≤ length (now readout)) × (byte + 27 ≤ length (now image)) ⌝ }
     ensures { λ _. ⌜ now (image .exit) ≡ sets (now (image .entry)) byte (bytesIn (pairWidths true) (drop at (now (readout .entry)))) ⌝ }
 {
-    let one = push_bytes(readout, at, 4, 0, 0, image, byte, 4);
-    let two = push_bytes(readout, at + 4, 5, one, 0, image, byte + 4, 5);
-    let three = push(readout, at + 9, 6, 6, two, 0, image, byte + 9, 4);
-    let four = push_bytes(readout, at + 15, 4, three, 4, image, byte + 13, 4);
-    let five = push_bytes(readout, at + 19, 5, four, 4, image, byte + 17, 5);
-    push(readout, at + 24, 6, 6, five, 4, image, byte + 22, 5);
+    let one = push_eight(readout, at, 0, 0, image, byte);
+    let two = push(readout, at + 8, 8, 1, one, 0, image, byte + 8, 1);
+    let three = push_six(readout, at + 9, 0, two, 0, image, byte + 9, 4);
+    let four = push_eight(readout, at + 15, three, 4, image, byte + 13);
+    let five = push(readout, at + 23, 8, 1, four, 4, image, byte + 21, 1);
+    push_six(readout, at + 24, 2, five, 4, image, byte + 22, 5);
+}
+
+// What the cells of a wire-AND row join to. They are taken from eight bytes, of which `skip` are before them.
+fn wire_and_row(readout: &[u8], at: usize, skip: usize) -> u64
+    requires { ⌜ (skip ≤ 3) × (skip ≤ at) × (at + (8 - skip) ≤ length (now readout)) ⌝ }
+    ensures { λ r. ⌜ r ≡ join (rowWidths false) (drop at (now (readout .entry))) ⌝ }
+{
+    five_together(word8(readout, at - skip) >> (skip * 8))
 }
 
 // The 9 image bytes of two wire-AND rows of a readout.
@@ -259,10 +279,10 @@ fn wire_and_rows_in(readout: &[u8], at: usize, image: &mut [u8], byte: usize)
     requires { ⌜ (at + 10 ≤ length (now readout)) × (byte + 9 ≤ length (now image)) ⌝ }
     ensures { λ _. ⌜ now (image .exit) ≡ sets (now (image .entry)) byte (bytesIn (pairWidths false) (drop at (now (readout .entry)))) ⌝ }
 {
-    let one = push(readout, at, 8, 1, 0, 0, image, byte, 1);
-    let two = push_four(readout, at + 1, one, 0, image, byte + 1, 3);
-    let three = push(readout, at + 5, 8, 1, two, 4, image, byte + 4, 1);
-    push_four(readout, at + 6, three, 4, image, byte + 5, 4);
+    let one = wire_and_row(readout, at, 0);
+    let two = wire_and_row(readout, at + 5, 3);
+    let top = put_eight(two, one, 36, image, byte);
+    put_cells(top, 8, 1, image, byte + 8);
 }
 
 fn pair_in(main: bool, readout: &[u8], at: usize, image: &mut [u8], byte: usize)
