@@ -1,5 +1,7 @@
 -- What holds of texts, each law once, for every fuse count and every line pattern:
---   accepted-texts, refused-texts, written-text, too-long, no-start          texts of document 01's bench section and of points that it leaves room for (specs/Cases.antt) mean what stands there
+--   accepted-texts, refused-texts   texts of document 01's bench section and of points that it leaves room for (specs/Cases.antt) mean what stands there
+--   written-text        what is written of eight fuses, byte by byte
+--   too-long, no-start  a text of more than 1,048,576 bytes, and one that does not start with STX, are refused 7
 --   accepted-iff        a text is accepted with an image exactly if it is of the form, its C field gives the fuse sum of that image, and its
 --                       transmission sum is 0000 or the sum of its bytes from STX to ETX (`Accepted` in specs/Form.antt)
 --   in-place-iff        no L is refused exactly if each starts at or after the end of the L before it and ends at or before the count

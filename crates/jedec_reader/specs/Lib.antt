@@ -1,4 +1,4 @@
--- The definitions that the contracts of `jedec_reader` cite: text to image, and what the reader knows on the way.
+-- The definitions that the contracts of `jedec_reader` cite: Reader has those to believe, Progress what the proofs work with.
 -- Assumes nothing.
 pub mod Reader
 pub mod Progress

@@ -1,4 +1,4 @@
--- The definitions that the contracts of `values` cite: what each pattern stands for, and the pattern of each value.
--- Assumes nothing.
+-- The definitions that the contracts of `values` cite: Values has those to believe, what each pattern stands for;
+-- Patterns, the pattern of each value, is determined by the laws `pattern-iff` and `no-pattern-iff`.
 pub mod Values
 pub mod Patterns
