@@ -3,7 +3,7 @@
 use mathlib.Core.Path.{_≡_, refl, sym, _∙_, ap, ap₂}
 use mathlib.Core.Bool.{Bool, true, _&&_, and-eq-true-iff}
 use mathlib.Core.List.{List, [], _∷_}
-use Prim.Native.Nat.{ℕ, suc, _+_, _*_, _-_, _/_, _%_, _^_, _≤_, _<_}
+use Prim.Native.Nat.{ℕ, zero, suc, _+_, _*_, _-_, _/_, _%_, _^_, _≤_, _<_}
 use native.Mathlib.Omega.{arith}
 use native.Mathlib.Nat.{mod-lt, lt-of-lt-of-le, div-one}
 use lib.Dec.{ltb}
@@ -27,6 +27,11 @@ mask (w ∷ ws) = mask ws * 2 ^ 8 + (2 ^ w - 1)
 unfoldable pub packed : List ℕ → ℕ → ℕ
 packed [] x = 0
 packed (w ∷ ws) x = packed ws (x / 2 ^ 8) * 2 ^ w + x % 2 ^ w
+
+-- a word without its lowest bytes
+abbrev pub past : ℕ → ℕ → ℕ
+past x zero = x
+past x (suc k) = past x k / 2 ^ 8
 
 -- no field is wider than a byte
 unfoldable pub narrow : List ℕ → Bool

@@ -3,13 +3,13 @@
 use mathlib.Core.Path.{_≡_, refl, _∙_}
 use mathlib.Core.Bool.{false}
 use mathlib.Core.List.{[], _∷_}
-use Prim.Native.Nat.{ℕ, zero, suc, _+_, _*_, _-_, _/_, _%_, _^_, _≤_, _<_}
+use Prim.Native.Nat.{ℕ, _+_, _*_, _-_, _/_, _%_, _^_, _≤_, _<_}
 use native.Mathlib.Omega.{arith}
 use native.Mathlib.Nat.{mod-lt, mod-one}
 use lib.Bits.{bitAnd, and-le-r}
 use lib.Pow.{pow-pos}
 use Rattle.readout.specs.Widths.{rowWidths}
-use Rattle.readout.proofs.Fields.{fields, mask, packed, narrow, masked, packed-cells}
+use Rattle.readout.proofs.Fields.{fields, mask, packed, past, narrow, masked, packed-cells}
 use borrow.Author.Needs.{needs}
 use Rattle.readout.proofs.internal.five_together.Statement.{statement}
 use Rattle.readout.proofs.internal.five_together.Tie as tie
@@ -36,17 +36,13 @@ flat a b c d e = omega arith
 small : (a b c : ℕ) → a < 2 ^ 8 → b < 2 ^ 7 → c < 2 ^ 7 → a + b * 2 ^ 8 + c * 2 ^ 15 < 2 ^ 22
 small a b c ha hb hc = omega arith
 
-abbrev at : ℕ → ℕ → ℕ
-at w zero = w
-at w (suc k) = at w k / 2 ^ 8
-
 of-word : (w : ℕ)
     → (bitAnd w 0x7F007F0000 / 2 ^ 1 ≤ bitAnd w 0x7F7F7F7FFF)
-    × (bitAnd w 0x7F7F7F7FFF - bitAnd w 0x7F007F0000 / 2 ^ 1 ≡ at w 0 % 2 ^ 8 + at w 1 % 2 ^ 7 * 2 ^ 8 + at w 2 % 2 ^ 7 * 2 ^ 15 + (at w 3 % 2 ^ 7 + at w 4 % 2 ^ 7 * 2 ^ 7) * 2 ^ 24)
+    × (bitAnd w 0x7F7F7F7FFF - bitAnd w 0x7F007F0000 / 2 ^ 1 ≡ past w 0 % 2 ^ 8 + past w 1 % 2 ^ 7 * 2 ^ 8 + past w 2 % 2 ^ 7 * 2 ^ 15 + (past w 3 % 2 ^ 7 + past w 4 % 2 ^ 7 * 2 ^ 7) * 2 ^ 24)
 unfolding fields mask narrow rowWidths
 of-word w =
-    paired (bitAnd w 0x7F7F7F7FFF) (bitAnd w 0x7F007F0000) (at w 0 % 2 ^ 8) (at w 1 % 2 ^ 7) (at w 2 % 2 ^ 7) (at w 3 % 2 ^ 7) (at w 4 % 2 ^ 7) (at w 0 % 2 ^ 0) (at w 1 % 2 ^ 0) (at w 3 % 2 ^ 0)
-    (masked (rowWidths false) w refl) (masked (0 ∷ 0 ∷ 7 ∷ 0 ∷ 7 ∷ []) w refl) (mod-one (at w 0)) (mod-one (at w 1)) (mod-one (at w 3))
+    paired (bitAnd w 0x7F7F7F7FFF) (bitAnd w 0x7F007F0000) (past w 0 % 2 ^ 8) (past w 1 % 2 ^ 7) (past w 2 % 2 ^ 7) (past w 3 % 2 ^ 7) (past w 4 % 2 ^ 7) (past w 0 % 2 ^ 0) (past w 1 % 2 ^ 0) (past w 3 % 2 ^ 0)
+    (masked (rowWidths false) w refl) (masked (0 ∷ 0 ∷ 7 ∷ 0 ∷ 7 ∷ []) w refl) (mod-one (past w 0)) (mod-one (past w 1)) (mod-one (past w 3))
 
 sub-pairs : tie.Need-sub-pairs
 sub-pairs c = of-word (c .args .word) .0
@@ -62,9 +58,9 @@ unfolding packed narrow rowWidths
 returns c =
     let w = c .args .word in
     let below : (x : ℕ) → x % 2 ^ 7 < 2 ^ 7 = λ x. mod-lt x (pow-pos 7) in
-    joined (bitAnd w 0x7F7F7F7FFF - bitAnd w 0x7F007F0000 / 2 ^ 1) (at w 0 % 2 ^ 8 + at w 1 % 2 ^ 7 * 2 ^ 8 + at w 2 % 2 ^ 7 * 2 ^ 15) (at w 3 % 2 ^ 7 + at w 4 % 2 ^ 7 * 2 ^ 7)
-    (small (at w 0 % 2 ^ 8) (at w 1 % 2 ^ 7) (at w 2 % 2 ^ 7) (mod-lt w (pow-pos 8)) (below (at w 1)) (below (at w 2))) (of-word w .1)
-    ∙ flat (at w 0 % 2 ^ 8) (at w 1 % 2 ^ 7) (at w 2 % 2 ^ 7) (at w 3 % 2 ^ 7) (at w 4 % 2 ^ 7)
+    joined (bitAnd w 0x7F7F7F7FFF - bitAnd w 0x7F007F0000 / 2 ^ 1) (past w 0 % 2 ^ 8 + past w 1 % 2 ^ 7 * 2 ^ 8 + past w 2 % 2 ^ 7 * 2 ^ 15) (past w 3 % 2 ^ 7 + past w 4 % 2 ^ 7 * 2 ^ 7)
+    (small (past w 0 % 2 ^ 8) (past w 1 % 2 ^ 7) (past w 2 % 2 ^ 7) (mod-lt w (pow-pos 8)) (below (past w 1)) (below (past w 2))) (of-word w .1)
+    ∙ flat (past w 0 % 2 ^ 8) (past w 1 % 2 ^ 7) (past w 2 % 2 ^ 7) (past w 3 % 2 ^ 7) (past w 4 % 2 ^ 7)
     ∙ packed-cells (rowWidths false) w refl
 
 pub five-together-spec : {M : Type 1} → statement M

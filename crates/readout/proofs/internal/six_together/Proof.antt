@@ -2,13 +2,13 @@
 -- Assumes nothing.
 use mathlib.Core.Path.{_≡_, refl, _∙_}
 use mathlib.Core.List.{[], _∷_}
-use Prim.Native.Nat.{ℕ, zero, suc, _+_, _*_, _-_, _/_, _%_, _^_, _≤_, _<_}
+use Prim.Native.Nat.{ℕ, _+_, _*_, _-_, _/_, _%_, _^_, _≤_, _<_}
 use native.Mathlib.Omega.{arith}
 use native.Mathlib.Nat.{mod-lt, mod-one}
 use lib.Bits.{bitAnd, and-le-r}
 use lib.ListN.{replicate}
 use lib.Pow.{pow-pos}
-use Rattle.readout.proofs.Fields.{fields, mask, packed, narrow, masked, packed-cells}
+use Rattle.readout.proofs.Fields.{fields, mask, packed, past, narrow, masked, packed-cells}
 use borrow.Author.Needs.{needs}
 use Rattle.readout.proofs.internal.six_together.Statement.{statement}
 use Rattle.readout.proofs.internal.six_together.Tie as tie
@@ -21,7 +21,7 @@ paired : (low odd a b c d e f x y z : ℕ) → low ≡ in-bytes a b c d e f → 
     → (odd / 2 ^ 2 * 3 ≤ low) × (low - odd / 2 ^ 2 * 3 ≡ a + b * 2 ^ 6 + (c + d * 2 ^ 6) * 2 ^ 16 + (e + f * 2 ^ 6) * 2 ^ 32)
 paired low odd a b c d e f x y z g h ex ey ez =
     let quarter : odd / 2 ^ 2 ≡ b * 2 ^ 6 + d * 2 ^ 22 + f * 2 ^ 38 = omega arith in
-    rw (quarter) (omega arith, omega arith)
+    rw quarter (omega arith, omega arith)
 
 -- three pairs: the lowest is moved up, then the lower two, and all down
 joined : (p a b c : ℕ) → a < 2 ^ 12 → b < 2 ^ 12 → p ≡ a + b * 2 ^ 16 + c * 2 ^ 32
@@ -43,18 +43,14 @@ flat a b c d e f = omega arith
 pair-small : (a b : ℕ) → a < 2 ^ 6 → b < 2 ^ 6 → a + b * 2 ^ 6 < 2 ^ 12
 pair-small a b ha hb = omega arith
 
-abbrev at : ℕ → ℕ → ℕ
-at w zero = w
-at w (suc k) = at w k / 2 ^ 8
-
 of-word : (w : ℕ)
     → (bitAnd w 0x3F003F003F00 / 2 ^ 2 * 3 ≤ bitAnd w 0x3F3F3F3F3F3F)
     × (bitAnd w 0x3F3F3F3F3F3F - bitAnd w 0x3F003F003F00 / 2 ^ 2 * 3
-    ≡ at w 0 % 2 ^ 6 + at w 1 % 2 ^ 6 * 2 ^ 6 + (at w 2 % 2 ^ 6 + at w 3 % 2 ^ 6 * 2 ^ 6) * 2 ^ 16 + (at w 4 % 2 ^ 6 + at w 5 % 2 ^ 6 * 2 ^ 6) * 2 ^ 32)
+    ≡ past w 0 % 2 ^ 6 + past w 1 % 2 ^ 6 * 2 ^ 6 + (past w 2 % 2 ^ 6 + past w 3 % 2 ^ 6 * 2 ^ 6) * 2 ^ 16 + (past w 4 % 2 ^ 6 + past w 5 % 2 ^ 6 * 2 ^ 6) * 2 ^ 32)
 unfolding fields mask narrow
 of-word w =
-    paired (bitAnd w 0x3F3F3F3F3F3F) (bitAnd w 0x3F003F003F00) (at w 0 % 2 ^ 6) (at w 1 % 2 ^ 6) (at w 2 % 2 ^ 6) (at w 3 % 2 ^ 6) (at w 4 % 2 ^ 6) (at w 5 % 2 ^ 6) (at w 0 % 2 ^ 0) (at w 2 % 2 ^ 0) (at w 4 % 2 ^ 0)
-    (masked (replicate 6 6) w refl) (masked (0 ∷ 6 ∷ 0 ∷ 6 ∷ 0 ∷ 6 ∷ []) w refl) (mod-one (at w 0)) (mod-one (at w 2)) (mod-one (at w 4))
+    paired (bitAnd w 0x3F3F3F3F3F3F) (bitAnd w 0x3F003F003F00) (past w 0 % 2 ^ 6) (past w 1 % 2 ^ 6) (past w 2 % 2 ^ 6) (past w 3 % 2 ^ 6) (past w 4 % 2 ^ 6) (past w 5 % 2 ^ 6) (past w 0 % 2 ^ 0) (past w 2 % 2 ^ 0) (past w 4 % 2 ^ 0)
+    (masked (replicate 6 6) w refl) (masked (0 ∷ 6 ∷ 0 ∷ 6 ∷ 0 ∷ 6 ∷ []) w refl) (mod-one (past w 0)) (mod-one (past w 2)) (mod-one (past w 4))
 
 mul-pairs : tie.Need-mul-pairs
 mul-pairs c = omega (arith, and-le-r (c .args .word) 0x3F003F003F00)
@@ -79,9 +75,9 @@ unfolding packed narrow
 returns c =
     let w = c .args .word in
     let below : (x : ℕ) → x % 2 ^ 6 < 2 ^ 6 = λ x. mod-lt x (pow-pos 6) in
-    joined (bitAnd w 0x3F3F3F3F3F3F - bitAnd w 0x3F003F003F00 / 2 ^ 2 * 3) (at w 0 % 2 ^ 6 + at w 1 % 2 ^ 6 * 2 ^ 6) (at w 2 % 2 ^ 6 + at w 3 % 2 ^ 6 * 2 ^ 6) (at w 4 % 2 ^ 6 + at w 5 % 2 ^ 6 * 2 ^ 6)
-    (pair-small (at w 0 % 2 ^ 6) (at w 1 % 2 ^ 6) (below (at w 0)) (below (at w 1))) (pair-small (at w 2 % 2 ^ 6) (at w 3 % 2 ^ 6) (below (at w 2)) (below (at w 3))) (of-word w .1)
-    ∙ flat (at w 0 % 2 ^ 6) (at w 1 % 2 ^ 6) (at w 2 % 2 ^ 6) (at w 3 % 2 ^ 6) (at w 4 % 2 ^ 6) (at w 5 % 2 ^ 6)
+    joined (bitAnd w 0x3F3F3F3F3F3F - bitAnd w 0x3F003F003F00 / 2 ^ 2 * 3) (past w 0 % 2 ^ 6 + past w 1 % 2 ^ 6 * 2 ^ 6) (past w 2 % 2 ^ 6 + past w 3 % 2 ^ 6 * 2 ^ 6) (past w 4 % 2 ^ 6 + past w 5 % 2 ^ 6 * 2 ^ 6)
+    (pair-small (past w 0 % 2 ^ 6) (past w 1 % 2 ^ 6) (below (past w 0)) (below (past w 1))) (pair-small (past w 2 % 2 ^ 6) (past w 3 % 2 ^ 6) (below (past w 2)) (below (past w 3))) (of-word w .1)
+    ∙ flat (past w 0 % 2 ^ 6) (past w 1 % 2 ^ 6) (past w 2 % 2 ^ 6) (past w 3 % 2 ^ 6) (past w 4 % 2 ^ 6) (past w 5 % 2 ^ 6)
     ∙ packed-cells (replicate 6 6) w refl
 
 pub six-together-spec : {M : Type 1} → statement M
