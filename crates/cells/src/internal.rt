@@ -38,17 +38,7 @@ fn byte_taken(bytes: &[u8], at: usize, k: usize, word: u64) -> u64
     word + there
 }
 
-// `joined(bytes, at, 8, 4)` and `joined(bytes, at, 8, 8)`, written out: so each compiles to one load.
-pub fn word4(bytes: &[u8], at: usize) -> u64
-    requires { ⌜ at + 4 ≤ length (now bytes) ⌝ }
-    ensures { λ r. ⌜ r ≡ join (replicate 4 8) (drop at (now (bytes .entry))) ⌝ }
-{
-    let one = byte_taken(bytes, at, 0, 0);
-    let two = byte_taken(bytes, at, 1, one);
-    let three = byte_taken(bytes, at, 2, two);
-    byte_taken(bytes, at, 3, three)
-}
-
+// `joined(bytes, at, 8, 8)`, written out: so it compiles to one load.
 pub fn word8(bytes: &[u8], at: usize) -> u64
     requires { ⌜ at + 8 ≤ length (now bytes) ⌝ }
     ensures { λ r. ⌜ r ≡ join (replicate 8 8) (drop at (now (bytes .entry))) ⌝ }

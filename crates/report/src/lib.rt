@@ -222,7 +222,7 @@ fn put_report(text: &[u8], out: &mut [u8]) -> usize
 }
 
 // What the bench program writes for a text, put at the start of `out`: how many bytes it has. Refused: 12.
-// It is made beside, since a refusal changes no byte.
+// It is made in bytes of its own, since a refusal changes no byte.
 pub fn report(text: &[u8], out: &mut [u8]) -> NumberAnswer
     ensures { λ r. ⌜ Written (bytesPut (reportOf (now (text .entry))) (now (out .entry))) (numberOutcome r) (atStart (reportOf (now (text .entry))) (now (out .entry))) (now (out .entry)) (now (out .exit)) ⌝ }
 {
