@@ -57,7 +57,7 @@ module _ (d : Device) where
   address-of-fuse : (fuse : ℕ) → Fits addressAndBit (addressOfFuse d fuse)
   unfolding addressOfFuse
   address-of-fuse fuse =
-      chosen (Fits addressAndBit) (known d) (omega arith)
+      chosen (Fits addressAndBit) (known d) (omega arith, omega arith)
       (λ k.
       by-cases (Fits addressAndBit) fuse (fuseCount d)
       (λ l.
@@ -65,14 +65,14 @@ module _ (d : Device) where
       let at : addressOfFuse d fuse ≡ accepted (addressOfByte (place .byte), place .bit) = rw (k, lt-ltb fuse (fuseCount d) l) in
       let its = at-valid d fuse (addressOfByte (place .byte)) (place .bit) at in
       omega (arith, its .1, its .2, width-small (byteOfAddress (addressOfByte (place .byte)))))
-      (λ g. omega arith))
+      (λ g. (omega arith, omega arith)))
 
   fuse-of-address : (address bit : ℕ) → Fits itself (fuseOfAddress d address bit)
   unfolding fuseOfAddress
   fuse-of-address address bit =
-      chosen (Fits itself) (known d) (omega arith)
+      chosen (Fits itself) (known d) (omega arith, omega arith)
       (λ k.
-      chosen (Fits itself) (valid d address && ltb bit (widthOf (byteOfAddress address))) (omega arith)
+      chosen (Fits itself) (valid d address && ltb bit (widthOf (byteOfAddress address))) (omega arith, omega arith)
       (λ e.
       let both = and-iff (valid d address) _ .0 e in
       let its = each-address d k address bit (both .0) (ltb-true _ _ (both .1)) in
@@ -82,7 +82,7 @@ module _ (d : Device) where
 
   fuse-sum : (image : List ℕ) → Fits itself (fuseSum d image)
   unfolding fuseSum sum16
-  fuse-sum image = chosen (Fits itself) (known d) (omega arith) (λ k. chosen (Fits itself) (eqb (length image) (imageBytes d)) (omega arith) (λ e. omega arith))
+  fuse-sum image = chosen (Fits itself) (known d) (omega arith, omega arith) (λ k. chosen (Fits itself) (eqb (length image) (imageBytes d)) (omega arith, omega arith) (λ e. omega arith))
 
   zeros-few : (image : List ℕ) (n : ℕ) → zerosBelow image n ≤ n
   unfolding zerosBelow
@@ -92,24 +92,24 @@ module _ (d : Device) where
   zero-count : (image : List ℕ) → Fits itself (zeroCount d image)
   unfolding zeroCount
   zero-count image =
-      chosen (Fits itself) (known d) (omega arith) (λ k. chosen (Fits itself) (eqb (length image) (imageBytes d)) (omega arith) (λ e. omega (arith, zeros-few image (fuseCount d), fuses-small d k)))
+      chosen (Fits itself) (known d) (omega arith, omega arith) (λ k. chosen (Fits itself) (eqb (length image) (imageBytes d)) (omega arith, omega arith) (λ e. omega (arith, zeros-few image (fuseCount d), fuses-small d k)))
 
   image-to-readout : (image target : List ℕ) → Fits nothing (toReadout d image target)
   unfolding toReadout
   image-to-readout image target =
-      chosen (Fits nothing) (known d) (omega arith)
-      (λ k. chosen (Fits nothing) (eqb (length image) (imageBytes d)) (omega arith) (λ e. chosen (Fits nothing) (eqb (length target) (readoutBytes d)) (omega arith) (λ f. omega arith)))
+      chosen (Fits nothing) (known d) (omega arith, omega arith)
+      (λ k. chosen (Fits nothing) (eqb (length image) (imageBytes d)) (omega arith, omega arith) (λ e. chosen (Fits nothing) (eqb (length target) (readoutBytes d)) (omega arith, omega arith) (λ f. omega arith)))
 
   readout-to-image : (readout target : List ℕ) → Fits nothing (toImage d readout target)
   unfolding toImage
   readout-to-image readout target =
-      chosen (Fits nothing) (known d) (omega arith)
+      chosen (Fits nothing) (known d) (omega arith, omega arith)
       (λ k.
-      chosen (Fits nothing) (eqb (length readout) (readoutBytes d)) (omega arith)
+      chosen (Fits nothing) (eqb (length readout) (readoutBytes d)) (omega arith, omega arith)
       (λ e.
-      chosen (Fits nothing) (eqb (length target) (imageBytes d)) (omega arith)
+      chosen (Fits nothing) (eqb (length target) (imageBytes d)) (omega arith, omega arith)
       (λ f.
-      by-cases (Fits nothing) (firstStray d readout) (readoutBytes d) (λ l. omega (arith, bytes-between d inReadout k)) (λ g. omega arith))))
+      by-cases (Fits nothing) (firstStray d readout) (readoutBytes d) (λ l. (omega arith, omega (arith, bytes-between d inReadout k))) (λ g. omega arith))))
 
   text-small : known d ≡ true → textBytes d < 2 ^ 56
   unfolding textBytes fuseCount
@@ -119,28 +119,28 @@ module _ (d : Device) where
   image-to-text : (image : List ℕ) (room : ℕ) → Fits itself (toText d image room)
   unfolding toText
   image-to-text image room =
-      chosen (Fits itself) (known d) (omega arith)
-      (λ k. chosen (Fits itself) (eqb (length image) (imageBytes d)) (omega arith) (λ e. by-cases (Fits itself) room (textBytes d) (λ l. text-small k) (λ g. text-small k)))
+      chosen (Fits itself) (known d) (omega arith, omega arith)
+      (λ k. chosen (Fits itself) (eqb (length image) (imageBytes d)) (omega arith, omega arith) (λ e. by-cases (Fits itself) room (textBytes d) (λ l. (omega arith, text-small k)) (λ g. text-small k)))
 
   of-meaning : (text : List ℕ) (o : Outcome (List ℕ)) → meaning (fuseCount d) text ≡ o → Fits nothing (verdict o)
   of-meaning text (accepted image) e = omega arith
-  of-meaning text (refused number value) e = omega (arith, values-small (fuseCount d) text number value e .2)
+  of-meaning text (refused number value) e = let its = values-small (fuseCount d) text number value e in (omega (arith, its .0), omega (arith, its .2))
 
   text-to-image : (text target : List ℕ) → Fits nothing (toImageFromText d text target)
   unfolding toImageFromText
   text-to-image text target =
-      chosen (Fits nothing) (known d) (omega arith) (λ k. chosen (Fits nothing) (eqb (length target) (imageBytes d)) (omega arith) (λ e. of-meaning text (meaning (fuseCount d) text) refl))
+      chosen (Fits nothing) (known d) (omega arith, omega arith) (λ k. chosen (Fits nothing) (eqb (length target) (imageBytes d)) (omega arith, omega arith) (λ e. of-meaning text (meaning (fuseCount d) text) refl))
 
   setting-count : Fits itself (countOfSettings d)
   unfolding countOfSettings
-  setting-count = chosen (Fits itself) (known d) (omega arith) (λ k. omega (arith, count-small d k))
+  setting-count = chosen (Fits itself) (known d) (omega arith, omega arith) (λ k. omega (arith, count-small d k))
 
   fuse-of-bit : (s : Setting) (bit : ℕ) → FitsOrNone itself (fuseOfBit d s bit)
   unfolding fuseOfBit
   fuse-of-bit s bit =
-      chosen (FitsOrNone itself) (known d) (omega arith)
+      chosen (FitsOrNone itself) (known d) (omega arith, omega arith)
       (λ k.
-      chosen (FitsOrNone itself) (hasSetting d s) (omega arith)
+      chosen (FitsOrNone itself) (hasSetting d s) (omega arith, omega arith)
       (λ h.
       by-cases (λ (o : Option ℕ). FitsOrNone itself (accepted o)) bit (bitsOf s)
       (λ l. omega (arith, fuse-below d k s h bit l, fuses-small d k))
@@ -152,8 +152,8 @@ module _ (d : Device) where
   setting-fuse : (setting bit : ℕ) → ThroughFits bit (settingOfNumber d setting)
   unfolding settingOfNumber
   setting-fuse setting bit =
-      chosen (ThroughFits bit) (known d) (omega arith)
-      (λ k. by-cases (ThroughFits bit) setting (countOf d) (λ l. fuse-of-bit (settingOf d setting) bit) (λ g. omega arith))
+      chosen (ThroughFits bit) (known d) (omega arith, omega arith)
+      (λ k. by-cases (ThroughFits bit) setting (countOf d) (λ l. fuse-of-bit (settingOf d setting) bit) (λ g. (omega arith, omega arith)))
 
   named : known d ≡ true → (fuse : ℕ) (o : Option (Setting × ℕ)) → settingAt d fuse ≡ o → FitsOrNone (settingAndBit d) (accepted o)
   named k fuse none e = tt
@@ -164,8 +164,8 @@ module _ (d : Device) where
   setting-at-fuse : (fuse : ℕ) → FitsOrNone (settingAndBit d) (settingAtFuse d fuse)
   unfolding settingAtFuse
   setting-at-fuse fuse =
-      chosen (FitsOrNone (settingAndBit d)) (known d) (omega arith)
-      (λ k. by-cases (FitsOrNone (settingAndBit d)) fuse (fuseCount d) (λ l. named k fuse (settingAt d fuse) refl) (λ g. omega arith))
+      chosen (FitsOrNone (settingAndBit d)) (known d) (omega arith, omega arith)
+      (λ k. by-cases (FitsOrNone (settingAndBit d)) fuse (fuseCount d) (λ l. named k fuse (settingAt d fuse) refl) (λ g. (omega arith, omega arith)))
 
   -- by number: refusals 1, 2, 4, and then 6 with an index below the length
   module _ (form : Bool) (bytes : List ℕ) (setting : ℕ) where
@@ -177,29 +177,29 @@ module _ (d : Device) where
 
     if-clean : {A : Type 0} (result : A → ℕ) (answer : Outcome A) → known d ≡ true → Fits result answer → Fits result (ifClean d form bytes (settingOf d setting) answer)
     if-clean result answer k fits =
-        by-cases (Fits result) (strayIn d form bytes (settingOf d setting)) (bytesOf d form) (λ l. omega (arith, bytes-between d form k)) (λ g. fits)
+        by-cases (Fits result) (strayIn d form bytes (settingOf d setting)) (bytesOf d form) (λ l. (omega arith, omega (arith, bytes-between d form k))) (λ g. fits)
 
     read : Fits itself (readPattern d form bytes setting)
     unfolding readPattern
     read =
-        chosen (Fits itself) (known d) (omega arith)
+        chosen (Fits itself) (known d) (omega arith, omega arith)
         (λ k.
-        chosen (Fits itself) (eqb (length bytes) (bytesOf d form)) (omega arith)
+        chosen (Fits itself) (eqb (length bytes) (bytesOf d form)) (omega arith, omega arith)
         (λ e.
         by-cases (Fits itself) setting (countOf d)
         (λ l. if-clean itself (accepted (patternAt d form bytes (settingOf d setting))) k (pattern-small l))
-        (λ g. omega arith)))
+        (λ g. (omega arith, omega arith))))
 
     set : (pattern : ℕ) → Fits nothing (setPattern d form bytes setting pattern)
     unfolding setPattern
     set pattern =
-        chosen (Fits nothing) (known d) (omega arith)
+        chosen (Fits nothing) (known d) (omega arith, omega arith)
         (λ k.
-        chosen (Fits nothing) (eqb (length bytes) (bytesOf d form)) (omega arith)
+        chosen (Fits nothing) (eqb (length bytes) (bytesOf d form)) (omega arith, omega arith)
         (λ e.
         by-cases (Fits nothing) setting (countOf d)
-        (λ l. by-cases (Fits nothing) pattern (2 ^ bitsOf (settingOf d setting)) (λ m. if-clean nothing (accepted tt) k (omega arith)) (λ g. omega arith))
-        (λ g. omega arith)))
+        (λ l. by-cases (Fits nothing) pattern (2 ^ bitsOf (settingOf d setting)) (λ m. if-clean nothing (accepted tt) k (omega arith)) (λ g. (omega arith, omega arith)))
+        (λ g. (omega arith, omega arith))))
 
 pub each-fits : EachFits
 each-fits =

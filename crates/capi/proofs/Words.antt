@@ -1,6 +1,6 @@
 -- The word of an answer: what a call returned, and what its definition says, packed alike; and what a caller reads of it.
 --   packed-same     equal answers have equal words
---   unpacked        a caller reads the refusal's number and value, or 0 and the result, where they have 56 bits
+--   unpacked        a caller reads 0 and the result, or the refusal's number, which is not 0, and its value; where these have 56 bits
 --   unpacked-none   the same where a result may be missing, and it is XC9500_NONE exactly where there is none
 --   each-fits       every answer of the interface is such (proofs/Fitting.antt)
 use mathlib.Core.Path.{_≡_, refl, _∙_, ap}
@@ -21,7 +21,7 @@ packed-same word e f = e ∙ ap (packed word) f
 
 pub unpacked : {A : Type 0} (result : A → ℕ) (o : Outcome A) → Fits result o → Reads result o (packed result o)
 unpacked result (accepted x) h = (div-eq-of-lt h, mod-eq-of-lt h)
-unpacked result (refused number value) h = (high number 56 h, low number 56 h)
+unpacked result (refused number value) (positive, h) = let its = high number 56 h in (rw its positive, its, low number 56 h)
 
 module _ {A : Type 0} (result : A → ℕ) where
   with-none : (o : Outcome (Option A)) → FitsOrNone result o → Fits (orNone result) o

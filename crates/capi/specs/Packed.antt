@@ -53,18 +53,18 @@ refusalIn word = word / 2 ^ 56
 abbrev pub resultIn : (word : ℕ) → ℕ
 resultIn word = word % 2 ^ 56
 
--- an accepted answer is read as refusal 0 and its result, a refused one as its number and value
+-- an accepted answer is read as refusal 0 and its result, a refused one as its number, which is not 0, and its value
 abbrev pub Reads : {A : Type 0} → (A → ℕ) → Outcome A → (word : ℕ) → Type 0
 Reads result (accepted x) word = (refusalIn word ≡ 0) × (resultIn word ≡ result x)
-Reads result (refused number value) word = (refusalIn word ≡ number) × (resultIn word ≡ value)
+Reads result (refused number value) word = (0 < refusalIn word) × (refusalIn word ≡ number) × (resultIn word ≡ value)
 
--- where the result, or the value, has 56 bits
+-- where the result, or the value, has 56 bits, and no refusal has the number 0
 abbrev pub Fits : {A : Type 0} → (A → ℕ) → Outcome A → Type 0
 Fits result (accepted x) = result x < 2 ^ 56
-Fits result (refused number value) = value < 2 ^ 56
+Fits result (refused number value) = (0 < number) × (value < 2 ^ 56)
 
 -- .. and a result that there is is not the one that stands for none
 abbrev pub FitsOrNone : {A : Type 0} → (A → ℕ) → Outcome (Option A) → Type 0
 FitsOrNone result (accepted none) = Unit {0}
 FitsOrNone result (accepted (some x)) = result x < 2 ^ 56 - 1
-FitsOrNone result (refused number value) = value < 2 ^ 56
+FitsOrNone result (refused number value) = (0 < number) × (value < 2 ^ 56)

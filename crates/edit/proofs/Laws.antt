@@ -6,6 +6,7 @@
 --   read-after-set, read-after-set-image   in any readout, whatever its other bytes hold, and in any image: a setting that was set reads
 --                    as set
 --   other-bits       .. and every bit of every byte that is none of the setting's stands as before
+--   oe-mux-case, order   document 01's case of OE_MUX, and the order of the refusals of setting (specs/Cases.antt)
 use mathlib.Core.Path.{_≡_, _∙_}
 use mathlib.Core.Bool.{Bool, true}
 use mathlib.Core.List.{List}
@@ -31,6 +32,7 @@ use Rattle.edit.proofs.ReadsAsSet.{image-clean, readout-clean, reads}
 pub use Rattle.setting_bits.proofs.Edits.{some-fuse}
 pub use Rattle.edit.proofs.NotRefused.{value-iff}
 pub use Rattle.edit.proofs.Demand.{holds, of-calls}
+pub use Rattle.edit.proofs.Cases.{oe-mux-case, order}
 
 module _ (d : Device) (k : known d ≡ true) (s : Setting) (h : hasSetting d s ≡ true) (v : Value) (pattern : ℕ) (p : patternIn (kindOf d s) v ≡ some pattern) where
   reads-set : (form : Bool) (bytes : List ℕ) → length bytes ≡ bytesOf d form → Clean d form (withPattern d form bytes s pattern) s

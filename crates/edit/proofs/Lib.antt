@@ -8,5 +8,5 @@ pub mod OthersAsBefore
 pub mod ListedFuses
 pub mod OtherFuses
 pub mod Demand
-pub mod Laws
 pub mod Cases
+pub mod Laws

@@ -3,5 +3,5 @@
 pub mod Lines
 pub mod Choice
 pub mod Answers
-pub mod Laws
 pub mod Cases
+pub mod Laws

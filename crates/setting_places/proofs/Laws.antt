@@ -7,6 +7,7 @@
 --   unnamed-count     how many fuses are unnamed in each class (proofs/Unnamed.antt)
 --   usercode-rows     USERCODE's two rows in document 01's words, from place to bit
 --   bench-cases       document 01's cases about settings and fuses
+--   corner-cases, field-cases, global-cases   the fuses of literals, wire-ANDs and every field, on the part of two blocks (specs/Cases.antt)
 use mathlib.Core.Path.{_≡_, refl, sym, _∙_, ap, subst}
 use mathlib.Core.Logic.{_↔_}
 use mathlib.Core.Bool.{Bool, true, false, cond, _&&_}

@@ -4,6 +4,7 @@
 --   flag-true         a flag is true at fuse state 0
 --   usercode-inverted USERCODE's number is the complement of its pattern
 --   foe-1-mux         FOE[1].MUX 10 is GOE[0] in the small class and GOE[2] in the large
+--   values, values-of-large, usercodes   each pattern of each field, on the part of two blocks (specs/Cases.antt)
 use mathlib.Core.Path.{_≡_, refl}
 use mathlib.Core.Logic.{_↔_}
 use mathlib.Core.Bool.{Bool, true, false, cond}
@@ -20,6 +21,7 @@ use Rattle.part.proofs.Conversions.{passed, result}
 use Rattle.settings.specs.Settings.{hasSetting}
 use Rattle.settings.specs.declared.GlobalField.the-variants.{FoeMux, Usercode}
 use Rattle.settings.specs.declared.Setting.{Setting}
+pub use Rattle.setting_values.proofs.Cases.{values, values-of-large, usercodes}
 use Rattle.settings.specs.declared.Setting.the-variants.{Global}
 use Rattle.setting_places.specs.Places.{bitsOf}
 use Rattle.values.specs.Values.{valueIn, bitsIn, bits2, named, smallFoeMuxes, largeFoeMuxes, goe}

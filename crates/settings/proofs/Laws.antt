@@ -2,6 +2,7 @@
 --   numbers-inverse   a number has this setting exactly if this setting has that number
 --   each-number       every number below the count has a setting, and every setting of the device a number below the count
 --   listing-order     the lower number is that of the setting listed first: by group, then by its indices, the last fastest
+--   numbers, numbers-of-large, counts   the numbers of every field and the counts, on the part of two blocks (specs/Cases.antt)
 use mathlib.Core.Path.{_≡_}
 use mathlib.Core.Logic.{_↔_}
 use mathlib.Core.Bool.{true}
@@ -18,6 +19,7 @@ use Rattle.settings.specs.Operations.{settingOfNumber, numberOfSetting}
 use Rattle.settings.specs.declared.Setting.{Setting}
 use Rattle.settings.proofs.Numbers.{number-below, setting-again, number-again}
 pub use Rattle.settings.proofs.Numbers.{listing-order}
+pub use Rattle.settings.proofs.Cases.{numbers, numbers-of-large, counts}
 
 -- a setting of a known device, and its number
 numbers-to : (d : Device) (x : ℕ) (s : Setting) → settingOfNumber d x ≡ accepted s → numberOfSetting d s ≡ accepted x

@@ -3,5 +3,5 @@
 pub mod Order
 pub mod Numbers
 pub mod Asked
-pub mod Laws
 pub mod Cases
+pub mod Laws
