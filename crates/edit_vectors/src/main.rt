@@ -164,11 +164,24 @@ fn set_by_name(in_readout: bool, bytes: &mut [u8], v: OeMux) -> DoneAnswer {
 }
 
 // 0 for PT, 1 for FOE2, 2 for any other value, 3 for a refusal.
+fn which_name(v: OeMux) -> u64 {
+    match v {
+        OeMux::Pt => 0,
+        OeMux::Foe2 => 1,
+        _ => 2,
+    }
+}
+
+fn which_value(v: Value) -> u64 {
+    match v {
+        Value::OeMux(name) => which_name(name),
+        _ => 2,
+    }
+}
+
 fn which(answer: ValueAnswer) -> u64 {
     match answer {
-        ValueAnswer::Value(Value::OeMux(OeMux::Pt)) => 0,
-        ValueAnswer::Value(Value::OeMux(OeMux::Foe2)) => 1,
-        ValueAnswer::Value(_) => 2,
+        ValueAnswer::Value(v) => which_value(v),
         ValueAnswer::Refused(_) => 3,
     }
 }
@@ -199,7 +212,7 @@ fn put_byte(name: &[u8], bytes: &[u8], i: usize) {
 }
 
 // Document 01's case: an image of ones, in which two fuses are cleared and one is kept; the same in its readout.
-fn document_case(image: &mut [u8], readout: &mut [u8]) {
+fn by_number(image: &mut [u8], readout: &mut [u8]) {
     vectors::fill_with(image, 255);
     let answer = capi::xc9500_image_to_readout(2, 0, &image[..], readout);
     vectors::put(b"readout of ones", answer);
@@ -209,10 +222,18 @@ fn document_case(image: &mut [u8], readout: &mut [u8]) {
     put_byte(b"byte of fuse 3246", &image[..], 405);
     put_byte(b"byte of fuse 3354", &image[..], 419);
     set_to_foe2(b"OE_MUX in the readout", true, readout);
+}
+
+fn by_name(image: &mut [u8], readout: &mut [u8]) {
     vectors::fill_with(image, 255);
     set_to_foe2_by_name(b"by name in the image", false, image);
     vectors::fill_with(readout, 255);
     set_to_foe2_by_name(b"by name in a readout of bytes 255", true, readout);
+}
+
+fn document_case(image: &mut [u8], readout: &mut [u8]) {
+    by_number(image, readout);
+    by_name(image, readout);
 }
 
 fn on_the_smallest(image: &mut [u8], readout: &mut [u8]) {
