@@ -9,12 +9,13 @@ use mir.Syntax.{w32}
 use mir.Val.{Fits}
 use lib.Dec.{eqb, ltb}
 use lib.ListN.{length, getD}
-use borrow.Author.Tests.{lt-ltb, le-ltb}
+use borrow.Author.Tests.{lt-ltb, le-ltb, eqb-true, ltb-true}
 use Rattle.part.specs.Outcome.Outcome.{accepted, refused}
 use Rattle.part.specs.Device.{known}
 use Rattle.part.specs.Place.{hasPlace, fuseOfPlace, widthOf}
 use Rattle.part.specs.declared.Device.{Device}
 use Rattle.part.specs.declared.Place.{Place}
+use Rattle.part.proofs.Facts.{and-iff}
 use Rattle.image.specs.Bits.{bitAt, withBit, gathered}
 use Rattle.settings.specs.Settings.{hasSetting}
 use Rattle.settings.specs.Order.{start, countOf, settingOf}
@@ -127,3 +128,12 @@ module _ (d : Device) (x : ℕ) (l : x < start d wireAnds) (k : known d ≡ true
     set-state after s g =
         sets-clean d form bytes x k n (number-there d x l) (settingOf d x) refl pattern fits (bytesOf d form) (stray-if false s)
         after (omega (arith, n)) (its-bytes pattern after low g)
+
+-- what the operations ask first
+pub its-literal : (d : Device) (form : Bool) (size x : ℕ) (t : Bool) → t ≡ (known d && eqb size (bytesOf d form) && ltb x (start d wireAnds)) → t ≡ true
+    → (known d ≡ true) × (size ≡ bytesOf d form) × (x < start d wireAnds)
+its-literal d form size x t e h =
+    let all : (known d && eqb size (bytesOf d form) && ltb x (start d wireAnds)) ≡ true = sym e ∙ h in
+    let both = and-iff _ _ .0 all in
+    let first = and-iff _ _ .0 (both .0) in
+    (first .0, eqb-true size (bytesOf d form) (first .1), ltb-true x (start d wireAnds) (both .1))

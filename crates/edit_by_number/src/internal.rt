@@ -1,8 +1,9 @@
 // Reading and setting by setting number and pattern in an image or a readout alike: what the operations need, and no caller.
 // A literal and USERCODE go by their numbers, the others through the setting that the number stands for.
 ghost use mathlib.Core.Path.{_≡_};
-ghost use mathlib.Core.Bool.{true, cond};
+ghost use mathlib.Core.Bool.{true, cond, _&&_};
 ghost use Prim.Native.Nat.{_<_};
+ghost use lib.Dec.{eqb, ltb};
 ghost use lib.ListN.{length};
 ghost use Rattle.part.specs.Device.{known};
 ghost use Rattle.part.specs.Answer.{numberOutcome};
@@ -43,8 +44,22 @@ fn literal_spot(d: Device, readout: bool, bytes: &[u8], number: SettingNumber) -
     }
 }
 
+// Whether the number is that of a literal of a known device, and the bytes have its length. Most settings are literals; the operations ask this first,
+// so that the way of a literal is compiled into each of them.
+pub fn is_literal(d: Device, readout: bool, length: usize, number: SettingNumber) -> bool
+    ensures { λ r. ⌜ r ≡ (known d && eqb length (bytesOf d readout) && ltb (number .0) (start d wireAnds)) ⌝ }
+{
+    if !part::is_known(d) {
+        return false;
+    }
+    if length != edit::internal::bytes_of(d, readout) {
+        return false;
+    }
+    number.0 < settings::internal::start_of_wire_ands(d)
+}
+
 // The pattern of a literal, by its number. Refused: 6.
-fn read_literal(d: Device, readout: bool, bytes: &[u8], number: SettingNumber) -> NumberAnswer
+pub fn read_literal(d: Device, readout: bool, bytes: &[u8], number: SettingNumber) -> NumberAnswer
     requires { ⌜ (known d ≡ true) × (length (now bytes) ≡ bytesOf d readout) × (number .0 < start d wireAnds) ⌝ }
     ensures { λ r. ⌜ numberOutcome r ≡ readPattern d readout (now (bytes .entry)) (number .0) ⌝ }
 {
@@ -58,7 +73,7 @@ fn read_literal(d: Device, readout: bool, bytes: &[u8], number: SettingNumber) -
 }
 
 // A literal set to a pattern, by its number. Refused: 5, 6.
-fn set_literal(
+pub fn set_literal(
     d: Device,
     readout: bool,
     bytes: &mut [u8],
@@ -99,9 +114,6 @@ pub fn read_numbered(d: Device, readout: bool, bytes: &[u8], number: SettingNumb
         let its = bytes;
         return NumberAnswer::Number(setting_bits::internal::usercode_at(d, readout, its));
     }
-    if number.0 < settings::internal::start_of_wire_ands(d) {
-        return read_literal(d, readout, bytes, number);
-    }
     let again = bytes;
     let s = settings::internal::setting_of(d, number);
     let stray = edit::internal::stray_in(d, readout, again, s);
@@ -134,9 +146,6 @@ pub fn set_numbered(
     if number.0 == settings::internal::number_of_usercode(d) {
         setting_bits::internal::put_usercode(d, readout, bytes, pattern);
         return DoneAnswer::Done;
-    }
-    if number.0 < settings::internal::start_of_wire_ands(d) {
-        return set_literal(d, readout, bytes, number, pattern);
     }
     let s = settings::internal::setting_of(d, number);
     let bits = setting_places::internal::bits_of(d, s);

@@ -16,6 +16,9 @@ pub mod internal;
 pub fn read_pattern_in_image(d: Device, image: &[u8], number: SettingNumber) -> NumberAnswer
     ensures { λ r. ⌜ numberOutcome r ≡ readPattern d inImage (now (image .entry)) (number .0) ⌝ }
 {
+    if internal::is_literal(d, false, image.len(), number) {
+        return internal::read_literal(d, false, image, number);
+    }
     internal::read_numbered(d, false, image, number)
 }
 
@@ -28,6 +31,9 @@ pub fn set_pattern_in_image(
 ) -> DoneAnswer
     ensures { λ r. ⌜ Written (setPattern d inImage (now (image .entry)) (number .0) pattern) (doneOutcome r) (withNumbered d inImage (now (image .entry)) (number .0) pattern) (now (image .entry)) (now (image .exit)) ⌝ }
 {
+    if internal::is_literal(d, false, image.len(), number) {
+        return internal::set_literal(d, false, image, number, pattern);
+    }
     internal::set_numbered(d, false, image, number, pattern)
 }
 
@@ -35,6 +41,9 @@ pub fn set_pattern_in_image(
 pub fn read_pattern_in_readout(d: Device, readout: &[u8], number: SettingNumber) -> NumberAnswer
     ensures { λ r. ⌜ numberOutcome r ≡ readPattern d inReadout (now (readout .entry)) (number .0) ⌝ }
 {
+    if internal::is_literal(d, true, readout.len(), number) {
+        return internal::read_literal(d, true, readout, number);
+    }
     internal::read_numbered(d, true, readout, number)
 }
 
@@ -47,5 +56,8 @@ pub fn set_pattern_in_readout(
 ) -> DoneAnswer
     ensures { λ r. ⌜ Written (setPattern d inReadout (now (readout .entry)) (number .0) pattern) (doneOutcome r) (withNumbered d inReadout (now (readout .entry)) (number .0) pattern) (now (readout .entry)) (now (readout .exit)) ⌝ }
 {
+    if internal::is_literal(d, true, readout.len(), number) {
+        return internal::set_literal(d, true, readout, number, pattern);
+    }
     internal::set_numbered(d, true, readout, number, pattern)
 }

@@ -1,4 +1,4 @@
--- `read_numbered` meets its contract: the tests are the definition's, then one of three ways.
+-- `read_numbered` meets its contract: the tests are the definition's, then USERCODE's own way or that of any setting.
 -- Assumes nothing.
 use mathlib.Core.Path.{_≡_, sym, _∙_}
 use mathlib.Core.Bool.{Bool, true, false}
@@ -73,32 +73,23 @@ returns-4 c =
     let start = tested .before .before .before .before .before .before .before in
     reads-code (start .before .args .d) _ _ _ _ _ _ (is-known _ _ (tested .before .before .before .before .before .before .is-known .ensures) (tested .before .before .before .before .before .if1 .left)) (tested .before .before .before .before .bytes-of .ensures) (tested .before .before .before .if2 .left) (tested .before .before .count-of .ensures) (tested .if3 .left) (c .before .before .before .number-of-usercode .ensures) (c .before .if4 .taken) (λ i. start .shared-slice-known .given i .fits) _ (c .usercode-at .ensures)
 
-start-of-wire-ands-requires : tie.Need-start-of-wire-ands-requires
-start-of-wire-ands-requires c κs = search (needs, is-known)
-
-read-literal-requires : tie.Need-read-literal-requires
-read-literal-requires c κs = (search (needs, is-known), search (needs, its-size), search needs)
-
-returns-5 : tie.Need-returns-5
-returns-5 c = search needs
-
 setting-of-requires : tie.Need-setting-of-requires
 setting-of-requires c κs = (search (needs, is-known), search (needs, below))
 
 stray-in-requires : tie.Need-stray-in-requires
-stray-in-requires c κs = let tested = c .before .before .before .before .before .before .before in (search (needs, is-known), there _ _ _ _ (tested .before .before .count-of .ensures) (tested .if3 .left) (c .setting-of .ensures), search (needs, its-size))
+stray-in-requires c κs = let tested = c .before .before .before .before in (search (needs, is-known), there _ _ _ _ (tested .before .before .count-of .ensures) (tested .if3 .left) (c .setting-of .ensures), search (needs, its-size))
 
 cast-index : tie.Need-cast-index
 cast-index c = search (needs, is-known, stray-fits)
 
-returns-6 : tie.Need-returns-6
-returns-6 c = search (needs, is-known, a-stray)
+returns-5 : tie.Need-returns-5
+returns-5 c = search (needs, is-known, a-stray)
 
 pattern-at-requires : tie.Need-pattern-at-requires
-pattern-at-requires c κs = let tested = c .before .before .before .before .before .before .before .before .before in (search (needs, is-known), there _ _ _ _ (tested .before .before .count-of .ensures) (tested .if3 .left) (c .before .before .setting-of .ensures), search (needs, its-size))
+pattern-at-requires c κs = let tested = c .before .before .before .before .before .before in (search (needs, is-known), there _ _ _ _ (tested .before .before .count-of .ensures) (tested .if3 .left) (c .before .before .setting-of .ensures), search (needs, its-size))
 
-returns-7 : tie.Need-returns-7
-returns-7 c = search (needs, is-known, the-pattern)
+returns-6 : tie.Need-returns-6
+returns-6 c = search (needs, is-known, the-pattern)
 
 pub read-numbered-spec : {M : Type 1} → statement M
 read-numbered-spec =
@@ -113,12 +104,9 @@ read-numbered-spec =
     number-of-usercode-requires
     usercode-at-requires
     returns-4
-    start-of-wire-ands-requires
-    read-literal-requires
-    returns-5
     setting-of-requires
     stray-in-requires
     cast-index
-    returns-6
+    returns-5
     pattern-at-requires
-    returns-7)
+    returns-6)

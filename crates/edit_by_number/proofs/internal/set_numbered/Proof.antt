@@ -89,18 +89,6 @@ returns-4 c =
     let start = tested .before .before .before .before .before .before .before in
     sets-code (start .before .args .d) _ _ _ _ _ _ (is-known _ _ (tested .before .before .before .before .before .before .is-known .ensures) (tested .before .before .before .before .before .if1 .left)) (tested .before .before .before .before .bytes-of .ensures) (tested .before .before .before .if2 .left) (tested .before .before .count-of .ensures) (tested .if3 .left) (c .before .before .before .before .before .before .number-of-usercode .ensures) (c .before .before .before .before .if4 .taken) (λ i. start .slice-known .given i .fits) _ _ (start .before .fits .pattern .fits) (c .before .before .put-usercode .ensures)
 
-start-of-wire-ands-requires : tie.Need-start-of-wire-ands-requires
-start-of-wire-ands-requires c κs = search (needs, is-known)
-
-set-literal-requires : tie.Need-set-literal-requires
-set-literal-requires c κs = (search (needs, is-known), search (needs, its-size), search needs)
-
-same-length-2 : tie.Need-same-length-2
-same-length-2 c = search needs
-
-returns-5 : tie.Need-returns-5
-returns-5 c = search needs
-
 setting-of-requires : tie.Need-setting-of-requires
 setting-of-requires c κs = (search (needs, is-known), search (needs, below))
 
@@ -108,10 +96,10 @@ bits-of-requires : tie.Need-bits-of-requires
 bits-of-requires c κs = search (needs, there)
 
 fits-requires : tie.Need-fits-requires
-fits-requires c κs = let tested = c .before .before .before .before .before .before .before .before in few _ _ _ _ _ (tested .before .before .count-of .ensures) (tested .if3 .left) (c .before .setting-of .ensures) (c .bits-of .ensures)
+fits-requires c κs = let tested = c .before .before .before .before .before in few _ _ _ _ _ (tested .before .before .count-of .ensures) (tested .if3 .left) (c .before .setting-of .ensures) (c .bits-of .ensures)
 
-returns-6 : tie.Need-returns-6
-returns-6 c = search (needs, is-known, not-fitting)
+returns-5 : tie.Need-returns-5
+returns-5 c = search (needs, is-known, not-fitting)
 
 stray-in-requires : tie.Need-stray-in-requires
 stray-in-requires c κs = (search (needs, is-known), search (needs, there), search (needs, its-size))
@@ -119,20 +107,20 @@ stray-in-requires c κs = (search (needs, is-known), search (needs, there), sear
 cast-index : tie.Need-cast-index
 cast-index c = search (needs, is-known, stray-fits)
 
-same-length-3 : tie.Need-same-length-3
-same-length-3 c = search needs
+same-length-2 : tie.Need-same-length-2
+same-length-2 c = search needs
 
-returns-7 : tie.Need-returns-7
-returns-7 c = search (needs, is-known, a-stray)
+returns-6 : tie.Need-returns-6
+returns-6 c = search (needs, is-known, a-stray)
 
 put-pattern-requires : tie.Need-put-pattern-requires
 put-pattern-requires c κs = (search (needs, is-known), search (needs, there), search (needs, its-size))
 
-same-length-4 : tie.Need-same-length-4
-same-length-4 c = search needs
+same-length-3 : tie.Need-same-length-3
+same-length-3 c = search needs
 
-returns-8 : tie.Need-returns-8
-returns-8 c = search (needs, is-known, the-set)
+returns-7 : tie.Need-returns-7
+returns-7 c = search (needs, is-known, the-set)
 
 pub set-numbered-spec : {M : Type 1} → statement M
 set-numbered-spec =
@@ -148,18 +136,14 @@ set-numbered-spec =
     put-usercode-requires
     same-length
     returns-4
-    start-of-wire-ands-requires
-    set-literal-requires
-    same-length-2
-    returns-5
     setting-of-requires
     bits-of-requires
     fits-requires
-    returns-6
+    returns-5
     stray-in-requires
     cast-index
-    same-length-3
-    returns-7
+    same-length-2
+    returns-6
     put-pattern-requires
-    same-length-4
-    returns-8)
+    same-length-3
+    returns-7)
