@@ -6,12 +6,13 @@ use mathlib.Core.Path.{_≡_, refl, sym, _∙_, ap, ap₂}
 use mathlib.Core.List.{List, [], _∷_}
 use Prim.Native.Nat.{ℕ, zero, suc, _+_, _*_, _/_, _%_, _^_, _≤_, _<_}
 use native.Mathlib.Omega.{arith}
-use native.Mathlib.Nat.{mod-lt, not-suc-le-zero, le-of-suc-le-suc, add-assoc, add-zero, zero-add, add-suc, div-one, div-eq-of-lt}
+use native.Mathlib.Nat.{mod-lt, not-suc-le-zero, le-of-suc-le-suc, add-assoc, add-zero, zero-add, div-one, div-eq-of-lt}
 use native.Mathlib.Numerals.{add-one}
 use lib.Count.{ones, onesIn as onesWithin, ones-step, ones-cat, ones-le}
 use lib.ListN.{length, drop, replicate}
 use lib.Pow.{pow-pos, shr-shr}
 use Rattle.cells.specs.Cells.{join}
+use Rattle.part.proofs.Sums.{sum, sum-same, sum-add}
 use Rattle.image.specs.Bits.{bitOf, bitAt, onesIn}
 use Rattle.image.specs.Image.{state, zerosBelow}
 use Rattle.image.proofs.Bits.{bit-low}
@@ -33,48 +34,33 @@ unfolding onesIn
 onesIn-le [] = omega arith
 onesIn-le (b ∷ bytes) = omega (arith, ones-le 8 (b % 2 ^ 8) (mod-lt b (pow-pos 8)), onesIn-le bytes)
 
--- how many of the first bits are 1
-bitsBelow : (ℕ → ℕ) → ℕ → ℕ
-bitsBelow bits zero = 0
-bitsBelow bits (suc n) = bitsBelow bits n + bits n
-
-below-same : (f g : ℕ → ℕ) (n : ℕ) → ((i : ℕ) → i < n → f i ≡ g i) → bitsBelow f n ≡ bitsBelow g n
-unfolding bitsBelow
-below-same f g zero e = refl
-below-same f g (suc n) e = ap₂ _+_ (below-same f g n (λ i h. e i (omega arith))) (e n (omega arith))
-
-below-add : (f : ℕ → ℕ) (n m : ℕ) → bitsBelow f (n + m) ≡ bitsBelow f n + bitsBelow (λ i. f (n + i)) m
-unfolding bitsBelow
-below-add f n zero = rw (add-zero, add-zero)
-below-add f n (suc m) = rw add-suc (ap (λ (x : ℕ). x + f (n + m)) (below-add f n m) ∙ add-assoc _ _ _)
-
-ones-bits : (x w : ℕ) → ones x ≡ bitsBelow (bitOf x) w + ones (x / 2 ^ w)
-unfolding bitsBelow
+ones-bits : (x w : ℕ) → ones x ≡ sum (bitOf x) w + ones (x / 2 ^ w)
+unfolding sum
 ones-bits x zero = rw (div-one x) (sym (zero-add (ones x)))
 ones-bits x (suc w) =
     let next : x / 2 ^ w / 2 ≡ x / 2 ^ suc w = shr-shr x w 1 ∙ ap (λ (k : ℕ). x / 2 ^ k) (add-one w) in
     ones-bits x w ∙ rw (ones-step (x / 2 ^ w), next) (sym (add-assoc _ _ _))
 
-byte-ones : (b : ℕ) → ones (b % 2 ^ 8) ≡ bitsBelow (bitOf b) 8
+byte-ones : (b : ℕ) → ones (b % 2 ^ 8) ≡ sum (bitOf b) 8
 byte-ones b =
     let high : b % 2 ^ 8 / 2 ^ 8 ≡ 0 = div-eq-of-lt (mod-lt b (pow-pos 8)) in
-    ones-bits (b % 2 ^ 8) 8 ∙ rw (high, none) (add-zero _ ∙ below-same (bitOf (b % 2 ^ 8)) (bitOf b) 8 (λ i h. bit-low b 8 i h))
+    ones-bits (b % 2 ^ 8) 8 ∙ rw (high, none) (add-zero _ ∙ sum-same (bitOf (b % 2 ^ 8)) (bitOf b) 8 (λ i h. bit-low b 8 i h))
 
-states-ones : (image : List ℕ) → bitsBelow (state image) (length image * 8) ≡ onesIn image
-unfolding bitsBelow onesIn state bitAt
+states-ones : (image : List ℕ) → sum (state image) (length image * 8) ≡ onesIn image
+unfolding sum onesIn state bitAt
 states-ones [] = refl
 states-ones (b ∷ image) =
     let more : suc (length image) * 8 ≡ 8 + length image * 8 = omega arith in
     rw more
-    (below-add (state (b ∷ image)) 8 (length image * 8)
+    (sum-add (state (b ∷ image)) 8 (length image * 8)
     ∙ ap₂ _+_
-    (below-same (state (b ∷ image)) (bitOf b) 8
+    (sum-same (state (b ∷ image)) (bitOf b) 8
     (λ i h.
     let q : i / 8 ≡ 0 = omega arith in
     let r : i % 8 ≡ i = omega arith in
     rw (q, r))
     ∙ sym (byte-ones b))
-    (below-same (λ i. state (b ∷ image) (8 + i)) (state image) (length image * 8)
+    (sum-same (λ i. state (b ∷ image) (8 + i)) (state image) (length image * 8)
     (λ i h.
     let q : (8 + i) / 8 ≡ suc (i / 8) = omega arith in
     let r : (8 + i) % 8 ≡ i % 8 = omega arith in
@@ -85,8 +71,8 @@ pub state-bit : (image : List ℕ) (fuse : ℕ) → state image fuse < 2
 unfolding state bitAt
 state-bit image fuse = omega arith
 
-zeros-ones : (image : List ℕ) (n : ℕ) → zerosBelow image n + bitsBelow (state image) n ≡ n
-unfolding zerosBelow bitsBelow
+zeros-ones : (image : List ℕ) (n : ℕ) → zerosBelow image n + sum (state image) n ≡ n
+unfolding zerosBelow sum
 zeros-ones image zero = omega arith
 zeros-ones image (suc n) = omega (arith, zeros-ones image n, state-bit image n)
 

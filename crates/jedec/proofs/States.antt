@@ -1,18 +1,18 @@
 -- The image of a text in plain terms: when each L is in place, and which state each fuse then has (`InPlace`, `Described` in specs/Form.antt).
 -- Assumes nothing.
 use mathlib.Core.Path.{_≡_, refl, sym, _∙_, ap, subst}
-use mathlib.Core.Logic.{_↔_, _⊎_, inl, inr}
+use mathlib.Core.Logic.{_↔_, inl, inr}
 use mathlib.Core.Bool.{Bool, true, false, cond, _&&_, _||_}
 use mathlib.Core.List.{List, [], _∷_, _++_}
 use mathlib.Core.Option.{Option}
 use mathlib.Core.Option.Option.{none, some}
-use Prim.Native.Nat.{ℕ, zero, suc, _+_, _*_, _-_, _/_, _%_, _^_, _<_, _≤_}
+use Prim.Native.Nat.{ℕ, zero, suc, _+_, _*_, _-_, _/_, _%_, _<_, _≤_}
 use native.Mathlib.Omega.{arith}
 use lib.Dec.{eqb, ltb, leb}
 use lib.ListN.{length, getD, take, drop, List·getD-eq-default}
 use borrow.Author.Tests.{lt-ltb, le-ltb, le-leb, lt-leb, eqb-true}
 use Rattle.part.proofs.Facts.{compared, either}
-use Rattle.image.specs.Bits.{bitAt, gathered, tabulate}
+use Rattle.image.specs.Bits.{bitAt, gathered}
 use Rattle.image.specs.Image.{state}
 use Rattle.image.proofs.Bits.{bit-above, gathered-bit, gathered-small, tabulate-length, tabulate-at}
 use Rattle.jedec.specs.Characters.{isBlank, andThen, numberIn, sumIn, letterC, letterF, letterJ, letterL, letterN, letterP, letterQ, letterV, letterX}
@@ -26,16 +26,21 @@ use Rattle.jedec.proofs.Places.{chosen}
 use Rattle.jedec.proofs.ReadBack.{image-given}
 
 module _ (fuses : ℕ) where
-  all-placed : (end : ℕ) (lists : List Listed) → misplaced fuses end lists ≡ none → InPlace fuses end lists
+  -- the first of several L fields in their places
+  pub placed : (end : ℕ) (l : Listed) (lists : List Listed) → misplaced fuses end (l ∷ lists) ≡ none
+      → (end ≤ l .first) × (endOf l ≤ fuses) × (misplaced fuses (endOf l) lists ≡ none)
   unfolding misplaced
-  all-placed end [] e = tt
-  all-placed end (l ∷ lists) e =
+  placed end l lists e =
       compared (l .first) end
       (λ m. let bad : some (l .at) ≡ none = rw (lt-ltb (l .first) end m) at e in let z : _≡_ {A = ℕ} 0 1 = cc in absurd (omega arith))
       (λ g.
       compared fuses (endOf l)
       (λ m. let bad : some (l .at) ≡ none = rw (le-ltb (l .first) end g, lt-ltb fuses (endOf l) m) at e in let z : _≡_ {A = ℕ} 0 1 = cc in absurd (omega arith))
-      (λ h. (g, h, all-placed (endOf l) lists (rw (le-ltb (l .first) end g, le-ltb fuses (endOf l) h) at e))))
+      (λ h. (g, h, rw (le-ltb (l .first) end g, le-ltb fuses (endOf l) h) at e)))
+
+  all-placed : (end : ℕ) (lists : List Listed) → misplaced fuses end lists ≡ none → InPlace fuses end lists
+  all-placed end [] e = tt
+  all-placed end (l ∷ lists) e = let p = placed end l lists e in (p .0, p .1, all-placed (endOf l) lists (p .2))
 
   none-misplaced : (end : ℕ) (lists : List Listed) → InPlace fuses end lists → misplaced fuses end lists ≡ none
   unfolding misplaced
@@ -190,21 +195,23 @@ module _ (from : ℕ) where
         given-inside l lists fuse g m ∙ sym (gives .0 (fuse - l .first) (omega arith)) ∙ ap stateOf own)
         (λ m. given-after l lists fuse m ∙ gives-each fuse lists (gives .1) (λ o. other (inr m, o))))
 
--- the image with given states has them, and no more
+-- the image with given states: its length, its bytes
+module _ (fuses : ℕ) (states : ℕ → ℕ) where
+  pub image-length : length (imageWith fuses states) ≡ (fuses + 7) / 8
+  unfolding imageWith
+  image-length = tabulate-length ((fuses + 7) / 8) _
+
+  pub image-at : (i : ℕ) → i < (fuses + 7) / 8 → getD (imageWith fuses states) i 0 ≡ gathered (λ bit. within fuses states (i * 8 + bit)) 8
+  unfolding imageWith
+  image-at i h = tabulate-at ((fuses + 7) / 8) _ i h
+
+  pub within-small : ((fuse : ℕ) → states fuse < 2) → (fuse : ℕ) → within fuses states fuse < 2
+  within-small bits fuse = chosen (λ x. x < 2) (ltb fuse fuses) (bits fuse) (omega arith)
+
+-- it has these states, and no more
 module _ (fuses : ℕ) (states : ℕ → ℕ) (bits : (fuse : ℕ) → states fuse < 2) where
-  within-bit : (fuse : ℕ) → within fuses states fuse < 2
-  within-bit fuse = chosen (λ x. x < 2) (ltb fuse fuses) (bits fuse) (omega arith)
-
-  size-given : length (imageWith fuses states) ≡ (fuses + 7) / 8
-  unfolding imageWith
-  size-given = tabulate-length ((fuses + 7) / 8) _
-
-  byte-given : (i : ℕ) → i < (fuses + 7) / 8 → getD (imageWith fuses states) i 0 ≡ gathered (λ bit. within fuses states (i * 8 + bit)) 8
-  unfolding imageWith
-  byte-given i h = tabulate-at ((fuses + 7) / 8) _ i h
-
   no-byte : (i : ℕ) → (fuses + 7) / 8 ≤ i → getD (imageWith fuses states) i 0 ≡ 0
-  no-byte i g = List·getD-eq-default (imageWith fuses states) 0 (rw size-given g)
+  no-byte i g = List·getD-eq-default (imageWith fuses states) 0 (rw (image-length fuses states) g)
 
   state-given : (fuse : ℕ) → state (imageWith fuses states) fuse ≡ within fuses states fuse
   unfolding state bitAt
@@ -212,8 +219,8 @@ module _ (fuses : ℕ) (states : ℕ → ℕ) (bits : (fuse : ℕ) → states fu
       compared (fuse / 8) ((fuses + 7) / 8)
       (λ h.
       let own : fuse / 8 * 8 + fuse % 8 ≡ fuse = omega arith in
-      rw (byte-given (fuse / 8) h)
-      (gathered-bit (λ bit. within fuses states (fuse / 8 * 8 + bit)) (λ bit. within-bit (fuse / 8 * 8 + bit)) 8 (fuse % 8) (omega arith)
+      rw (image-at fuses states (fuse / 8) h)
+      (gathered-bit (λ bit. within fuses states (fuse / 8 * 8 + bit)) (λ bit. within-small fuses states bits (fuse / 8 * 8 + bit)) 8 (fuse % 8) (omega arith)
       ∙ ap (λ (f : ℕ). within fuses states f) own))
       (λ g.
       let past : fuses ≤ fuse = omega arith in
@@ -222,10 +229,10 @@ module _ (fuses : ℕ) (states : ℕ → ℕ) (bits : (fuse : ℕ) → states fu
   image-of-given : Image fuses (imageWith fuses states)
   image-of-given =
       record {
-        size = size-given;
+        size = image-length fuses states;
         bytes = λ i.
             compared i ((fuses + 7) / 8)
-            (λ h. rw (byte-given i h) (gathered-small _ (λ bit. within-bit (i * 8 + bit)) 8))
+            (λ h. rw (image-at fuses states i h) (gathered-small _ (λ bit. within-small fuses states bits (i * 8 + bit)) 8))
             (λ g. rw (no-byte i g) (omega arith));
         no-more = λ fuse past. state-given fuse ∙ rw (le-ltb fuse fuses past);
       }

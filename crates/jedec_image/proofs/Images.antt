@@ -1,5 +1,5 @@
 -- Laws of the image of so many fuses:
---   image-same, image-length       only the states below the count matter; its length
+--   image-same                     only the states below the count matter
 --   start-byte                     a byte of the image of a start state
 --   put-states                     states put in place change the states of those fuses alone
 --   put-listed                     an L field after the L fields before it
@@ -18,17 +18,10 @@ use lib.Seq.{ext-getD, getD-set-same, getD-set-other}
 use borrow.Author.Tests.{lt-ltb, le-ltb, le-leb, lt-leb, eq-eqb, ne-eqb}
 use Rattle.part.proofs.Facts.{compared}
 use Rattle.image.specs.Bits.{bitOf, putBit, withBit, gathered}
-use Rattle.image.proofs.Bits.{put-same, put-other, put-small, gathered-small, gathered-bit, gathered-same, gathered-own, tabulate-length, tabulate-at}
+use Rattle.image.proofs.Bits.{put-same, put-other, put-small, gathered-small, gathered-bit, gathered-same, gathered-own}
 use Rattle.jedec.specs.Rules.{Listed, endOf, misplaced, stateGiven, within, imageWith}
+use Rattle.jedec.proofs.States.{placed, image-length, image-at, within-small}
 use Rattle.jedec_image.specs.States.{withState, withStates, lastEnd}
-
-pub image-length : (fuses : ℕ) (f : ℕ → ℕ) → length (imageWith fuses f) ≡ (fuses + 7) / 8
-unfolding imageWith
-image-length fuses f = tabulate-length ((fuses + 7) / 8) _
-
-image-at : (fuses : ℕ) (f : ℕ → ℕ) (i : ℕ) → i < (fuses + 7) / 8 → getD (imageWith fuses f) i 0 ≡ gathered (λ bit. within fuses f (i * 8 + bit)) 8
-unfolding imageWith
-image-at fuses f i h = tabulate-at ((fuses + 7) / 8) _ i h
 
 -- two images are one where each byte is gathered from like bits
 image-is : (fuses : ℕ) (f : ℕ → ℕ) (bytes : List ℕ) → length bytes ≡ (fuses + 7) / 8
@@ -95,9 +88,6 @@ abbrev changed : (ℕ → ℕ) → (fuse state : ℕ) → ℕ → ℕ
 changed f fuse s k = cond (eqb k fuse) s (f k)
 
 module _ (fuses : ℕ) (f : ℕ → ℕ) (small : (k : ℕ) → f k < 2) where
-  within-small : (k : ℕ) → within fuses f k < 2
-  within-small k = compared k fuses (λ l. rw (lt-ltb k fuses l) (small k)) (λ m. rw (le-ltb k fuses m) (omega arith))
-
   put-state : (fuse s : ℕ) → fuse < fuses → s < 2 → withState (imageWith fuses f) fuse s ≡ imageWith fuses (changed f fuse s)
   unfolding withState withBit
   put-state fuse s l m =
@@ -111,7 +101,7 @@ module _ (fuses : ℕ) (f : ℕ → ℕ) (small : (k : ℕ) → f k < 2) where
           ≡ gathered (λ b. within fuses (changed f fuse s) (i * 8 + b)) 8
       byte i h (yes e) =
           rw (e, getD-set-same (imageWith fuses f) (fuse / 8) (putBit (getD (imageWith fuses f) (fuse / 8) 0) (fuse % 8) s) 0 (rw (image-length fuses f) inside), image-at fuses f (fuse / 8) inside)
-          (gathered-put (λ b. within fuses f (fuse / 8 * 8 + b)) (λ b. within-small (fuse / 8 * 8 + b)) (fuse % 8) s (omega arith) m
+          (gathered-put (λ b. within fuses f (fuse / 8 * 8 + b)) (λ b. within-small fuses f small (fuse / 8 * 8 + b)) (fuse % 8) s (omega arith) m
           ∙ gathered-same _ _ 8 (λ b lb. here b (ℕ-discrete b (fuse % 8))))
         where
           here : (b : ℕ) → Dec (b ≡ fuse % 8) → cond (eqb b (fuse % 8)) s (within fuses f (fuse / 8 * 8 + b)) ≡ within fuses (changed f fuse s) (fuse / 8 * 8 + b)
@@ -200,18 +190,6 @@ module _ (fuses : ℕ) (l : Listed) where
           → cond t (some (a .at)) (misplaced fuses (endOf a) (lists ++ (l ∷ []))) ≡ cond (ltb (l .first) (lastEnd (endOf a) lists) || ltb fuses (endOf l)) (some (l .at)) none
       go true ih h = let z : _≡_ {A = ℕ} 0 1 = cc in absurd (omega arith)
       go false ih h = ih h
-
--- what is known of the first of several L fields in their places
-pub placed : (fuses end : ℕ) (a : Listed) (lists : List Listed) → misplaced fuses end (a ∷ lists) ≡ none
-    → (end ≤ a .first) × (endOf a ≤ fuses) × (misplaced fuses (endOf a) lists ≡ none)
-unfolding misplaced
-placed fuses end a lists e =
-    compared (a .first) end
-    (λ l. let bad : some (a .at) ≡ none = rw (lt-ltb (a .first) end l) at e in let z : _≡_ {A = ℕ} 0 1 = cc in absurd (omega arith))
-    (λ g.
-    compared fuses (endOf a)
-    (λ l. let bad : some (a .at) ≡ none = rw (le-ltb (a .first) end g, lt-ltb fuses (endOf a) l) at e in let z : _≡_ {A = ℕ} 0 1 = cc in absurd (omega arith))
-    (λ h. (g, h, rw (le-ltb (a .first) end g, le-ltb fuses (endOf a) h) at e)))
 
 ends-rise : (fuses end : ℕ) (lists : List Listed) → misplaced fuses end lists ≡ none → end ≤ lastEnd end lists
 unfolding lastEnd

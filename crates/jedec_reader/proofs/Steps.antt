@@ -20,7 +20,8 @@ use Rattle.jedec_fields.specs.declared.FieldSays.{FieldSays}
 use Rattle.jedec_fields.specs.declared.FieldSays.the-variants as says
 use Rattle.jedec_image.specs.States.{withState, withStates, lastEnd}
 use Rattle.jedec_image.proofs.Puts.{written-bits}
-use Rattle.jedec_image.proofs.Images.{image-length, Holds, start-holds, put-listed, last-more, still-misplaced, now-misplaced}
+use Rattle.jedec.proofs.States.{image-length}
+use Rattle.jedec_image.proofs.Images.{Holds, start-holds, put-listed, last-more, still-misplaced, now-misplaced}
 use Rattle.jedec_reader.specs.Progress.{seenOf, mayStand, misplacedAfter, afterField, putField, PutFits, Given}
 use Rattle.jedec_reader.specs.declared.internal.Seen.{Seen}
 use Rattle.jedec_reader.specs.declared.internal.Seen.the-variants as seen

@@ -2,6 +2,7 @@
 -- Assumes nothing.
 pub mod Facts
 pub mod Tables
+pub mod Sums
 pub mod Rows
 pub mod Fuses
 pub mod Addresses

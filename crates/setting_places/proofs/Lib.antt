@@ -3,5 +3,4 @@
 pub mod Places
 pub mod OnFuses
 pub mod Laws
-pub mod Sums
 pub mod Unnamed

@@ -34,7 +34,7 @@ use Rattle.setting_places.specs.Unnamed.{oneIfNone, unnamedBelow, Unname
 use Rattle.setting_places.specs.declared.internal.Candidate.{Candidate}
 use Rattle.setting_places.proofs.Places.{has-place}
 use Rattle.setting_places.proofs.Laws.{listed, left-inverse}
-use Rattle.setting_places.proofs.Sums.{sum, sum-same, sum-all, sum-add, sum-first, sum-times}
+use Rattle.part.proofs.Sums.{sum, sum-same, sum-all, sum-add, sum-first, sum-times}
 
 -- Whether a place of a main area is this one: its block, and the rest of it
 abbrev ofBlock : ℕ → BytePlace → Bool

@@ -7,7 +7,7 @@ use Prim.Native.Nat.{ℕ, suc}
 use Rattle.part.specs.Outcome.Outcome.{accepted}
 use Rattle.part.specs.declared.Device.{Device}
 use Rattle.part.specs.Cases.{twoSmall}
-use Rattle.settings.specs.declared.Polarity.the-variants.{P, N}
+use Rattle.settings.specs.declared.Polarity.the-variants.{P}
 use Rattle.settings.specs.declared.MacrocellField.the-variants.{Alloc, Inv, ImportUpAlloc, ImportDownAlloc, ExportDir, SumHp, IobOeMux, OeMux, OutMux, ClkMux, RegMode, RstMux, SetMux, Init, UimOeMux, UimOutInv, IobGnd, IobSlew, Hp}
 use Rattle.settings.specs.declared.BlockField.the-variants.{Enable, ExportEnable, PullupDisable, ReadProtA, ReadProtB, WriteProt}
 use Rattle.settings.specs.declared.GlobalField.the-variants.{FsrInv, FclkInv, FoeInv, FclkMux, FoeMux, Usercode}

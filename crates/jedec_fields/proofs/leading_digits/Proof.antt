@@ -1,7 +1,6 @@
 -- `leading_digits` meets its contract: the number that the digits so far write.
 -- Assumes nothing.
 use Prim.Native.Nat.{_-_}
-use lib.ListN.{length}
 use Rattle.jedec_fields.proofs.Runs.{Leads, leads-start, leads-there, leads-falls, leads-room, leads-sum, leads-on, leads-stop, leads-end}
 use borrow.Author.Needs.{needs}
 use Rattle.jedec_fields.proofs.leading_digits.Statement.{statement}

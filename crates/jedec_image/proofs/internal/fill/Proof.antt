@@ -8,7 +8,8 @@ use native.Mathlib.Numerals.{add-one}
 use lib.ListN.{length, getD, set, take, length-set}
 use lib.Seq.{take-all, take-suc, take-suc-set}
 use Rattle.jedec.specs.Rules.{stateGiven, imageWith}
-use Rattle.jedec_image.proofs.Images.{image-length, start-byte}
+use Rattle.jedec.proofs.States.{image-length}
+use Rattle.jedec_image.proofs.Images.{start-byte}
 use borrow.Author.Needs.{needs}
 use Rattle.jedec_image.proofs.internal.fill.Statement.{statement}
 use Rattle.jedec_image.proofs.internal.fill.Tie as tie

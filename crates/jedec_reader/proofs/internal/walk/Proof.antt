@@ -21,7 +21,8 @@ use Rattle.jedec_fields.specs.declared.NextSays.{NextSays}
 use Rattle.jedec_fields.specs.declared.NextSays.the-variants as next-says
 use Rattle.jedec_fields.specs.declared.Next.the-variants as next
 use Rattle.jedec_image.specs.States.{lastEnd}
-use Rattle.jedec_image.proofs.Images.{image-length, start-holds}
+use Rattle.jedec.proofs.States.{image-length}
+use Rattle.jedec_image.proofs.Images.{start-holds}
 use Rattle.jedec_reader.specs.Progress.{mayStand, Few, afterField, putField, PutFits, Given, Reads}
 use Rattle.jedec_reader.specs.declared.internal.Seen.the-variants as seen
 use Rattle.jedec_reader.specs.declared.internal.Noted.the-variants as noted

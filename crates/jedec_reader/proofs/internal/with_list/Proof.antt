@@ -5,7 +5,6 @@ use mathlib.Core.Bool.{true}
 use Prim.Native.Nat.{ℕ, _+_}
 use Rattle.jedec_reader.specs.Progress.{misplacedAfter, withList}
 use Rattle.jedec_reader.specs.declared.internal.Seen.{Seen}
-use Rattle.jedec_reader.specs.declared.internal.Seen.the-variants as seen
 use Rattle.jedec_reader.specs.declared.internal.Progress.{Progress}
 use borrow.Author.Needs.{needs}
 use Rattle.jedec_reader.proofs.internal.with_list.Statement.{statement}
