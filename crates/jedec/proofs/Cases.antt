@@ -47,8 +47,8 @@ unfolding meaning concluded pieces blanksBefore fieldsFrom holdsMark tailFrom un
 accepted-texts = rw (all-ones, only-first, first-of-three, all-zeros, all-but-first, only-last)
 
 pub refused-texts : AllHold refusedTexts
-unfolding meaning concluded pieces blanksBefore fieldsFrom holdsMark tailFrom unbroken statesIn listIn judge allFields misplaced digitsRead numberIn sumIn byteSum sum16 imageWith tabulate gathered stateGiven
-refused-texts = refl
+unfolding meaning concluded pieces blanksBefore fieldsFrom holdsMark tailFrom unbroken statesIn listIn judge allFields misplaced digitsRead numberIn sumIn byteSum sum16
+refused-texts = rw all-ones
 
 pub written-text : WrittenText
 unfolding textWith upToEtx linesText columnsText statesText digitsOf sum16 byteSum state bitAt total
