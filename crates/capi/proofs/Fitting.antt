@@ -19,7 +19,7 @@ use Rattle.part.specs.Place.{widthOf, fuseOfPlace, placeOfFuse, addressOfByte, 
 use Rattle.part.specs.Convert.{addressOfFuse, fuseOfAddress}
 use Rattle.part.specs.declared.Device.{Device}
 use Rattle.part.proofs.Facts.{and-iff, by-cases}
-use Rattle.part.proofs.Devices.{by-count, known-count, fuses-small}
+use Rattle.part.proofs.Devices.{fuses-small}
 use Rattle.part.proofs.Laws.{at-valid, each-address, width-small}
 use Rattle.image.specs.Image.{sum16, zerosBelow, fuseSum, zeroCount}
 use Rattle.image.proofs.Bits.{gathered-small}
@@ -38,6 +38,7 @@ use Rattle.setting_bits.proofs.Steps.{bytes-between, bits-few, state-small}
 use Rattle.setting_bits.proofs.Edits.{fuse-below}
 use Rattle.jedec.specs.Meaning.{meaning}
 use Rattle.jedec.proofs.Laws.{values-small}
+use Rattle.jedec_writer.proofs.Laws.{text-few}
 use Rattle.jedec_writer.specs.Pattern.{toText}
 use Rattle.jedec_reader.specs.Reader.{verdict, toImageFromText}
 use Rattle.edit.specs.Edit.{strayIn, ifClean}
@@ -112,9 +113,7 @@ module _ (d : Device) where
       by-cases (Fits nothing) (firstStray d readout) (readoutBytes d) (λ l. (omega arith, omega (arith, bytes-between d inReadout k))) (λ g. omega arith))))
 
   text-small : known d ≡ true → textBytes d < 2 ^ 56
-  unfolding textBytes fuseCount
-  text-small k =
-      by-count (λ n. textBytes (record { blocks = n; class = d .class }) < 2 ^ 56) (omega arith) (omega arith) (omega arith) (omega arith) (omega arith) (omega arith) (d .blocks) (known-count d k)
+  text-small k = omega (arith, text-few d k)
 
   image-to-text : (image : List ℕ) (room : ℕ) → Fits itself (toText d image room)
   unfolding toText

@@ -10,7 +10,7 @@ use part::NumberAnswer;
 use readout::DoneAnswer;
 use settings::SettingNumber;
 
-pub mod internal;
+mod internal;
 
 // The pattern of a setting in an image, by its number. Refused: 1, 2, 4.
 pub fn read_pattern_in_image(d: Device, image: &[u8], number: SettingNumber) -> NumberAnswer

@@ -6,7 +6,7 @@ use part::Device;
 use part::Refusal;
 use readout::DoneAnswer;
 
-pub mod internal;
+mod internal;
 
 // The image that a text describes, put into `image`. Refused: 1, 2, 7 to 11. The image is made in room of its own for the largest, since a
 // refusal changes no byte.

@@ -81,7 +81,7 @@ device-image d image k size bytes =
     }
 
 -- no text of a device is too long to be read
-text-few : (d : Device) → known d ≡ true → textBytes d ≤ longest
+pub text-few : (d : Device) → known d ≡ true → textBytes d ≤ longest
 unfolding textBytes fuseCount
 text-few d k =
     by-count (λ n. textBytes (record { blocks = n; class = d .class }) ≤ longest) (omega arith) (omega arith) (omega arith) (omega arith) (omega arith) (omega arith) (d .blocks) (known-count d k)

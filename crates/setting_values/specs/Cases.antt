@@ -3,10 +3,11 @@
 use mathlib.Core.Path.{_≡_}
 use mathlib.Core.Bool.{true, false}
 use mathlib.Core.List.{List, [], _∷_, map}
-use Prim.Native.Nat.{ℕ, suc}
+use Prim.Native.Nat.{ℕ}
 use Rattle.part.specs.Outcome.Outcome.{accepted}
 use Rattle.part.specs.declared.Device.{Device}
 use Rattle.part.specs.Cases.{twoSmall}
+use Rattle.settings.specs.Cases.{numbersFrom}
 use Rattle.settings.specs.declared.Polarity.the-variants.{P}
 use Rattle.settings.specs.declared.MacrocellField.the-variants.{Alloc, Inv, ImportUpAlloc, ImportDownAlloc, ExportDir, SumHp, IobOeMux, OeMux, OutMux, ClkMux, RegMode, RstMux, SetMux, Init, UimOeMux, UimOutInv, IobGnd, IobSlew, Hp}
 use Rattle.settings.specs.declared.BlockField.the-variants.{Enable, ExportEnable, PullupDisable, ReadProtA, ReadProtB, WriteProt}
@@ -38,15 +39,11 @@ pub record Case : Type 0 where
 abbrev pub means : Setting → List Value → Case
 means s values = record { setting = s; values = values }
 
-abbrev pub patternsFrom : ℕ → List Value → List ℕ
-patternsFrom first [] = []
-patternsFrom first (v ∷ values) = first ∷ patternsFrom (suc first) values
-
 -- each pattern is its value, and each value has its pattern
 abbrev pub AllHold : Device → List Case → Type 0
 AllHold d cases =
-    (map (λ (c : Case). map (valueOfPattern d (c .setting)) (patternsFrom 0 (c .values))) cases ≡ map (λ (c : Case). map (λ (v : Value). accepted v) (c .values)) cases)
-    × (map (λ (c : Case). map (patternOfValue d (c .setting)) (c .values)) cases ≡ map (λ (c : Case). map (λ (k : ℕ). accepted k) (patternsFrom 0 (c .values))) cases)
+    (map (λ (c : Case). map (valueOfPattern d (c .setting)) (numbersFrom 0 (c .values))) cases ≡ map (λ (c : Case). map (λ (v : Value). accepted v) (c .values)) cases)
+    × (map (λ (c : Case). map (patternOfValue d (c .setting)) (c .values)) cases ≡ map (λ (c : Case). map (λ (k : ℕ). accepted k) (numbersFrom 0 (c .values))) cases)
 
 -- true at 0
 abbrev pub flag : List Value

@@ -42,9 +42,10 @@ pub record Run : Type 0 where
 abbrev pub from : ℕ → List Setting → Run
 from first settings = record { first = first; settings = settings }
 
-abbrev pub numbersFrom : ℕ → List Setting → List ℕ
+-- as many numbers as a list is long, one after another
+abbrev pub numbersFrom : {A : Type 0} → ℕ → List A → List ℕ
 numbersFrom first [] = []
-numbersFrom first (s ∷ settings) = first ∷ numbersFrom (suc first) settings
+numbersFrom first (x ∷ list) = first ∷ numbersFrom (suc first) list
 
 -- each has its number, and each number is its setting's
 abbrev pub AllHold : Device → List Run → Type 0
