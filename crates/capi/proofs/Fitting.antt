@@ -43,7 +43,7 @@ use Rattle.jedec_writer.specs.Pattern.{toText}
 use Rattle.jedec_reader.specs.Reader.{verdict, toImageFromText}
 use Rattle.edit.specs.Edit.{strayIn, ifClean}
 use Rattle.edit_by_number.specs.ByNumber.{readPattern, setPattern}
-use Rattle.capi.specs.Packed.{addressAndBit, itself, nothing, settingAndBit, through, Fits, FitsOrNone}
+use Rattle.capi.specs.Packed.{addressAndBit, itself, noResult, settingAndBit, through, WordFits, WordFitsOrNone}
 use Rattle.capi.specs.Words.{EachFits}
 
 -- what holds of the answer where a test fails, and of the one where it passes
@@ -55,12 +55,12 @@ chosen P t {a} {b} wrong right = go t refl
     go false e = wrong
 
 module _ (d : Device) where
-  address-of-fuse : (fuse : ℕ) → Fits addressAndBit (addressOfFuse d fuse)
+  address-of-fuse : (fuse : ℕ) → WordFits addressAndBit (addressOfFuse d fuse)
   unfolding addressOfFuse
   address-of-fuse fuse =
-      chosen (Fits addressAndBit) (known d) (omega arith, omega arith)
+      chosen (WordFits addressAndBit) (known d) (omega arith, omega arith)
       (λ k.
-      by-cases (Fits addressAndBit) fuse (fuseCount d)
+      by-cases (WordFits addressAndBit) fuse (fuseCount d)
       (λ l.
       let place = placeOfFuse d fuse in
       let at : addressOfFuse d fuse ≡ accepted (addressOfByte (place .byte), place .bit) = rw (k, lt-ltb fuse (fuseCount d) l) in
@@ -68,12 +68,12 @@ module _ (d : Device) where
       omega (arith, its .1, its .2, width-small (byteOfAddress (addressOfByte (place .byte)))))
       (λ g. (omega arith, omega arith)))
 
-  fuse-of-address : (address bit : ℕ) → Fits itself (fuseOfAddress d address bit)
+  fuse-of-address : (address bit : ℕ) → WordFits itself (fuseOfAddress d address bit)
   unfolding fuseOfAddress
   fuse-of-address address bit =
-      chosen (Fits itself) (known d) (omega arith, omega arith)
+      chosen (WordFits itself) (known d) (omega arith, omega arith)
       (λ k.
-      chosen (Fits itself) (valid d address && ltb bit (widthOf (byteOfAddress address))) (omega arith, omega arith)
+      chosen (WordFits itself) (valid d address && ltb bit (widthOf (byteOfAddress address))) (omega arith, omega arith)
       (λ e.
       let both = and-iff (valid d address) _ .0 e in
       let its = each-address d k address bit (both .0) (ltb-true _ _ (both .1)) in
@@ -81,72 +81,72 @@ module _ (d : Device) where
       let same : fuseOfPlace d (record { byte = byteOfAddress address; bit = bit }) ≡ its .0 = cc (its .2) in
       omega (arith, its .1, fuses-small d k)))
 
-  fuse-sum : (image : List ℕ) → Fits itself (fuseSum d image)
+  fuse-sum : (image : List ℕ) → WordFits itself (fuseSum d image)
   unfolding fuseSum sum16
-  fuse-sum image = chosen (Fits itself) (known d) (omega arith, omega arith) (λ k. chosen (Fits itself) (eqb (length image) (imageBytes d)) (omega arith, omega arith) (λ e. omega arith))
+  fuse-sum image = chosen (WordFits itself) (known d) (omega arith, omega arith) (λ k. chosen (WordFits itself) (eqb (length image) (imageBytes d)) (omega arith, omega arith) (λ e. omega arith))
 
   zeros-few : (image : List ℕ) (n : ℕ) → zerosBelow image n ≤ n
   unfolding zerosBelow
   zeros-few image zero = omega arith
   zeros-few image (suc n) = omega (arith, zeros-few image n)
 
-  zero-count : (image : List ℕ) → Fits itself (zeroCount d image)
+  zero-count : (image : List ℕ) → WordFits itself (zeroCount d image)
   unfolding zeroCount
   zero-count image =
-      chosen (Fits itself) (known d) (omega arith, omega arith) (λ k. chosen (Fits itself) (eqb (length image) (imageBytes d)) (omega arith, omega arith) (λ e. omega (arith, zeros-few image (fuseCount d), fuses-small d k)))
+      chosen (WordFits itself) (known d) (omega arith, omega arith) (λ k. chosen (WordFits itself) (eqb (length image) (imageBytes d)) (omega arith, omega arith) (λ e. omega (arith, zeros-few image (fuseCount d), fuses-small d k)))
 
-  image-to-readout : (image target : List ℕ) → Fits nothing (toReadout d image target)
+  image-to-readout : (image target : List ℕ) → WordFits noResult (toReadout d image target)
   unfolding toReadout
   image-to-readout image target =
-      chosen (Fits nothing) (known d) (omega arith, omega arith)
-      (λ k. chosen (Fits nothing) (eqb (length image) (imageBytes d)) (omega arith, omega arith) (λ e. chosen (Fits nothing) (eqb (length target) (readoutBytes d)) (omega arith, omega arith) (λ f. omega arith)))
+      chosen (WordFits noResult) (known d) (omega arith, omega arith)
+      (λ k. chosen (WordFits noResult) (eqb (length image) (imageBytes d)) (omega arith, omega arith) (λ e. chosen (WordFits noResult) (eqb (length target) (readoutBytes d)) (omega arith, omega arith) (λ f. omega arith)))
 
-  readout-to-image : (readout target : List ℕ) → Fits nothing (toImage d readout target)
+  readout-to-image : (readout target : List ℕ) → WordFits noResult (toImage d readout target)
   unfolding toImage
   readout-to-image readout target =
-      chosen (Fits nothing) (known d) (omega arith, omega arith)
+      chosen (WordFits noResult) (known d) (omega arith, omega arith)
       (λ k.
-      chosen (Fits nothing) (eqb (length readout) (readoutBytes d)) (omega arith, omega arith)
+      chosen (WordFits noResult) (eqb (length readout) (readoutBytes d)) (omega arith, omega arith)
       (λ e.
-      chosen (Fits nothing) (eqb (length target) (imageBytes d)) (omega arith, omega arith)
+      chosen (WordFits noResult) (eqb (length target) (imageBytes d)) (omega arith, omega arith)
       (λ f.
-      by-cases (Fits nothing) (firstStray d readout) (readoutBytes d) (λ l. (omega arith, omega (arith, bytes-between d inReadout k))) (λ g. omega arith))))
+      by-cases (WordFits noResult) (firstStray d readout) (readoutBytes d) (λ l. (omega arith, omega (arith, bytes-between d inReadout k))) (λ g. omega arith))))
 
   text-small : known d ≡ true → textBytes d < 2 ^ 56
   text-small k = omega (arith, text-few d k)
 
-  image-to-text : (image : List ℕ) (room : ℕ) → Fits itself (toText d image room)
+  image-to-text : (image : List ℕ) (room : ℕ) → WordFits itself (toText d image room)
   unfolding toText
   image-to-text image room =
-      chosen (Fits itself) (known d) (omega arith, omega arith)
-      (λ k. chosen (Fits itself) (eqb (length image) (imageBytes d)) (omega arith, omega arith) (λ e. by-cases (Fits itself) room (textBytes d) (λ l. (omega arith, text-small k)) (λ g. text-small k)))
+      chosen (WordFits itself) (known d) (omega arith, omega arith)
+      (λ k. chosen (WordFits itself) (eqb (length image) (imageBytes d)) (omega arith, omega arith) (λ e. by-cases (WordFits itself) room (textBytes d) (λ l. (omega arith, text-small k)) (λ g. text-small k)))
 
-  of-meaning : (text : List ℕ) (o : Outcome (List ℕ)) → meaning (fuseCount d) text ≡ o → Fits nothing (verdict o)
+  of-meaning : (text : List ℕ) (o : Outcome (List ℕ)) → meaning (fuseCount d) text ≡ o → WordFits noResult (verdict o)
   of-meaning text (accepted image) e = omega arith
   of-meaning text (refused number value) e = let its = values-small (fuseCount d) text number value e in (omega (arith, its .0), omega (arith, its .2))
 
-  text-to-image : (text target : List ℕ) → Fits nothing (toImageFromText d text target)
+  text-to-image : (text target : List ℕ) → WordFits noResult (toImageFromText d text target)
   unfolding toImageFromText
   text-to-image text target =
-      chosen (Fits nothing) (known d) (omega arith, omega arith) (λ k. chosen (Fits nothing) (eqb (length target) (imageBytes d)) (omega arith, omega arith) (λ e. of-meaning text (meaning (fuseCount d) text) refl))
+      chosen (WordFits noResult) (known d) (omega arith, omega arith) (λ k. chosen (WordFits noResult) (eqb (length target) (imageBytes d)) (omega arith, omega arith) (λ e. of-meaning text (meaning (fuseCount d) text) refl))
 
-  setting-count : Fits itself (countOfSettings d)
+  setting-count : WordFits itself (countOfSettings d)
   unfolding countOfSettings
-  setting-count = chosen (Fits itself) (known d) (omega arith, omega arith) (λ k. omega (arith, count-small d k))
+  setting-count = chosen (WordFits itself) (known d) (omega arith, omega arith) (λ k. omega (arith, count-small d k))
 
-  fuse-of-bit : (s : Setting) (bit : ℕ) → FitsOrNone itself (fuseOfBit d s bit)
+  fuse-of-bit : (s : Setting) (bit : ℕ) → WordFitsOrNone itself (fuseOfBit d s bit)
   unfolding fuseOfBit
   fuse-of-bit s bit =
-      chosen (FitsOrNone itself) (known d) (omega arith, omega arith)
+      chosen (WordFitsOrNone itself) (known d) (omega arith, omega arith)
       (λ k.
-      chosen (FitsOrNone itself) (hasSetting d s) (omega arith, omega arith)
+      chosen (WordFitsOrNone itself) (hasSetting d s) (omega arith, omega arith)
       (λ h.
-      by-cases (λ (o : Option ℕ). FitsOrNone itself (accepted o)) bit (bitsOf s)
+      by-cases (λ (o : Option ℕ). WordFitsOrNone itself (accepted o)) bit (bitsOf s)
       (λ l. omega (arith, fuse-below d k s h bit l, fuses-small d k))
       (λ g. tt)))
 
   abbrev ThroughFits : (bit : ℕ) → Outcome Setting → Type 0
-  ThroughFits bit o = FitsOrNone itself (through o (λ s. fuseOfBit d s bit))
+  ThroughFits bit o = WordFitsOrNone itself (through o (λ s. fuseOfBit d s bit))
 
   setting-fuse : (setting bit : ℕ) → ThroughFits bit (settingOfNumber d setting)
   unfolding settingOfNumber
@@ -154,17 +154,17 @@ module _ (d : Device) where
       chosen (ThroughFits bit) (known d) (omega arith, omega arith)
       (λ k. by-cases (ThroughFits bit) setting (countOf d) (λ l. fuse-of-bit (settingOf d setting) bit) (λ g. (omega arith, omega arith)))
 
-  named : known d ≡ true → (fuse : ℕ) (o : Option (Setting × ℕ)) → settingAt d fuse ≡ o → FitsOrNone (settingAndBit d) (accepted o)
+  named : known d ≡ true → (fuse : ℕ) (o : Option (Setting × ℕ)) → settingAt d fuse ≡ o → WordFitsOrNone (settingAndBit d) (accepted o)
   named k fuse none e = tt
   named k fuse (some (s, bit)) e =
       let both = and-iff (hasSetting d s) (ltb bit (bitsOf s)) .0 (sound d k fuse s bit e .0) in
       omega (arith, number-below d s (both .0), count-small d k, ltb-true bit (bitsOf s) (both .1), bits-few d s (both .0))
 
-  setting-at-fuse : (fuse : ℕ) → FitsOrNone (settingAndBit d) (settingAtFuse d fuse)
+  setting-at-fuse : (fuse : ℕ) → WordFitsOrNone (settingAndBit d) (settingAtFuse d fuse)
   unfolding settingAtFuse
   setting-at-fuse fuse =
-      chosen (FitsOrNone (settingAndBit d)) (known d) (omega arith, omega arith)
-      (λ k. by-cases (FitsOrNone (settingAndBit d)) fuse (fuseCount d) (λ l. named k fuse (settingAt d fuse) refl) (λ g. (omega arith, omega arith)))
+      chosen (WordFitsOrNone (settingAndBit d)) (known d) (omega arith, omega arith)
+      (λ k. by-cases (WordFitsOrNone (settingAndBit d)) fuse (fuseCount d) (λ l. named k fuse (settingAt d fuse) refl) (λ g. (omega arith, omega arith)))
 
   -- by number: refusals 1, 2, 4, and then 6 with an index below the length
   module _ (form : Bool) (bytes : List ℕ) (setting : ℕ) where
@@ -174,30 +174,30 @@ module _ (d : Device) where
         let s = settingOf d setting in
         lt-of-lt-of-le (gathered-small (λ b. stateOf d form bytes (fuseOf d s b)) (λ b. state-small d form bytes (fuseOf d s b)) (bitsOf s)) (pow-mono {j = 56} (omega (arith, bits-few d s (number-again d setting l .0))))
 
-    if-clean : {A : Type 0} (result : A → ℕ) (answer : Outcome A) → known d ≡ true → Fits result answer → Fits result (ifClean d form bytes (settingOf d setting) answer)
+    if-clean : {A : Type 0} (result : A → ℕ) (answer : Outcome A) → known d ≡ true → WordFits result answer → WordFits result (ifClean d form bytes (settingOf d setting) answer)
     if-clean result answer k fits =
-        by-cases (Fits result) (strayIn d form bytes (settingOf d setting)) (bytesOf d form) (λ l. (omega arith, omega (arith, bytes-between d form k))) (λ g. fits)
+        by-cases (WordFits result) (strayIn d form bytes (settingOf d setting)) (bytesOf d form) (λ l. (omega arith, omega (arith, bytes-between d form k))) (λ g. fits)
 
-    read : Fits itself (readPattern d form bytes setting)
+    read : WordFits itself (readPattern d form bytes setting)
     unfolding readPattern
     read =
-        chosen (Fits itself) (known d) (omega arith, omega arith)
+        chosen (WordFits itself) (known d) (omega arith, omega arith)
         (λ k.
-        chosen (Fits itself) (eqb (length bytes) (bytesOf d form)) (omega arith, omega arith)
+        chosen (WordFits itself) (eqb (length bytes) (bytesOf d form)) (omega arith, omega arith)
         (λ e.
-        by-cases (Fits itself) setting (countOf d)
+        by-cases (WordFits itself) setting (countOf d)
         (λ l. if-clean itself (accepted (patternAt d form bytes (settingOf d setting))) k (pattern-small l))
         (λ g. (omega arith, omega arith))))
 
-    set : (pattern : ℕ) → Fits nothing (setPattern d form bytes setting pattern)
+    set : (pattern : ℕ) → WordFits noResult (setPattern d form bytes setting pattern)
     unfolding setPattern
     set pattern =
-        chosen (Fits nothing) (known d) (omega arith, omega arith)
+        chosen (WordFits noResult) (known d) (omega arith, omega arith)
         (λ k.
-        chosen (Fits nothing) (eqb (length bytes) (bytesOf d form)) (omega arith, omega arith)
+        chosen (WordFits noResult) (eqb (length bytes) (bytesOf d form)) (omega arith, omega arith)
         (λ e.
-        by-cases (Fits nothing) setting (countOf d)
-        (λ l. by-cases (Fits nothing) pattern (2 ^ bitsOf (settingOf d setting)) (λ m. if-clean nothing (accepted tt) k (omega arith)) (λ g. (omega arith, omega arith)))
+        by-cases (WordFits noResult) setting (countOf d)
+        (λ l. by-cases (WordFits noResult) pattern (2 ^ bitsOf (settingOf d setting)) (λ m. if-clean noResult (accepted tt) k (omega arith)) (λ g. (omega arith, omega arith)))
         (λ g. (omega arith, omega arith))))
 
 pub each-fits : EachFits

@@ -13,27 +13,27 @@ use native.Mathlib.Omega.{arith}
 use lib.Pow.{high, low}
 use Rattle.part.specs.Outcome.{Outcome}
 use Rattle.part.specs.Outcome.Outcome.{accepted, refused}
-use Rattle.capi.specs.Packed.{packed, orNone, resultIn, Reads, Fits, FitsOrNone}
+use Rattle.capi.specs.Packed.{packed, orNone, resultIn, WordReads, WordFits, WordFitsOrNone}
 pub use Rattle.capi.proofs.Fitting.{each-fits}
 
 pub packed-same : {A : Type 0} (word : A → ℕ) {w : ℕ} {answer o : Outcome A} → w ≡ packed word answer → answer ≡ o → w ≡ packed word o
 packed-same word e f = e ∙ ap (packed word) f
 
-pub unpacked : {A : Type 0} (result : A → ℕ) (o : Outcome A) → Fits result o → Reads result o (packed result o)
+pub unpacked : {A : Type 0} (result : A → ℕ) (o : Outcome A) → WordFits result o → WordReads result o (packed result o)
 unpacked result (accepted x) h = (div-eq-of-lt h, mod-eq-of-lt h)
 unpacked result (refused number value) (positive, h) = let its = high number 56 h in (rw its positive, its, low number 56 h)
 
 module _ {A : Type 0} (result : A → ℕ) where
-  with-none : (o : Outcome (Option A)) → FitsOrNone result o → Fits (orNone result) o
+  with-none : (o : Outcome (Option A)) → WordFitsOrNone result o → WordFits (orNone result) o
   with-none (accepted none) h = omega arith
   with-none (accepted (some x)) h = omega arith
   with-none (refused number value) h = h
 
-  is-none : (x : Option A) → FitsOrNone result (accepted x) → (resultIn (packed (orNone result) (accepted x)) ≡ 2 ^ 56 - 1) ↔ (x ≡ none)
+  is-none : (x : Option A) → WordFitsOrNone result (accepted x) → (resultIn (packed (orNone result) (accepted x)) ≡ 2 ^ 56 - 1) ↔ (x ≡ none)
   is-none none h = (λ e. refl, λ e. refl)
   is-none (some x) h = (λ e. absurd (omega arith), λ e. let z : _≡_ {A = ℕ} 0 1 = cc in absurd (omega arith))
 
-  pub unpacked-none : (o : Outcome (Option A)) → FitsOrNone result o
-      → Reads (orNone result) o (packed (orNone result) o)
+  pub unpacked-none : (o : Outcome (Option A)) → WordFitsOrNone result o
+      → WordReads (orNone result) o (packed (orNone result) o)
       × ((x : Option A) → o ≡ accepted x → (resultIn (packed (orNone result) o) ≡ 2 ^ 56 - 1) ↔ (x ≡ none))
   unpacked-none o h = (unpacked (orNone result) o (with-none o h), λ x e. rw e (is-none x (rw e at h)))

@@ -29,8 +29,8 @@ abbrev pub itself : ℕ → ℕ
 itself x = x
 
 -- the result of a call that has none
-abbrev pub nothing : Unit {0} → ℕ
-nothing x = 0
+abbrev pub noResult : Unit {0} → ℕ
+noResult x = 0
 
 -- a result that there may not be: 2^56 - 1 where there is none
 abbrev pub orNone : {A : Type 0} → (A → ℕ) → Option A → ℕ
@@ -54,17 +54,17 @@ abbrev pub resultIn : (word : ℕ) → ℕ
 resultIn word = word % 2 ^ 56
 
 -- an accepted answer is read as refusal 0 and its result, a refused one as its number, which is not 0, and its value
-abbrev pub Reads : {A : Type 0} → (A → ℕ) → Outcome A → (word : ℕ) → Type 0
-Reads result (accepted x) word = (refusalIn word ≡ 0) × (resultIn word ≡ result x)
-Reads result (refused number value) word = (0 < refusalIn word) × (refusalIn word ≡ number) × (resultIn word ≡ value)
+abbrev pub WordReads : {A : Type 0} → (A → ℕ) → Outcome A → (word : ℕ) → Type 0
+WordReads result (accepted x) word = (refusalIn word ≡ 0) × (resultIn word ≡ result x)
+WordReads result (refused number value) word = (0 < refusalIn word) × (refusalIn word ≡ number) × (resultIn word ≡ value)
 
 -- where the result, or the value, has 56 bits, and no refusal has the number 0
-abbrev pub Fits : {A : Type 0} → (A → ℕ) → Outcome A → Type 0
-Fits result (accepted x) = result x < 2 ^ 56
-Fits result (refused number value) = (0 < number) × (value < 2 ^ 56)
+abbrev pub WordFits : {A : Type 0} → (A → ℕ) → Outcome A → Type 0
+WordFits result (accepted x) = result x < 2 ^ 56
+WordFits result (refused number value) = (0 < number) × (value < 2 ^ 56)
 
 -- .. and a result that there is is not the one that stands for none
-abbrev pub FitsOrNone : {A : Type 0} → (A → ℕ) → Outcome (Option A) → Type 0
-FitsOrNone result (accepted none) = Unit {0}
-FitsOrNone result (accepted (some x)) = result x < 2 ^ 56 - 1
-FitsOrNone result (refused number value) = (0 < number) × (value < 2 ^ 56)
+abbrev pub WordFitsOrNone : {A : Type 0} → (A → ℕ) → Outcome (Option A) → Type 0
+WordFitsOrNone result (accepted none) = Unit {0}
+WordFitsOrNone result (accepted (some x)) = result x < 2 ^ 56 - 1
+WordFitsOrNone result (refused number value) = (0 < number) × (value < 2 ^ 56)

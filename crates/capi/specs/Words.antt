@@ -12,19 +12,19 @@ use Rattle.setting_places.specs.Operations.{fuseOfBit, settingAtFuse}
 use Rattle.jedec_writer.specs.Pattern.{toText}
 use Rattle.jedec_reader.specs.Reader.{toImageFromText}
 use Rattle.edit_by_number.specs.ByNumber.{readPattern, setPattern}
-use Rattle.capi.specs.Packed.{addressAndBit, itself, nothing, settingAndBit, through, Fits, FitsOrNone}
+use Rattle.capi.specs.Packed.{addressAndBit, itself, noResult, settingAndBit, through, WordFits, WordFitsOrNone}
 
 pub record EachFits : Type 0 where
-  pub address-of-fuse : (d : Device) (fuse : ℕ) → Fits addressAndBit (addressOfFuse d fuse)
-  pub fuse-of-address : (d : Device) (address bit : ℕ) → Fits itself (fuseOfAddress d address bit)
-  pub fuse-sum : (d : Device) (image : List ℕ) → Fits itself (fuseSum d image)
-  pub zero-count : (d : Device) (image : List ℕ) → Fits itself (zeroCount d image)
-  pub image-to-readout : (d : Device) (image target : List ℕ) → Fits nothing (toReadout d image target)
-  pub readout-to-image : (d : Device) (readout target : List ℕ) → Fits nothing (toImage d readout target)
-  pub image-to-text : (d : Device) (image : List ℕ) (room : ℕ) → Fits itself (toText d image room)
-  pub text-to-image : (d : Device) (text target : List ℕ) → Fits nothing (toImageFromText d text target)
-  pub setting-count : (d : Device) → Fits itself (countOfSettings d)
-  pub setting-fuse : (d : Device) (setting bit : ℕ) → FitsOrNone itself (through (settingOfNumber d setting) (λ s. fuseOfBit d s bit))
-  pub setting-at-fuse : (d : Device) (fuse : ℕ) → FitsOrNone (settingAndBit d) (settingAtFuse d fuse)
-  pub read : (d : Device) (form : Bool) (bytes : List ℕ) (setting : ℕ) → Fits itself (readPattern d form bytes setting)
-  pub set : (d : Device) (form : Bool) (bytes : List ℕ) (setting pattern : ℕ) → Fits nothing (setPattern d form bytes setting pattern)
+  pub address-of-fuse : (d : Device) (fuse : ℕ) → WordFits addressAndBit (addressOfFuse d fuse)
+  pub fuse-of-address : (d : Device) (address bit : ℕ) → WordFits itself (fuseOfAddress d address bit)
+  pub fuse-sum : (d : Device) (image : List ℕ) → WordFits itself (fuseSum d image)
+  pub zero-count : (d : Device) (image : List ℕ) → WordFits itself (zeroCount d image)
+  pub image-to-readout : (d : Device) (image target : List ℕ) → WordFits noResult (toReadout d image target)
+  pub readout-to-image : (d : Device) (readout target : List ℕ) → WordFits noResult (toImage d readout target)
+  pub image-to-text : (d : Device) (image : List ℕ) (room : ℕ) → WordFits itself (toText d image room)
+  pub text-to-image : (d : Device) (text target : List ℕ) → WordFits noResult (toImageFromText d text target)
+  pub setting-count : (d : Device) → WordFits itself (countOfSettings d)
+  pub setting-fuse : (d : Device) (setting bit : ℕ) → WordFitsOrNone itself (through (settingOfNumber d setting) (λ s. fuseOfBit d s bit))
+  pub setting-at-fuse : (d : Device) (fuse : ℕ) → WordFitsOrNone (settingAndBit d) (settingAtFuse d fuse)
+  pub read : (d : Device) (form : Bool) (bytes : List ℕ) (setting : ℕ) → WordFits itself (readPattern d form bytes setting)
+  pub set : (d : Device) (form : Bool) (bytes : List ℕ) (setting pattern : ℕ) → WordFits noResult (setPattern d form bytes setting pattern)

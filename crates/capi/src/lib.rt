@@ -2,7 +2,7 @@
 // Each function only calls its library function and packs the answer: specs/Packed.antt says how.
 ghost use mathlib.Core.Path.{_≡_};
 ghost use lib.ListN.{length};
-ghost use Rattle.part.specs.Answer.{number, value, addressOutcome, fuseOutcome, numberOutcome};
+ghost use Rattle.part.specs.Answer.{refusalNumber, refusalValue, addressOutcome, fuseOutcome, numberOutcome};
 ghost use Rattle.part.specs.Convert.{addressOfFuse, fuseOfAddress};
 ghost use Rattle.image.specs.Image.{fuseSum, zeroCount};
 ghost use Rattle.readout.specs.Readout.{doneOutcome, written, toReadout, readoutOf, toImage, imageOf};
@@ -13,7 +13,7 @@ ghost use Rattle.jedec_writer.specs.Pattern.{toText, withText};
 ghost use Rattle.jedec_reader.specs.Reader.{toImageFromText, imageIn};
 ghost use Rattle.setting_bits.specs.SettingBits.{inImage, inReadout};
 ghost use Rattle.edit_by_number.specs.ByNumber.{readPattern, setPattern, withNumbered};
-ghost use Rattle.capi.specs.Packed.{packed, refusalWord, device, addressAndBit, itself, nothing, orNone, settingAndBit, through};
+ghost use Rattle.capi.specs.Packed.{packed, refusalWord, device, addressAndBit, itself, noResult, orNone, settingAndBit, through};
 use part::AddressAnswer;
 use part::Device;
 use part::DeviceAddress;
@@ -33,7 +33,7 @@ const BIT_56: u64 = 1 << 56;
 const NO_RESULT: u64 = BIT_56 - 1;
 
 fn refusal_word(r: Refusal) -> u64
-    ensures { λ w. ⌜ w ≡ refusalWord (number r) (value r) ⌝ }
+    ensures { λ w. ⌜ w ≡ refusalWord (refusalNumber r) (refusalValue r) ⌝ }
 {
     part::refusal_number(r) as u64 * BIT_56 + part::refusal_value(r) as u64
 }
@@ -67,7 +67,7 @@ fn number_word(answer: NumberAnswer) -> u64
 }
 
 fn done_word(answer: DoneAnswer) -> u64
-    ensures { λ w. ⌜ w ≡ packed nothing (doneOutcome answer) ⌝ }
+    ensures { λ w. ⌜ w ≡ packed noResult (doneOutcome answer) ⌝ }
 {
     match answer {
         DoneAnswer::Done => 0,
@@ -125,7 +125,7 @@ pub extern "C" fn xc9500_image_to_readout(
     image: &[u8],
     readout: &mut [u8],
 ) -> u64
-    ensures { λ w. ⌜ w ≡ packed nothing (toReadout (device blocks class) (now (image .entry)) (now (readout .entry))) ⌝ }
+    ensures { λ w. ⌜ w ≡ packed noResult (toReadout (device blocks class) (now (image .entry)) (now (readout .entry))) ⌝ }
     ensures { λ _. ⌜ now (readout .exit) ≡ written (toReadout (device blocks class) (now (image .entry)) (now (readout .entry))) (readoutOf (device blocks class) (now (image .entry))) (now (readout .entry)) ⌝ }
 {
     done_word(readout::image_to_readout(Device { blocks, class }, image, readout))
@@ -139,7 +139,7 @@ pub extern "C" fn xc9500_readout_to_image(
     readout: &[u8],
     image: &mut [u8],
 ) -> u64
-    ensures { λ w. ⌜ w ≡ packed nothing (toImage (device blocks class) (now (readout .entry)) (now (image .entry))) ⌝ }
+    ensures { λ w. ⌜ w ≡ packed noResult (toImage (device blocks class) (now (readout .entry)) (now (image .entry))) ⌝ }
     ensures { λ _. ⌜ now (image .exit) ≡ written (toImage (device blocks class) (now (readout .entry)) (now (image .entry))) (imageOf (device blocks class) (now (readout .entry))) (now (image .entry)) ⌝ }
 {
     done_word(readout::readout_to_image(Device { blocks, class }, readout, image))
@@ -167,7 +167,7 @@ pub extern "C" fn xc9500_text_to_image(
     text: &[u8],
     image: &mut [u8],
 ) -> u64
-    ensures { λ w. ⌜ w ≡ packed nothing (toImageFromText (device blocks class) (now (text .entry)) (now (image .entry))) ⌝ }
+    ensures { λ w. ⌜ w ≡ packed noResult (toImageFromText (device blocks class) (now (text .entry)) (now (image .entry))) ⌝ }
     ensures { λ _. ⌜ now (image .exit) ≡ written (toImageFromText (device blocks class) (now (text .entry)) (now (image .entry))) (imageIn (device blocks class) (now (text .entry))) (now (image .entry)) ⌝ }
 {
     done_word(jedec_reader::text_to_image(Device { blocks, class }, text, image))
@@ -232,7 +232,7 @@ pub extern "C" fn xc9500_set_in_image(
     setting: u32,
     pattern: u32,
 ) -> u64
-    ensures { λ w. ⌜ w ≡ packed nothing (setPattern (device blocks class) inImage (now (image .entry)) setting pattern) ⌝ }
+    ensures { λ w. ⌜ w ≡ packed noResult (setPattern (device blocks class) inImage (now (image .entry)) setting pattern) ⌝ }
     ensures { λ _. ⌜ now (image .exit) ≡ written (setPattern (device blocks class) inImage (now (image .entry)) setting pattern) (withNumbered (device blocks class) inImage (now (image .entry)) setting pattern) (now (image .entry)) ⌝ }
 {
     let d = Device { blocks, class };
@@ -265,7 +265,7 @@ pub extern "C" fn xc9500_set_in_readout(
     setting: u32,
     pattern: u32,
 ) -> u64
-    ensures { λ w. ⌜ w ≡ packed nothing (setPattern (device blocks class) inReadout (now (readout .entry)) setting pattern) ⌝ }
+    ensures { λ w. ⌜ w ≡ packed noResult (setPattern (device blocks class) inReadout (now (readout .entry)) setting pattern) ⌝ }
     ensures { λ _. ⌜ now (readout .exit) ≡ written (setPattern (device blocks class) inReadout (now (readout .entry)) setting pattern) (withNumbered (device blocks class) inReadout (now (readout .entry)) setting pattern) (now (readout .entry)) ⌝ }
 {
     let d = Device { blocks, class };

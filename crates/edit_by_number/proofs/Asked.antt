@@ -40,11 +40,11 @@ module _ (d : Device) (form : Bool) (bytes : List ℕ) (size : ℕ) (e : size �
   stray-fits stray k l = record { fits = omega (arith, its-size, bytes-between d form k) }
 
 -- what setting must give: the outcome's answer, and the bytes that go with it
-abbrev pub Given : Device → Bool → List ℕ → (x pattern : ℕ) → Outcome (Unit {0}) → List ℕ → Type 0
-Given d form bytes x pattern answer after = Written (setPattern d form bytes x pattern) answer (withNumbered d form bytes x pattern) bytes after
+abbrev pub PatternGives : Device → Bool → List ℕ → (x pattern : ℕ) → Outcome (Unit {0}) → List ℕ → Type 0
+PatternGives d form bytes x pattern answer after = Written (setPattern d form bytes x pattern) answer (withNumbered d form bytes x pattern) bytes after
 
 pub refusal : (d : Device) (form : Bool) (bytes : List ℕ) (x pattern n v : ℕ) → refused n v ≡ setPattern d form bytes x pattern
-    → Given d form bytes x pattern (refused n v) bytes
+    → PatternGives d form bytes x pattern (refused n v) bytes
 refusal d form bytes x pattern n v e = says (setPattern d form bytes x pattern) (refused n v) (withNumbered d form bytes x pattern) bytes e
 
 -- for a device, a length and a number that there are
@@ -62,20 +62,20 @@ module _ (d : Device) (form : Bool) (bytes : List ℕ) (x : ℕ) (k : known d �
         rw (k, eq-eqb (length bytes) (bytesOf d form) n, lt-ltb x (countOf d) l, ← g, q, le-ltb stray (bytesOf d form) (omega (arith, n)), w)
 
   module _ (pattern : ℕ) where
-    pub sets-none : ltb pattern (2 ^ bitsOf s) ≡ false → Given d form bytes x pattern (refused 5 0) bytes
+    pub sets-none : ltb pattern (2 ^ bitsOf s) ≡ false → PatternGives d form bytes x pattern (refused 5 0) bytes
     unfolding setPattern
     sets-none t =
         refusal d form bytes x pattern 5 0
         (rw (k, eq-eqb (length bytes) (bytesOf d form) n, lt-ltb x (countOf d) l, ← g, t))
 
     module _ (t : ltb pattern (2 ^ bitsOf s) ≡ true) (stray : ℕ) (q : strayIn d form bytes s ≡ stray) where
-      pub sets-stray : stray < length bytes → Given d form bytes x pattern (refused 6 stray) bytes
+      pub sets-stray : stray < length bytes → PatternGives d form bytes x pattern (refused 6 stray) bytes
       unfolding setPattern
       sets-stray m =
           refusal d form bytes x pattern 6 stray
           (rw (k, eq-eqb (length bytes) (bytesOf d form) n, lt-ltb x (countOf d) l, ← g, t, q, lt-ltb stray (bytesOf d form) (omega (arith, n))))
 
-      pub sets-clean : (after : List ℕ) → length bytes ≤ stray → after ≡ withPattern d form bytes s pattern → Given d form bytes x pattern (accepted tt) after
+      pub sets-clean : (after : List ℕ) → length bytes ≤ stray → after ≡ withPattern d form bytes s pattern → PatternGives d form bytes x pattern (accepted tt) after
       unfolding setPattern withNumbered
       sets-clean after m z =
           let same : accepted tt ≡ setPattern d form bytes x pattern =

@@ -30,7 +30,7 @@ use Rattle.setting_bits.proofs.Steps.{bytes-between, bit-small}
 use Rattle.setting_bits.proofs.Strays.{one-stray}
 use Rattle.edit.specs.Edit.{strayIn}
 use Rattle.edit_by_number.specs.ByNumber.{readPattern}
-use Rattle.edit_by_number.proofs.Asked.{Given, reads-stray, reads-clean, sets-none, sets-stray, sets-clean}
+use Rattle.edit_by_number.proofs.Asked.{PatternGives, reads-stray, reads-clean, sets-none, sets-stray, sets-clean}
 
 -- a bit above the width of the byte of a setting of one bit, in a readout
 stray-of-one : (d : Device) (form : Bool) (bytes : List ℕ) (s : Setting) → known d ≡ true → hasSetting d s ≡ true → bitsOf s ≡ 1
@@ -55,7 +55,7 @@ module _ (d : Device) (x : ℕ) (l : x < start d wireAnds) where
   bit-0 = omega (arith, one-bit)
 
   pub not-two : (form : Bool) (bytes : List ℕ) (pattern : ℕ) → known d ≡ true → length bytes ≡ bytesOf d form → 1 < pattern
-      → Given d form bytes x pattern (refused 5 0) bytes
+      → PatternGives d form bytes x pattern (refused 5 0) bytes
   not-two form bytes pattern k n m =
       let over : 2 ≤ pattern = omega arith in
       sets-none d form bytes x k n number-there (settingOf d x) refl pattern (rw one-bit (le-ltb pattern 2 over))
@@ -121,10 +121,10 @@ module _ (d : Device) (x : ℕ) (l : x < start d wireAnds) (k : known d ≡ true
     fits : ltb pattern (2 ^ bitsOf (settingOf d x)) ≡ true
     fits = rw (one-bit d x l) (lt-ltb pattern 2 (omega arith))
 
-    pub set-stray : t ≡ true → Given d form bytes x pattern (refused 6 index) bytes
+    pub set-stray : t ≡ true → PatternGives d form bytes x pattern (refused 6 index) bytes
     set-stray s = sets-stray d form bytes x k n (number-there d x l) (settingOf d x) refl pattern fits index (stray-if true s) there
 
-    pub set-state : (after : List ℕ) → t ≡ false → after ≡ withBit bytes index bit pattern → Given d form bytes x pattern (accepted tt) after
+    pub set-state : (after : List ℕ) → t ≡ false → after ≡ withBit bytes index bit pattern → PatternGives d form bytes x pattern (accepted tt) after
     set-state after s g =
         sets-clean d form bytes x k n (number-there d x l) (settingOf d x) refl pattern fits (bytesOf d form) (stray-if false s)
         after (omega (arith, n)) (its-bytes pattern after low g)

@@ -21,7 +21,7 @@ use Rattle.setting_bits.proofs.Strays.{of-global, none-stray}
 use Rattle.setting_bits.proofs.Usercode.{usercode}
 use Rattle.edit.specs.Edit.{strayIn}
 use Rattle.edit_by_number.specs.ByNumber.{readPattern}
-use Rattle.edit_by_number.proofs.Asked.{Given, reads-clean, sets-clean}
+use Rattle.edit_by_number.proofs.Asked.{PatternGives, reads-clean, sets-clean}
 
 pub has-usercode : (d : Device) → hasSetting d usercode ≡ true
 unfolding hasSetting
@@ -44,7 +44,7 @@ module _ (d : Device) (form : Bool) (bytes : List ℕ) (x count size last : ℕ)
       reads-clean d form bytes x k (m ∙ e) (omega arith) usercode its (bytesOf d form) (clean d form bytes k (m ∙ e) small) p (omega (arith, m)) w
 
   pub sets-code : (pattern : ℕ) (after : List ℕ) → pattern < 2 ^ 32 → after ≡ withPattern d form bytes usercode pattern
-      → Given d form bytes x pattern (accepted tt) after
+      → PatternGives d form bytes x pattern (accepted tt) after
   unfolding bitsOf
   sets-code pattern after fits w =
       sets-clean d form bytes x k (m ∙ e) (omega arith) usercode its pattern (lt-ltb pattern (2 ^ 32) fits) (bytesOf d form)

@@ -15,7 +15,7 @@ use Rattle.jedec.specs.Cut.{startsWith, pieces, blanksBefore, fieldsFrom
 use Rattle.jedec.specs.Judge.{unbroken, statesIn, listIn, judge}
 use Rattle.jedec.specs.Rules.{allFields, misplaced, stateGiven, imageWith}
 use Rattle.jedec.specs.Meaning.{meaning, concluded}
-use Rattle.jedec.specs.Written.{statesText, columnsText, linesText, upToEtx, textWith}
+use Rattle.jedec.specs.WrittenText.{statesText, columnsText, linesText, upToEtx, textWith}
 use Rattle.jedec.specs.Cases.{AllHold, acceptedTexts, refusedTexts, allOnes, allZeros, onlyFirst, allButFirst, onlyLast, WrittenText}
 
 pub all-ones : imageWith 18144 (stateGiven 1 []) ≡ allOnes

@@ -18,7 +18,7 @@ use Rattle.image.specs.Image.{sum16}
 use Rattle.jedec.specs.Characters.{stx}
 use Rattle.jedec.specs.Cut.{pieces, startsWith, fieldsFrom, holdsMark, Tail, tailFrom}
 use Rattle.jedec.specs.Cut.Tail.{given, wrong}
-use Rattle.jedec.specs.Rules.{At, Known, nothing, Fields, allFields, wrongCount, misplaced, finished}
+use Rattle.jedec.specs.Rules.{At, Known, nothingKnown, Fields, allFields, wrongCount, misplaced, finished}
 use Rattle.jedec.specs.Rules.Fields.{known, badAt}
 use Rattle.jedec.specs.Meaning.{longest, unless, wrongSum, wrongTransmission, concluded, withTail, withEnd, withFields, ofPieces, meaning}
 use Rattle.jedec.specs.Form.{Concluded, Accepted}
@@ -140,7 +140,7 @@ module _ (fuses : ℕ) (text image : List ℕ) where
   of-pieces short stx-there (design ∷ ended) w e =
       let good = passed (holdsMark (drop 1 design)) 7 1 _ image e in
       let cut = fieldsFrom (length design + 1) ended (pieces text .rest) in
-      let r = of-fields (cut .end) (allFields nothing (cut .fields)) (good .1) in
+      let r = of-fields (cut .end) (allFields nothingKnown (cut .fields)) (good .1) in
       record {
         not-long = short;
         begins = stx-there;

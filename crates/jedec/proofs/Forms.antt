@@ -16,7 +16,7 @@ use Rattle.part.proofs.Facts.{and-iff}
 use Rattle.jedec.specs.Characters.{stx, etx, star, isBlank, andThen, hexValue, digitsRead, sumIn}
 use Rattle.jedec.specs.Cut.{pieces, tailFrom, fieldsFrom}
 use Rattle.jedec.specs.Cut.Tail.{given}
-use Rattle.jedec.specs.Rules.{Known, nothing, allFields}
+use Rattle.jedec.specs.Rules.{Known, nothingKnown, allFields}
 use Rattle.jedec.specs.Rules.Fields.{known}
 use Rattle.jedec.specs.Meaning.{longest, meaning}
 use Rattle.jedec.specs.Form.{all, notStar, Part, partsText, fieldsOf, headOf, assembled, RightForm, firstAt, etxAt, Concluded}
@@ -107,7 +107,7 @@ module _ (design : List ℕ) (parts : List Part) (gap digits blanks : List ℕ) 
       )
 
   pub assembled-accepted : (fuses : ℕ) (image : List ℕ) (k : Known) → length (assembled design parts gap digits blanks) ≤ longest
-      → allFields nothing (fieldsOf (firstAt design) parts) ≡ known k
+      → allFields nothingKnown (fieldsOf (firstAt design) parts) ≡ known k
       → Concluded fuses (assembled design parts gap digits blanks) image (etxAt design parts gap) sum k
       → meaning fuses (assembled design parts gap digits blanks) ≡ accepted image
   unfolding text

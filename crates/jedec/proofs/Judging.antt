@@ -21,7 +21,7 @@ use Rattle.jedec.specs.Characters.{letterC, letterF, letterL, letterQ, i
 use Rattle.jedec.specs.Cut.{holdsMark}
 use Rattle.jedec.specs.Judge.{Judged, byLetters, unbroken, statesIn, listFrom, listIn, judge}
 use Rattle.jedec.specs.Judge.Judged.{count, start, list, sum}
-use Rattle.jedec.specs.Written.{statesText, columnsText}
+use Rattle.jedec.specs.WrittenText.{statesText, columnsText}
 use Rattle.jedec.specs.Form.{all, notStar}
 use Rattle.jedec.proofs.Numbers.{digits-length, seven-back, count-back, sum-back}
 use Rattle.jedec.proofs.Cutting.{all-append}

@@ -18,7 +18,7 @@ use Rattle.jedec.specs.Cut.{onFirst, pieces, blanksBefore, Field, Cut, s
 use Rattle.jedec.specs.Cut.Tail.{given, wrong}
 use Rattle.jedec.specs.Judge.{Judged, judge}
 use Rattle.jedec.specs.Judge.Judged.{count, start, list, sum, skipped, bad}
-use Rattle.jedec.specs.Rules.{At, Listed, Known, nothing, inOrder, after, Fields, allFields, wrongCount, endOf, misplaced, finished}
+use Rattle.jedec.specs.Rules.{At, Listed, Known, nothingKnown, inOrder, after, Fields, allFields, wrongCount, endOf, misplaced, finished}
 use Rattle.jedec.specs.Rules.Fields.{known, badAt}
 use Rattle.jedec.specs.Meaning.{longest, unless, wrongSum, concluded, withTail, withEnd, withFields, ofCut, ofPieces, meaning}
 
@@ -189,7 +189,7 @@ module _ (fuses : ℕ) (text : List ℕ) (h : length text ≤ longest) where
 
   cut-then : (cut : Cut) → CutSmall cut → Small (ofCut fuses text cut)
   cut-then cut s =
-      fields-then (cut .end) (allFields nothing (cut .fields)) (fields-small (cut .fields) nothing (record { count = tt; lists = tt; sum = tt }) (s .starts)) (s .end)
+      fields-then (cut .end) (allFields nothingKnown (cut .fields)) (fields-small (cut .fields) nothingKnown (record { count = tt; lists = tt; sum = tt }) (s .starts)) (s .end)
 
   pieces-small : (ended : List (List ℕ)) (rest : List ℕ) → size ended + length rest ≡ length text → Small (ofPieces fuses text ended rest)
   unfolding size

@@ -21,10 +21,10 @@ use Rattle.jedec.specs.Characters.{stx, etx, lf, star, letterC, letterF,
 use Rattle.jedec.specs.Cut.{Field, holdsMark}
 use Rattle.jedec.specs.Judge.{Judged, judge}
 use Rattle.jedec.specs.Judge.Judged.{count, start, sum}
-use Rattle.jedec.specs.Rules.{At, Listed, Known, nothing, inOrder, after, allFields, endOf, misplaced, stateGiven, within, imageWith}
+use Rattle.jedec.specs.Rules.{At, Listed, Known, nothingKnown, inOrder, after, allFields, endOf, misplaced, stateGiven, within, imageWith}
 use Rattle.jedec.specs.Rules.Fields.{known}
 use Rattle.jedec.specs.Meaning.{longest, meaning}
-use Rattle.jedec.specs.Written.{lineEnd, linesText, patternFuses, NoneEmpty, footText, upToEtx, textWith}
+use Rattle.jedec.specs.WrittenText.{lineEnd, linesText, patternFuses, NoneEmpty, footText, upToEtx, textWith}
 use Rattle.jedec.specs.Form as form
 use Rattle.jedec.specs.Form.{all, Part, RightPart, RightParts, partsText, next, fieldsOf, headOf, assembled, RightForm, firstAt, etxAt, Concluded, Image}
 use Rattle.jedec.proofs.Numbers.{sum-back}
@@ -255,13 +255,13 @@ module _ (fuses : ℕ) (pattern : List (List ℕ)) (image : List ℕ) (few : fus
         sum = some (record { at = form.endOf lines-at (lineParts image 0 pattern) + 1; value = sum16 image });
       }
 
-  fields-read : allFields nothing (fieldsOf (firstAt []) parts) ≡ known gives
+  fields-read : allFields nothingKnown (fieldsOf (firstAt []) parts) ≡ known gives
   unfolding parts writtenParts fieldsOf part allFields knownWith gives lists q lines-at count-part start-part sum16
   fields-read =
       let sum-part = part (letterC ∷ fourHex (sum16 image)) in
       let others = lineParts image 0 pattern ++ (sum-part ∷ []) in
       let counted : Known = record { count = some q; start = none; lists = []; sum = none } in
-      read-one nothing 3 (letterQ ∷ letterF ∷ countDigits fuses) (fieldsOf (next 2 count-part) (start-part ∷ others)) (count fuses) (count-judged fuses few) refl
+      read-one nothingKnown 3 (letterQ ∷ letterF ∷ countDigits fuses) (fieldsOf (next 2 count-part) (start-part ∷ others)) (count fuses) (count-judged fuses few) refl
       ∙ read-one counted (next 2 count-part + 1) (letterF ∷ decimalDigit 0 ∷ []) (fieldsOf lines-at others) (start 0) start-judged refl
       ∙ lines-read q image lines-at 0 pattern [] (sum-part ∷ []) none-empty (omega (arith, every-fuse))
       ∙ read-one (knownWith q lists) (form.endOf lines-at (lineParts image 0 pattern) + 1) (letterC ∷ fourHex (sum16 image)) [] (sum (sum16 image)) (sum-judged (sum16 image) (mod-lt _ (omega arith))) refl

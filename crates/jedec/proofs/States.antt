@@ -19,7 +19,7 @@ use Rattle.jedec.specs.Characters.{isBlank, andThen, numberIn, sumIn, le
 use Rattle.jedec.specs.Cut.{Field, holdsMark}
 use Rattle.jedec.specs.Judge.{Judged, orBad, startIn, unbroken, before, statesIn, statesFrom, listIn, afterQ, byLetters, judge}
 use Rattle.jedec.specs.Judge.Judged.{count, start, list, sum, skipped, bad}
-use Rattle.jedec.specs.Rules.{Listed, Known, nothing, inOrder, after, Fields, allFields, endOf, misplaced, startState, stateGiven, within, imageWith, finished}
+use Rattle.jedec.specs.Rules.{Listed, Known, nothingKnown, inOrder, after, Fields, allFields, endOf, misplaced, startState, stateGiven, within, imageWith, finished}
 use Rattle.jedec.specs.Rules.Fields.{known, badAt}
 use Rattle.jedec.specs.Form.{InPlace, Each, Outside, Gives, Image, Described}
 use Rattle.jedec.proofs.Places.{chosen}
@@ -237,10 +237,10 @@ module _ (fuses : ℕ) (states : ℕ → ℕ) (bits : (fuse : ℕ) → states fu
         no-more = λ fuse past. state-given fuse ∙ rw (le-ltb fuse fuses past);
       }
 
-module _ (fuses : ℕ) (fields : List Field) (k : Known) (in-order : allFields nothing fields ≡ known k) (in-place : InPlace fuses 0 (k .lists)) where
+module _ (fuses : ℕ) (fields : List Field) (k : Known) (in-order : allFields nothingKnown fields ≡ known k) (in-place : InPlace fuses 0 (k .lists)) where
   bits : (fuse : ℕ) → stateGiven (startState (k .start)) (k .lists) fuse < 2
   bits =
-      let b : KnownBits k = subst FieldsBits in-order (fields-bits fields nothing (record { start = omega arith; lists = tt })) in
+      let b : KnownBits k = subst FieldsBits in-order (fields-bits fields nothingKnown (record { start = omega arith; lists = tt })) in
       given-bit (startState (k .start)) (k .lists) (b .start) (b .lists)
 
   is-given : (fuse : ℕ) → fuse < fuses → state (finished fuses k) fuse ≡ stateGiven (startState (k .start)) (k .lists) fuse

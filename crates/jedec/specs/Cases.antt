@@ -9,7 +9,7 @@ use Rattle.part.specs.Outcome.{Outcome}
 use Rattle.part.specs.Outcome.Outcome.{accepted, refused}
 use Rattle.jedec.specs.Characters.{stx, etx, lf}
 use Rattle.jedec.specs.Meaning.{meaning}
-use Rattle.jedec.specs.Written.{textWith}
+use Rattle.jedec.specs.WrittenText.{textWith}
 use Rattle.jedec.specs.Quoted.{chars}
 
 -- a text, and what it means

@@ -12,7 +12,7 @@ use Rattle.image.specs.Image.{state, sum16}
 use Rattle.jedec.specs.Characters.{stx, etx, star, isBlank, sumIn}
 use Rattle.jedec.specs.Cut.{pieces, Field, startsWith, fieldsFrom, holdsMark, tailFrom}
 use Rattle.jedec.specs.Cut.Tail.{given}
-use Rattle.jedec.specs.Rules.{At, Listed, Known, nothing, allFields, misplaced, startState, finished}
+use Rattle.jedec.specs.Rules.{At, Listed, Known, nothingKnown, allFields, misplaced, startState, finished}
 use Rattle.jedec.specs.Rules.Fields.{known}
 use Rattle.jedec.specs.Meaning.{longest}
 
@@ -103,7 +103,7 @@ pub record Accepted (fuses : ℕ) (text image : List ℕ) : Type 0 where
   pub its-pieces : pieces text .ended ≡ design ∷ ended
   pub good-design : holdsMark (drop 1 design) ≡ false
   pub gives : Known
-  pub good-fields : allFields nothing (fieldsFrom (length design + 1) ended (pieces text .rest) .fields) ≡ known gives
+  pub good-fields : allFields nothingKnown (fieldsFrom (length design + 1) ended (pieces text .rest) .fields) ≡ known gives
   pub end : ℕ
   pub has-end : fieldsFrom (length design + 1) ended (pieces text .rest) .end ≡ some end
   pub sum : ℕ

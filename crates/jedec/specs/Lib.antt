@@ -5,7 +5,7 @@ pub mod Cut
 pub mod Judge
 pub mod Rules
 pub mod Meaning
-pub mod Written
+pub mod WrittenText
 pub mod Form
 pub mod Quoted
 pub mod Cases

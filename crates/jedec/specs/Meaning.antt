@@ -13,7 +13,7 @@ use Rattle.image.specs.Image.{sum16}
 use Rattle.jedec.specs.Characters.{stx}
 use Rattle.jedec.specs.Cut.{pieces, Cut, startsWith, fieldsFrom, holdsMark, Tail, tailFrom}
 use Rattle.jedec.specs.Cut.Tail.{given, wrong}
-use Rattle.jedec.specs.Rules.{At, Known, nothing, Fields, allFields, wrongCount, misplaced, finished}
+use Rattle.jedec.specs.Rules.{At, Known, nothingKnown, Fields, allFields, wrongCount, misplaced, finished}
 use Rattle.jedec.specs.Rules.Fields.{known, badAt}
 
 -- "text over 1,048,576 bytes"
@@ -55,7 +55,7 @@ withFields fuses text end (badAt at) = refused 7 at
 withFields fuses text end (known k) = withEnd fuses text k end
 
 abbrev pub ofCut : (fuses : ℕ) → (text : List ℕ) → Cut → Outcome (List ℕ)
-ofCut fuses text cut = withFields fuses text (cut .end) (allFields nothing (cut .fields))
+ofCut fuses text cut = withFields fuses text (cut .end) (allFields nothingKnown (cut .fields))
 
 -- the design text starts at 1, after STX, and is no field
 abbrev pub ofPieces : (fuses : ℕ) → (text : List ℕ) → (ended : List (List ℕ)) → (rest : List ℕ) → Outcome (List ℕ)

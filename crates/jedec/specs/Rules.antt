@@ -30,8 +30,8 @@ pub record Known : Type 0 where
   pub lists : List Listed
   pub sum : Option At
 
-abbrev pub nothing : Known
-nothing = record { count = none; start = none; lists = []; sum = none }
+abbrev pub nothingKnown : Known
+nothingKnown = record { count = none; start = none; lists = []; sum = none }
 
 abbrev pub has : {A : Type 0} → Option A → Bool
 has none = false

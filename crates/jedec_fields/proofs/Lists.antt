@@ -25,8 +25,8 @@ use Rattle.jedec.specs.Judge.{Judged, unbroken, before, statesIn, statesFrom, l
 use mir.Syntax.{w8}
 use mir.Val.{Fits}
 use Rattle.jedec_runs.specs.Runs.{IsBlankAt, StatesAt}
-use Rattle.jedec_runs.proofs.Words.{Taken, taken-at, states-append, states-none, none-first, take-more}
-use Rattle.jedec_fields.specs.Fields.{DigitsStand, countOf, orEmpty, statesOf, RunStands, Says, untilStar, ListAt}
+use Rattle.jedec_runs.proofs.Words.{StatesTaken, taken-at, states-append, states-none, none-first, take-more}
+use Rattle.jedec_fields.specs.Fields.{DigitsStand, statesCount, orEmpty, statesOf, RunStands, Says, untilStar, ListAt}
 use Rattle.jedec_fields.specs.declared.LeadingDigits.{LeadingDigits}
 use Rattle.jedec_fields.specs.declared.StatesRun.{StatesRun}
 use Rattle.jedec_fields.specs.declared.FieldSays.the-variants.{List as ListSaid}
@@ -80,11 +80,11 @@ module _ (bytes : List ℕ) (d : LeadingDigits) (s : DigitsStand bytes d) where
       sym (s .reads) ∙ ap (digitsRead 10 decimalValue 0) (take-all (d .length) bytes (omega arith)) ∙ in-number bytes (omega arith) (omega (arith, s .few))
 
 -- states that a count speaks of
-pub none-counted : (o : Option (List ℕ)) → none ≡ countOf o → o ≡ none
+pub none-counted : (o : Option (List ℕ)) → none ≡ statesCount o → o ≡ none
 none-counted none e = refl
 none-counted (some states) e = let z : _≡_ {A = ℕ} 0 1 = cc in absurd (omega arith)
 
-pub some-counted : (o : Option (List ℕ)) (n : ℕ) → some n ≡ countOf o → (o ≡ some (orEmpty o)) × (length (orEmpty o) ≡ n)
+pub some-counted : (o : Option (List ℕ)) (n : ℕ) → some n ≡ statesCount o → (o ≡ some (orEmpty o)) × (length (orEmpty o) ≡ n)
 some-counted none n e = let z : _≡_ {A = ℕ} 0 1 = cc in absurd (omega arith)
 some-counted (some states) n e = let h : n ≡ length states = cc in (refl, sym h)
 
@@ -92,7 +92,7 @@ some-counted (some states) n e = let h : n ≡ length states = cc in (refl, sym 
 pub record Counts (bytes : List ℕ) (n i : ℕ) : Type 0 where
   pub upto : i ≤ length bytes
   pub few : n ≤ i
-  pub so-far : countOf (statesIn (take i bytes)) ≡ some n
+  pub so-far : statesCount (statesIn (take i bytes)) ≡ some n
 
 pub counts-start : (bytes : List ℕ) → Counts bytes 0 0
 unfolding statesIn
@@ -103,7 +103,7 @@ module _ (bytes : List ℕ) (n i : ℕ) (c : Counts bytes n i) where
   counted = some-counted (statesIn (take i bytes)) n (sym (c .so-far))
 
   module _ (count z : ℕ) (l : i < length bytes) (o : (k : ℕ) → Fits w8 (getD bytes k 0)) (there : StatesAt bytes i count) (blank : IsBlankAt bytes (i + count) z) where
-    s : Taken bytes i count (count + z)
+    s : StatesTaken bytes i count (count + z)
     s = taken-at bytes i count z l o there blank
 
     pub counts-stop : count + z ≡ 0 → RunStands bytes (record { length = i; count = n })
@@ -125,17 +125,17 @@ module _ (bytes : List ℕ) (n i : ℕ) (c : Counts bytes n i) where
         let next = cut (replicate count 1) bits in
         let all : statesIn (take (i + (count + z)) bytes) ≡ some (before ++ next) = ap statesIn (take-more i (count + z) bytes) ∙ states-append (take i bytes) (take (count + z) (drop i bytes)) before (counted .0) next (s .writes) in
         let long : length (before ++ next) ≡ n + count = length-append before next ∙ rw (counted .1, cut-length (replicate count 1) bits, length-replicate {A = ℕ} count 1) in
-        record { upto = s .inside; few = omega (arith, c .few); so-far = ap countOf all ∙ ap some long }
+        record { upto = s .inside; few = omega (arith, c .few); so-far = ap statesCount all ∙ ap some long }
 
   pub counts-end : length bytes ≤ i → RunStands bytes (record { length = i; count = n })
   counts-end l = record { inside = c .upto; few = c .few; writes = c .so-far; stops = λ m. absurd (omega arith) }
 
 -- all bytes, or some that are neither 0 nor 1 nor blanks
 module _ (bytes : List ℕ) (r : StatesRun) (s : RunStands bytes r) where
-  pub all-counted : r .length ≡ length bytes → some (r .count) ≡ countOf (statesIn bytes)
-  all-counted e = sym (s .writes) ∙ ap (λ (l : List ℕ). countOf (statesIn l)) (take-all (r .length) bytes (omega arith))
+  pub all-counted : r .length ≡ length bytes → some (r .count) ≡ statesCount (statesIn bytes)
+  all-counted e = sym (s .writes) ∙ ap (λ (l : List ℕ). statesCount (statesIn l)) (take-all (r .length) bytes (omega arith))
 
-  pub wrong-byte : (r .length ≡ length bytes → ⊥) → none ≡ countOf (statesIn bytes)
+  pub wrong-byte : (r .length ≡ length bytes → ⊥) → none ≡ statesCount (statesIn bytes)
   wrong-byte n = rw (none-first (suc (r .length)) bytes (s .stops (omega (arith, s .inside))))
 
 -- a number, a blank and states
@@ -146,7 +146,7 @@ full-list : (states : List ℕ) (first : ℕ) → (length states ≡ 0 → ⊥) 
 full-list [] first e = absurd (e refl)
 full-list (s ∷ states) first e = refl
 
-pub a-list : (bytes : List ℕ) (u first n : ℕ) → u ≡ unbroken bytes → u ≤ length bytes → some first ≡ numberIn (take u bytes) → some n ≡ countOf (statesIn (drop u bytes)) → (n ≡ 0 → ⊥)
+pub a-list : (bytes : List ℕ) (u first n : ℕ) → u ≡ unbroken bytes → u ≤ length bytes → some first ≡ numberIn (take u bytes) → some n ≡ statesCount (statesIn (drop u bytes)) → (n ≡ 0 → ⊥)
     → Says bytes (listIn bytes) (ListSaid first u n)
 unfolding listIn statesOf
 a-list bytes u first n e l f g z =
@@ -256,7 +256,7 @@ unbroken-take (b ∷ bytes) (suc k) l = go (isBlank b) refl l (unbroken-take byt
 
 -- a good L field
 list-found : (after : List ℕ) (skip first run n : ℕ) → skip ≡ unbroken after → skip ≤ length after → some first ≡ numberIn (take skip after)
-    → run ≤ length (drop skip after) → countOf (statesIn (take run (drop skip after))) ≡ some n → (skip + run ≡ length after → ⊥)
+    → run ≤ length (drop skip after) → statesCount (statesIn (take run (drop skip after))) ≡ some n → (skip + run ≡ length after → ⊥)
     → getD after (skip + run) 0 ≡ 42 → (n ≡ 0 → ⊥) → ListAt after first skip n (skip + run)
 unfolding untilStar holdsMark
 list-found after skip first run n e l f m g h s z =
@@ -339,7 +339,7 @@ module _ (after : List ℕ) (d : LeadingDigits) (s : DigitsStand after d) (some-
         let whole : after ≡ take u after ++ (getD after u 0 ∷ drop (u + 1) after) = sym (take-append-drop u after) ∙ ap (λ (l : List ℕ). take u after ++ l) blank-there in
         let u-is : u ≡ unbroken after = sym first-long ∙ sym (unbroken-digits (take u after) (drop (u + 1) after) 0 (d .value) (getD after u 0) (s .reads) is-blank) ∙ ap unbroken (sym whole) in
         let number : some (d .value) ≡ numberIn (take u after) = sym (s .reads) ∙ in-number (take u after) (omega arith) (omega (arith, s .few)) in
-        let counted-states : countOf (statesIn (take (suc (run .length)) (drop u after))) ≡ some (run .count) = rw (blank-there, blank-first (getD after u 0) (take (run .length) (drop (u + 1) after)) is-blank) (runs .writes) in
+        let counted-states : statesCount (statesIn (take (suc (run .length)) (drop u after))) ≡ some (run .count) = rw (blank-there, blank-first (getD after u 0) (take (run .length) (drop (u + 1) after)) is-blank) (runs .writes) in
         let room : suc (run .length) ≤ length (drop u after) = rw (length-drop u after) (omega (arith, run-inside)) in
         let found : ListAt after (d .value) u (run .count) (u + suc (run .length)) = list-found after u (d .value) (suc (run .length)) (run .count) u-is (s .inside) number room counted-states (rw long h) (rw long star) n in
         let found-there : ListAt after (d .value) u (run .count) (u + 1 + run .length) = rw long at found in

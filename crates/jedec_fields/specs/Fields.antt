@@ -35,9 +35,9 @@ abbrev pub valueOr : ℕ → Option ℕ → ℕ
 valueOr other none = other
 valueOr other (some x) = x
 
-abbrev pub numberOf : Digits → Option ℕ
-numberOf (digits.Number x) = some x
-numberOf digits.Wrong = none
+abbrev pub numberRead : Digits → Option ℕ
+numberRead (digits.Number x) = some x
+numberRead digits.Wrong = none
 
 -- the first bytes that are digits write a number, and are at most seven; fewer only before a byte that is no digit
 pub record DigitsStand (bytes : List ℕ) (r : LeadingDigits) : Type 0 where
@@ -47,13 +47,13 @@ pub record DigitsStand (bytes : List ℕ) (r : LeadingDigits) : Type 0 where
   pub stops : r .length < length bytes → r .length < 7 → decimalValue (getD bytes (r .length) 0) ≡ none
 
 -- how many states there are, if there are any; the states, or none
-abbrev pub countOf : Option (List ℕ) → Option ℕ
-countOf none = none
-countOf (some states) = some (length states)
+abbrev pub statesCount : Option (List ℕ) → Option ℕ
+statesCount none = none
+statesCount (some states) = some (length states)
 
-abbrev pub countIn : Counted → Option ℕ
-countIn (counted.States n) = some n
-countIn counted.Wrong = none
+abbrev pub countedStates : Counted → Option ℕ
+countedStates (counted.States n) = some n
+countedStates counted.Wrong = none
 
 abbrev pub orEmpty : Option (List ℕ) → List ℕ
 orEmpty none = []
@@ -66,7 +66,7 @@ statesOf bytes = orEmpty (statesIn bytes)
 pub record RunStands (bytes : List ℕ) (r : StatesRun) : Type 0 where
   pub inside : r .length ≤ length bytes
   pub few : r .count ≤ r .length
-  pub writes : countOf (statesIn (take (r .length) bytes)) ≡ some (r .count)
+  pub writes : statesCount (statesIn (take (r .length) bytes)) ≡ some (r .count)
   pub stops : r .length < length bytes → statesIn (take (suc (r .length)) bytes) ≡ none
 
 -- what an answer about a field says, with what follows the field's first letter
@@ -86,17 +86,17 @@ pub record ListFits (after : List ℕ) (skip number : ℕ) : Type 0 where
   pub few : number ≤ length after
   pub any : 0 < number
 
-abbrev pub Fits : (after : List ℕ) → FieldSays → Type 0
-Fits after (says.Count n) = Unit {0}
-Fits after (says.Start s) = s < 2
-Fits after (says.List first skip many) = ListFits after skip many
-Fits after (says.Sum x) = Unit {0}
-Fits after says.Skipped = Unit {0}
-Fits after says.Bad = Unit {0}
+abbrev pub SaysFits : (after : List ℕ) → FieldSays → Type 0
+SaysFits after (says.Count n) = Unit {0}
+SaysFits after (says.Start s) = s < 2
+SaysFits after (says.List first skip many) = ListFits after skip many
+SaysFits after (says.Sum x) = Unit {0}
+SaysFits after says.Skipped = Unit {0}
+SaysFits after says.Bad = Unit {0}
 
 pub record Says (after : List ℕ) (j : Judged) (r : FieldSays) : Type 0 where
   pub is : judgedAfter after r ≡ j
-  pub fits : Fits after r
+  pub fits : SaysFits after r
 
 -- how many bytes stand before the first `*`, or all
 unfoldable pub untilStar : List ℕ → ℕ

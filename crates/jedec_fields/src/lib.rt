@@ -9,7 +9,7 @@ ghost use Rattle.jedec.specs.Characters.{isMark, decimalValue, hexValue, number
 ghost use Rattle.jedec.specs.Cut.{holdsMark};
 ghost use Rattle.jedec.specs.Judge.Judged.{sum};
 ghost use Rattle.jedec.specs.Judge.{orBad, unbroken, statesIn, startIn, listIn, afterQ, byLetters};
-ghost use Rattle.jedec_fields.specs.Fields.{valueOr, numberOf, DigitsStand, countOf, countIn, RunStands, Says};
+ghost use Rattle.jedec_fields.specs.Fields.{valueOr, numberRead, DigitsStand, statesCount, countedStates, RunStands, Says};
 use jedec::is_blank;
 use jedec_runs::internal::blank_at;
 use jedec_runs::internal::states_at;
@@ -162,7 +162,7 @@ fn leading_digits(bytes: &[u8]) -> LeadingDigits
 
 // The number that 1 to 7 decimal digits write.
 fn number_in(bytes: &[u8]) -> Digits
-    ensures { λ r. ⌜ numberOf r ≡ numberIn (now (bytes .entry)) ⌝ }
+    ensures { λ r. ⌜ numberRead r ≡ numberIn (now (bytes .entry)) ⌝ }
 {
     let digits = leading_digits(bytes);
     if digits.length == 0 {
@@ -176,7 +176,7 @@ fn number_in(bytes: &[u8]) -> Digits
 
 // The number that four hex digits write.
 fn sum_in(bytes: &[u8]) -> Digits
-    ensures { λ r. ⌜ numberOf r ≡ sumIn (now (bytes .entry)) ⌝ }
+    ensures { λ r. ⌜ numberRead r ≡ sumIn (now (bytes .entry)) ⌝ }
 {
     if bytes.len() != 4 {
         return Digits::Wrong;
@@ -234,7 +234,7 @@ fn states_run(bytes: &[u8]) -> StatesRun
 
 // How many states some bytes write, if they hold nothing but 0, 1 and blanks.
 fn states_in(bytes: &[u8]) -> Counted
-    ensures { λ r. ⌜ countIn r ≡ countOf (statesIn (now (bytes .entry))) ⌝ }
+    ensures { λ r. ⌜ countedStates r ≡ statesCount (statesIn (now (bytes .entry))) ⌝ }
 {
     let run = states_run(bytes);
     if run.length == bytes.len() {

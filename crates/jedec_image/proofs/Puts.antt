@@ -28,11 +28,11 @@ use Rattle.jedec_fields.specs.Fields.{orEmpty, statesOf}
 use Rattle.jedec_image.specs.States.{withState, withStates}
 
 -- bytes that write states, all of them
-abbrev pub Written : List ℕ → Type 0
-Written bytes = statesIn bytes ≡ some (statesOf bytes)
+abbrev pub WritesStates : List ℕ → Type 0
+WritesStates bytes = statesIn bytes ≡ some (statesOf bytes)
 
-module _ (b : ℕ) (bytes : List ℕ) (w : Written (b ∷ bytes)) where
-  pub states-blank : isBlank b ≡ true → (statesOf (b ∷ bytes) ≡ statesOf bytes) × Written bytes
+module _ (b : ℕ) (bytes : List ℕ) (w : WritesStates (b ∷ bytes)) where
+  pub states-blank : isBlank b ≡ true → (statesOf (b ∷ bytes) ≡ statesOf bytes) × WritesStates bytes
   unfolding statesOf statesIn
   states-blank e = (rw e, rw e at w)
 
@@ -40,9 +40,9 @@ module _ (b : ℕ) (bytes : List ℕ) (w : Written (b ∷ bytes)) where
     pub low : 48 ≤ b
     pub bit : b - 48 < 2
     pub first : statesOf (b ∷ bytes) ≡ (b - 48) ∷ statesOf bytes
-    pub rest : Written bytes
+    pub rest : WritesStates bytes
 
-pub states-solid : (b : ℕ) (bytes : List ℕ) (w : Written (b ∷ bytes)) → isBlank b ≡ false → Solid b bytes w
+pub states-solid : (b : ℕ) (bytes : List ℕ) (w : WritesStates (b ∷ bytes)) → isBlank b ≡ false → Solid b bytes w
 unfolding statesOf statesIn
 states-solid b bytes w e = go (eqb b 48 || eqb b 49) refl (statesIn bytes) refl (rw e at w)
   where
@@ -218,8 +218,8 @@ module _ (image : List ℕ) (index bit l x k : ℕ) (rest : List ℕ) (eight : b
       less = omega arith
 
 -- the states of bytes of which some are taken
-pub rest-written : (bytes : List ℕ) (i k : ℕ) (states : List ℕ) → Written (drop i bytes) → statesIn (take k (drop i bytes)) ≡ some states
-    → (statesOf (drop i bytes) ≡ states ++ statesOf (drop (i + k) bytes)) × Written (drop (i + k) bytes)
+pub rest-written : (bytes : List ℕ) (i k : ℕ) (states : List ℕ) → WritesStates (drop i bytes) → statesIn (take k (drop i bytes)) ≡ some states
+    → (statesOf (drop i bytes) ≡ states ++ statesOf (drop (i + k) bytes)) × WritesStates (drop (i + k) bytes)
 unfolding statesOf
 rest-written bytes i k states w e = rw (← drop-drop k i bytes) (go (statesIn (drop k (drop i bytes))) refl)
   where
@@ -242,7 +242,7 @@ unfolding statesOf statesIn
 none-written = refl
 
 -- the states that bytes write are 0 and 1
-pub written-bits : (bytes : List ℕ) → Written bytes → (k : ℕ) → getD (statesOf bytes) k 0 < 2
+pub written-bits : (bytes : List ℕ) → WritesStates bytes → (k : ℕ) → getD (statesOf bytes) k 0 < 2
 written-bits [] w k = rw none-written (omega arith)
 written-bits (b ∷ bytes) w k = go (isBlank b) refl (written-bits bytes)
   where
@@ -250,6 +250,6 @@ written-bits (b ∷ bytes) w k = go (isBlank b) refl (written-bits bytes)
     in-list states small h zero = h
     in-list states small h (suc j) = small j
 
-    go : (t : Bool) → isBlank b ≡ t → (Written bytes → (j : ℕ) → getD (statesOf bytes) j 0 < 2) → getD (statesOf (b ∷ bytes)) k 0 < 2
+    go : (t : Bool) → isBlank b ≡ t → (WritesStates bytes → (j : ℕ) → getD (statesOf bytes) j 0 < 2) → getD (statesOf (b ∷ bytes)) k 0 < 2
     go true e ih = let p = states-blank b bytes w e in rw (p .0) (ih (p .1) k)
     go false e ih = let p = states-solid b bytes w e in rw (p .first) (in-list (statesOf bytes) (ih (p .rest)) (p .bit) k)

@@ -10,18 +10,18 @@ use Rattle.part.specs.Outcome.{Outcome}
 use Rattle.part.specs.Outcome.Outcome.{accepted, refused}
 use Rattle.jedec.specs.Rules.{Known, wrongCount, misplaced, finished}
 use Rattle.jedec.specs.Meaning.{wrongSum, wrongTransmission, concluded}
-use Rattle.jedec_reader.specs.Progress.{notedOf, seenOf, Given, Reads}
+use Rattle.jedec_reader.specs.Progress.{notedOf, seenOf, ProgressKnows, ReadBeside}
 use Rattle.jedec_reader.specs.declared.internal.Seen.{Seen}
 use Rattle.jedec_reader.specs.declared.internal.Seen.the-variants as seen
 use Rattle.jedec_reader.specs.declared.internal.Progress.{Progress}
 
-pub refused-reads : (o : Outcome (List ℕ)) (number value : ℕ) (image : List ℕ) → o ≡ refused number value → Reads o (refused number value) image
+pub refused-reads : (o : Outcome (List ℕ)) (number value : ℕ) (image : List ℕ) → o ≡ refused number value → ReadBeside o (refused number value) image
 refused-reads o number value image e =
     record { answers = rw e; holds = λ h. let z : _≡_ {A = ℕ} 0 1 = cc in absurd (omega arith) }
 
 module _ (fuses : ℕ) (text : List ℕ) (etx sum : ℕ) (p : Progress) (image : List ℕ) where
   abbrev pub Concludes : Outcome (Unit {0}) → Type 0
-  Concludes answer = (k : Known) → Given fuses p k image → Reads (concluded fuses text etx sum k) answer image
+  Concludes answer = (k : Known) → ProgressKnows fuses p k image → ReadBeside (concluded fuses text etx sum k) answer image
 
   module _ (a : Seen) (f : seenOf a ≡ wrongCount fuses etx (notedOf (p .count))) where
     pub eight : (at : ℕ) → a ≡ seen.Number at → Concludes (refused 8 at)
@@ -31,7 +31,7 @@ module _ (fuses : ℕ) (text : List ℕ) (etx sum : ℕ) (p : Progress) (image :
         refused-reads _ 8 at image (rw there)
 
     module _ (w : a ≡ seen.Nothing) where
-      right-count : (k : Known) → Given fuses p k image → wrongCount fuses etx (k .count) ≡ none
+      right-count : (k : Known) → ProgressKnows fuses p k image → wrongCount fuses etx (k .count) ≡ none
       right-count k g = rw (← g .count) (sym f ∙ ap seenOf w)
 
       pub nine : (at : ℕ) → p .misplaced ≡ seen.Number at → Concludes (refused 9 at)
@@ -41,11 +41,11 @@ module _ (fuses : ℕ) (text : List ℕ) (etx sum : ℕ) (p : Progress) (image :
           refused-reads _ 9 at image (rw (right-count k g, there))
 
       module _ (v : p .misplaced ≡ seen.Nothing) where
-        in-place : (k : Known) → Given fuses p k image → misplaced fuses 0 (k .lists) ≡ none
+        in-place : (k : Known) → ProgressKnows fuses p k image → misplaced fuses 0 (k .lists) ≡ none
         in-place k g = sym (g .faulty) ∙ ap seenOf v
 
         module _ (b : Seen) (h : seenOf b ≡ wrongSum image (notedOf (p .sum))) where
-          its-sum : (k : Known) → Given fuses p k image → wrongSum (finished fuses k) (k .sum) ≡ seenOf b
+          its-sum : (k : Known) → ProgressKnows fuses p k image → wrongSum (finished fuses k) (k .sum) ≡ seenOf b
           its-sum k g = rw (← g .holds (in-place k g), ← g .sum) (sym h)
 
           pub ten : (at : ℕ) → b ≡ seen.Number at → Concludes (refused 10 at)

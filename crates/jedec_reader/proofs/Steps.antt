@@ -15,19 +15,19 @@ use borrow.Author.Tests.{lt-ltb, not-true}
 use Rattle.part.proofs.Facts.{compared, and-iff}
 use Rattle.image.specs.Bits.{withBit}
 use Rattle.jedec.specs.Rules.{Listed, Known, has, hasAny, inOrder, after, endOf, misplaced, startState, stateGiven}
-use Rattle.jedec_fields.specs.Fields.{statesOf, judgedAfter, ListFits, Fits}
+use Rattle.jedec_fields.specs.Fields.{statesOf, judgedAfter, ListFits, SaysFits}
 use Rattle.jedec_fields.specs.declared.FieldSays.{FieldSays}
 use Rattle.jedec_fields.specs.declared.FieldSays.the-variants as says
 use Rattle.jedec_image.specs.States.{withState, withStates, lastEnd}
 use Rattle.jedec_image.proofs.Puts.{written-bits}
 use Rattle.jedec.proofs.States.{image-length}
 use Rattle.jedec_image.proofs.Images.{Holds, start-holds, put-listed, last-more, still-misplaced, now-misplaced}
-use Rattle.jedec_reader.specs.Progress.{seenOf, mayStand, misplacedAfter, afterField, putField, PutFits, Given}
+use Rattle.jedec_reader.specs.Progress.{seenOf, mayStand, misplacedAfter, afterField, putField, PutFits, ProgressKnows}
 use Rattle.jedec_reader.specs.declared.internal.Seen.{Seen}
 use Rattle.jedec_reader.specs.declared.internal.Seen.the-variants as seen
 use Rattle.jedec_reader.specs.declared.internal.Progress.{Progress}
 
-pub in-order : (fuses : ℕ) (p : Progress) (k : Known) (image rest : List ℕ) (s : FieldSays) → Given fuses p k image
+pub in-order : (fuses : ℕ) (p : Progress) (k : Known) (image rest : List ℕ) (s : FieldSays) → ProgressKnows fuses p k image
     → mayStand p s ≡ inOrder k (judgedAfter rest s)
 in-order fuses p k image rest (says.Count n) g = rw (g .count)
 in-order fuses p k image rest (says.Start x) g = rw (g .count, g .start, g .listed)
@@ -43,7 +43,7 @@ list-room fuses end at first number seen.Nothing e =
     (λ l. let bad : seen.Number at ≡ seen.Nothing = rw (lt-ltb fuses (first + number) l, or-true) at e in let z : _≡_ {A = ℕ} 0 1 = cc in absurd (omega arith))
     (λ m. m)
 
-pub put-fits : (fuses : ℕ) (p : Progress) (at : ℕ) (rest : List ℕ) (s : FieldSays) → Fits rest s → PutFits fuses rest s (afterField fuses p at s .misplaced)
+pub put-fits : (fuses : ℕ) (p : Progress) (at : ℕ) (rest : List ℕ) (s : FieldSays) → SaysFits rest s → PutFits fuses rest s (afterField fuses p at s .misplaced)
 put-fits fuses p at rest (says.Count n) f = tt
 put-fits fuses p at rest (says.Start x) f = f
 put-fits fuses p at rest (says.List first skip number) f =
@@ -82,9 +82,9 @@ module _ (fuses : ℕ) (lists : List Listed) (l : Listed) where
       go none f = refl
       go (some x) f = let bad : some x ≡ none = sym (still-misplaced fuses l 0 lists x f) ∙ e in let z : _≡_ {A = ℕ} 0 1 = cc in absurd (omega arith)
 
-module _ (fuses : ℕ) (p : Progress) (k : Known) (image rest : List ℕ) (at : ℕ) (g : Given fuses p k image) where
+module _ (fuses : ℕ) (p : Progress) (k : Known) (image rest : List ℕ) (at : ℕ) (g : ProgressKnows fuses p k image) where
   abbrev After : FieldSays → Type 0
-  After s = Given fuses (afterField fuses p at s) (after k at (judgedAfter rest s)) (putField fuses rest s (afterField fuses p at s .misplaced) image)
+  After s = ProgressKnows fuses (afterField fuses p at s) (after k at (judgedAfter rest s)) (putField fuses rest s (afterField fuses p at s .misplaced) image)
 
   start-after : (x : ℕ) → x < 2 → inOrder k (judgedAfter rest (says.Start x)) ≡ true → After (says.Start x)
   start-after x f e =
@@ -121,7 +121,7 @@ module _ (fuses : ℕ) (p : Progress) (k : Known) (image rest : List ℕ) (at : 
         holds = λ m. rw (nothing-seen (misplacedAfter fuses (p .misplaced) (p .end) at first number) (faulty ∙ m)) (held m .is);
       }
 
-  pub given-after : (s : FieldSays) → Fits rest s → inOrder k (judgedAfter rest s) ≡ true → After s
+  pub given-after : (s : FieldSays) → SaysFits rest s → inOrder k (judgedAfter rest s) ≡ true → After s
   given-after (says.Count n) f e =
       record { count = refl; start = g .start; listed = g .listed; end = g .end; faulty = g .faulty; sum = g .sum; bits = g .bits; holds = g .holds }
   given-after (says.Start x) f e = start-after x f e

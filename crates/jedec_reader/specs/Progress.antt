@@ -109,7 +109,7 @@ PutFits fuses after says.Skipped m = Unit {0}
 PutFits fuses after says.Bad m = Unit {0}
 
 -- what the reader knows is what the fields gave, and unless an L is misplaced the image holds it
-pub record Given (fuses : ℕ) (p : Progress) (k : Known) (image : List ℕ) : Type 0 where
+pub record ProgressKnows (fuses : ℕ) (p : Progress) (k : Known) (image : List ℕ) : Type 0 where
   pub count : notedOf (p .count) ≡ k .count
   pub start : seenOf (p .start) ≡ k .start
   pub listed : p .listed ≡ hasAny (k .lists)
@@ -120,7 +120,7 @@ pub record Given (fuses : ℕ) (p : Progress) (k : Known) (image : List ℕ) : T
   pub holds : misplaced fuses 0 (k .lists) ≡ none → image ≡ imageWith fuses (stateGiven (startState (k .start)) (k .lists))
 
 -- the answer to a text that means an outcome, and the image made where it is accepted
-pub record Reads (o : Outcome (List ℕ)) (answer : Outcome (Unit {0})) (image : List ℕ) : Type 0 where
+pub record ReadBeside (o : Outcome (List ℕ)) (answer : Outcome (Unit {0})) (image : List ℕ) : Type 0 where
   pub answers : answer ≡ verdict o
   pub holds : answer ≡ accepted tt → image ≡ resultOf o
 

@@ -4,7 +4,7 @@
 --   together                     the lowest bits side by side, by one computed test over all of them
 --   states-append, states-none, none-first   the states that bytes in two parts write
 --   by-word, one-state, none-taken, bits-by-word   states at an offset, and their bits
---   Taken, taken-at              what is taken at an offset with a blank behind it
+--   StatesTaken, taken-at              what is taken at an offset with a blank behind it
 use mathlib.Core.Path.{_≡_, refl, sym, _∙_, ap, ap₂}
 use mathlib.Core.Bool.{Bool, true, false, cond, _||_}
 use mathlib.Core.List.{List, [], _∷_, _++_, append-nil}
@@ -296,7 +296,7 @@ module _ (bytes : List ℕ) (at : ℕ) where
     none-taken s = record { inside = omega arith; few = omega arith; states = no-states (drop at bytes); stops = λ z. s }
 
 -- what is taken at an offset: states and a blank behind them
-pub record Taken (bytes : List ℕ) (at count taken : ℕ) : Type 0 where
+pub record StatesTaken (bytes : List ℕ) (at count taken : ℕ) : Type 0 where
   pub inside : at + taken ≤ length bytes
   pub few : count ≤ 8
   pub enough : count ≤ taken
@@ -304,7 +304,7 @@ pub record Taken (bytes : List ℕ) (at count taken : ℕ) : Type 0 where
   pub stops : taken ≡ 0 → statesIn (take 1 (drop at bytes)) ≡ none
 
 pub taken-at : (bytes : List ℕ) (at count z : ℕ) → at < length bytes → ((k : ℕ) → Fits w8 (getD bytes k 0)) → StatesAt bytes at count → IsBlankAt bytes (at + count) z
-    → Taken bytes at count (count + z)
+    → StatesTaken bytes at count (count + z)
 unfolding statesIn
 taken-at bytes at count z l o s b =
     let octets : Octets (drop at bytes) = λ k. rw (getD-drop at bytes k 0) (o (at + k) .fits) in

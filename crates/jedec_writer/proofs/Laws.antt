@@ -22,7 +22,7 @@ use Rattle.image.proofs.Bits.{bit-above}
 use Rattle.jedec.specs.Meaning.{longest, meaning}
 use Rattle.jedec.specs.Form.{Image}
 use Rattle.jedec.proofs.Laws.{read-back}
-use Rattle.jedec.specs.Written.{patternFuses, NoneEmpty}
+use Rattle.jedec.specs.WrittenText.{patternFuses, NoneEmpty}
 use Rattle.jedec_writer.specs.Pattern.{rowLines, blockLines, pattern, textOf}
 use Rattle.jedec_writer.proofs.Sizes.{pattern-fuses}
 pub use Rattle.jedec_writer.proofs.Text.{text-length}

@@ -12,8 +12,8 @@ use Rattle.cells.proofs.Laws.{sets-append}
 use Rattle.part.specs.Device.{lineBytes}
 use Rattle.readout.proofs.Sizes.{room}
 use Rattle.jedec.specs.Characters.{letterL, digitsOf, decimalDigit, sevenDigits}
-use Rattle.jedec.specs.Written.{lineEnd, statesText, columnsText, lineText, linesText, patternFuses}
-use Rattle.jedec_writer.specs.Tokens.{columnText, columnsOf, Wide, bytesIn, Stored}
+use Rattle.jedec.specs.WrittenText.{lineEnd, statesText, columnsText, lineText, linesText, patternFuses}
+use Rattle.jedec_writer.specs.Tokens.{columnText, columnsOf, Wide, linesBytes, Stored}
 use Rattle.jedec_writer.proofs.Tokens.{bits-length, columns-bits, columns-same, stored-next, stored-last}
 use Rattle.jedec_writer.proofs.Words.{start-cut}
 
@@ -56,8 +56,8 @@ lines-append image (line ∷ lines) more fuse =
     ap (λ (l : List ℕ). lineText image fuse line ++ l) (lines-append image lines more (fuse + total line) ∙ ap (λ (f : ℕ). linesText image (fuse + total line) lines ++ linesText image f more) (add-assoc fuse (total line) (patternFuses lines)))
     ∙ sym (append-assoc (lineText image fuse line) (linesText image (fuse + total line) lines) _)
 
-pub lines-length : (image : List ℕ) (lines : List (List ℕ)) (fuse : ℕ) → length (linesText image fuse lines) ≡ bytesIn lines
-unfolding linesText bytesIn
+pub lines-length : (image : List ℕ) (lines : List (List ℕ)) (fuse : ℕ) → length (linesText image fuse lines) ≡ linesBytes lines
+unfolding linesText linesBytes
 lines-length image [] fuse = refl
 lines-length image (line ∷ lines) fuse =
     length-append (lineText image fuse line) (linesText image (fuse + total line) lines) ∙ ap₂ _+_ (line-length image fuse line) (lines-length image lines (fuse + total line))
@@ -67,10 +67,10 @@ unfolding patternFuses
 fuses-append [] more = sym (zero-add (patternFuses more))
 fuses-append (line ∷ lines) more = ap (λ (x : ℕ). total line + x) (fuses-append lines more) ∙ sym (add-assoc (total line) (patternFuses lines) (patternFuses more))
 
-pub bytes-append : (lines more : List (List ℕ)) → bytesIn (lines ++ more) ≡ bytesIn lines + bytesIn more
-unfolding bytesIn
-bytes-append [] more = sym (zero-add (bytesIn more))
-bytes-append (line ∷ lines) more = ap (λ (x : ℕ). lineBytes (length line) (total line) + x) (bytes-append lines more) ∙ sym (add-assoc (lineBytes (length line) (total line)) (bytesIn lines) (bytesIn more))
+pub bytes-append : (lines more : List (List ℕ)) → linesBytes (lines ++ more) ≡ linesBytes lines + linesBytes more
+unfolding linesBytes
+bytes-append [] more = sym (zero-add (linesBytes more))
+bytes-append (line ∷ lines) more = ap (λ (x : ℕ). lineBytes (length line) (total line) + x) (bytes-append lines more) ∙ sym (add-assoc (lineBytes (length line) (total line)) (linesBytes lines) (linesBytes more))
 
 pub fuses-repeat : (k : ℕ) (lines : List (List ℕ)) → patternFuses (repeat k lines) ≡ k * patternFuses lines
 unfolding patternFuses repeat
@@ -78,14 +78,14 @@ fuses-repeat zero lines = sym (zero-mul (patternFuses lines))
 fuses-repeat (suc k) lines =
     fuses-append lines (repeat k lines) ∙ ap (λ (x : ℕ). patternFuses lines + x) (fuses-repeat k lines) ∙ add-comm (patternFuses lines) (k * patternFuses lines) ∙ sym (suc-mul k (patternFuses lines))
 
-pub bytes-repeat : (k : ℕ) (lines : List (List ℕ)) → bytesIn (repeat k lines) ≡ k * bytesIn lines
-unfolding bytesIn repeat
-bytes-repeat zero lines = sym (zero-mul (bytesIn lines))
+pub bytes-repeat : (k : ℕ) (lines : List (List ℕ)) → linesBytes (repeat k lines) ≡ k * linesBytes lines
+unfolding linesBytes repeat
+bytes-repeat zero lines = sym (zero-mul (linesBytes lines))
 bytes-repeat (suc k) lines =
-    bytes-append lines (repeat k lines) ∙ ap (λ (x : ℕ). bytesIn lines + x) (bytes-repeat k lines) ∙ add-comm (bytesIn lines) (k * bytesIn lines) ∙ sym (suc-mul k (bytesIn lines))
+    bytes-append lines (repeat k lines) ∙ ap (λ (x : ℕ). linesBytes lines + x) (bytes-repeat k lines) ∙ add-comm (linesBytes lines) (k * linesBytes lines) ∙ sym (suc-mul k (linesBytes lines))
 
 -- lines stored part by part
-pub lines-sets : (image out : List ℕ) (lines more : List (List ℕ)) (fuse at n t : ℕ) → bytesIn lines ≡ n → patternFuses lines ≡ t
+pub lines-sets : (image out : List ℕ) (lines more : List (List ℕ)) (fuse at n t : ℕ) → linesBytes lines ≡ n → patternFuses lines ≡ t
     → sets (sets out at (linesText image fuse lines)) (at + n) (linesText image (fuse + t) more) ≡ sets out at (linesText image fuse (lines ++ more))
 lines-sets image out lines more fuse at n t e f =
     sym (rw (lines-append image lines more fuse, sets-append out at (linesText image fuse lines) (linesText image (fuse + patternFuses lines) more), lines-length image lines fuse, e, f))
@@ -155,22 +155,22 @@ line-of image out s0 s1 s2 fuse at a b c d e w x given fits ha hb hc hd he ex e0
 -- give what all give; and there are fuses and room for them.
 pub record Left (lines : List (List ℕ)) (image before out : List ℕ) (fuse at count f a left : ℕ) : Type 0 where
   pub fuses-left : f + left * patternFuses lines ≤ length image * 8
-  pub bytes-left : a + left * bytesIn lines ≤ length out
+  pub bytes-left : a + left * linesBytes lines ≤ length out
   pub same : length out ≡ length before
   pub rest : sets out a (linesText image f (repeat left lines)) ≡ sets before at (linesText image fuse (repeat count lines))
 
 pub begun : (lines : List (List ℕ)) (image out : List ℕ) (fuse at count : ℕ) → fuse + count * patternFuses lines ≤ length image * 8
-    → at + count * bytesIn lines ≤ length out → Left lines image out out fuse at count fuse at count
+    → at + count * linesBytes lines ≤ length out → Left lines image out out fuse at count fuse at count
 begun lines image out fuse at count f g = record { fuses-left = f; bytes-left = g; same = refl; rest = refl }
 
 module _ {lines : List (List ℕ)} {image before out : List ℕ} {fuse at count f a left : ℕ} (now : Left lines image before out fuse at count f a left) where
   pub next-fuses : 0 < left → f + patternFuses lines ≤ length image * 8
   next-fuses h = room left (patternFuses lines) f (length image * 8) h (now .fuses-left) .0
 
-  pub next-bytes : 0 < left → a + bytesIn lines ≤ length out
-  next-bytes h = room left (bytesIn lines) a (length out) h (now .bytes-left) .0
+  pub next-bytes : 0 < left → a + linesBytes lines ≤ length out
+  next-bytes h = room left (linesBytes lines) a (length out) h (now .bytes-left) .0
 
-  pub turned : (next : List ℕ) (fuses bytes : ℕ) → 0 < left → fuses ≡ patternFuses lines → bytes ≡ bytesIn lines
+  pub turned : (next : List ℕ) (fuses bytes : ℕ) → 0 < left → fuses ≡ patternFuses lines → bytes ≡ linesBytes lines
       → next ≡ sets out a (linesText image f lines) → Left lines image before next fuse at count (f + fuses) (a + bytes) (left - 1)
   unfolding repeat
   turned next fuses bytes h e1 e2 e3 =
@@ -179,7 +179,7 @@ module _ {lines : List (List ℕ)} {image before out : List ℕ} {fuse at count 
       let all : sets out a (linesText image f (lines ++ repeat (left - 1) lines)) ≡ sets before at (linesText image fuse (repeat count lines)) = rw more at (now .rest) in
       record {
         fuses-left = rw e1 (room left (patternFuses lines) f (length image * 8) h (now .fuses-left) .1);
-        bytes-left = rw (e2, kept) (room left (bytesIn lines) a (length out) h (now .bytes-left) .1);
+        bytes-left = rw (e2, kept) (room left (linesBytes lines) a (length out) h (now .bytes-left) .1);
         same = kept ∙ now .same;
         rest = rw e3 (lines-sets image out lines (repeat (left - 1) lines) f a bytes fuses (sym e2) (sym e1) ∙ all);
       }

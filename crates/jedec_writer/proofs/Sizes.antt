@@ -13,9 +13,9 @@ use Rattle.part.specs.declared.Device.{Device}
 use Rattle.part.proofs.Devices.{by-count, known-count, blocks-small, fuses-small, image-whole}
 use Rattle.image.specs.Bits.{tabulate}
 use Rattle.jedec.specs.Characters.{digitsOf, letterL, sevenDigits, countDigits}
-use Rattle.jedec.specs.Written.{lineText, linesText, patternFuses}
+use Rattle.jedec.specs.WrittenText.{lineText, linesText, patternFuses}
 use Rattle.jedec_writer.specs.Pattern.{rowLines, blockLines, pattern}
-use Rattle.jedec_writer.specs.Tokens.{bytesIn}
+use Rattle.jedec_writer.specs.Tokens.{linesBytes}
 use Rattle.jedec_writer.proofs.Lines.{fuses-append, bytes-append, fuses-repeat, bytes-repeat, lines-sets, Left, begun, ended}
 
 main-lines : rowLines true ≡ (8 ∷ 8 ∷ 8 ∷ 8 ∷ 8 ∷ []) ∷ (8 ∷ 8 ∷ 8 ∷ 8 ∷ 6 ∷ []) ∷ (6 ∷ 6 ∷ 6 ∷ 6 ∷ 6 ∷ []) ∷ []
@@ -26,20 +26,20 @@ wire-and-lines : rowLines false ≡ (8 ∷ 7 ∷ 7 ∷ 7 ∷ 7 ∷ []) ∷ []
 unfolding rowLines tabulate
 wire-and-lines = refl
 
-pub main-size : (main : Bool) → main ≡ true → (patternFuses (rowLines main) ≡ 108) × (bytesIn (rowLines main) ≡ 153)
-unfolding rowLines tabulate patternFuses bytesIn total
+pub main-size : (main : Bool) → main ≡ true → (patternFuses (rowLines main) ≡ 108) × (linesBytes (rowLines main) ≡ 153)
+unfolding rowLines tabulate patternFuses linesBytes total
 main-size main e = rw e (refl, refl)
 
-pub wire-and-size : (main : Bool) → main ≡ false → (patternFuses (rowLines main) ≡ 36) × (bytesIn (rowLines main) ≡ 51)
-unfolding rowLines tabulate patternFuses bytesIn total
+pub wire-and-size : (main : Bool) → main ≡ false → (patternFuses (rowLines main) ≡ 36) × (linesBytes (rowLines main) ≡ 51)
+unfolding rowLines tabulate patternFuses linesBytes total
 wire-and-size main e = rw e (refl, refl)
 
 -- the main rows of a block, and a block
-main-rows : (patternFuses (repeat 72 (rowLines true)) ≡ 7776) × (bytesIn (repeat 72 (rowLines true)) ≡ 11016)
+main-rows : (patternFuses (repeat 72 (rowLines true)) ≡ 7776) × (linesBytes (repeat 72 (rowLines true)) ≡ 11016)
 main-rows =
     (fuses-repeat 72 (rowLines true) ∙ ap (λ (k : ℕ). 72 * k) (main-size true refl .0), bytes-repeat 72 (rowLines true) ∙ ap (λ (k : ℕ). 72 * k) (main-size true refl .1))
 
-pub block-size : (d : Device) → (patternFuses (blockLines d) ≡ 7776 + d .blocks * 648) × (bytesIn (blockLines d) ≡ 11016 + d .blocks * 918)
+pub block-size : (d : Device) → (patternFuses (blockLines d) ≡ 7776 + d .blocks * 648) × (linesBytes (blockLines d) ≡ 11016 + d .blocks * 918)
 unfolding blockLines
 block-size d =
     let w = wire-and-size false refl in
@@ -57,19 +57,19 @@ device-fuses : (d : Device) → d .blocks * patternFuses (blockLines d) ≡ fuse
 unfolding fuseCount
 device-fuses d = ap (λ (x : ℕ). d .blocks * x) (block-size d .0)
 
-device-bytes : (d : Device) → d .blocks * bytesIn (blockLines d) ≡ inDevice d (mainRows * mainRowText) (wireAndRows * wireAndRowText)
+device-bytes : (d : Device) → d .blocks * linesBytes (blockLines d) ≡ inDevice d (mainRows * mainRowText) (wireAndRows * wireAndRowText)
 device-bytes d = ap (λ (x : ℕ). d .blocks * x) (block-size d .1)
 
 pub pattern-fuses : (d : Device) → patternFuses (pattern d) ≡ fuseCount d
 unfolding pattern
 pattern-fuses d = fuses-repeat (d .blocks) (blockLines d) ∙ device-fuses d
 
-pattern-bytes : (d : Device) → bytesIn (pattern d) ≡ d .blocks * bytesIn (blockLines d)
+pattern-bytes : (d : Device) → linesBytes (pattern d) ≡ d .blocks * linesBytes (blockLines d)
 unfolding pattern
 pattern-bytes d = bytes-repeat (d .blocks) (blockLines d)
 
 -- the text: eleven bytes and the count's digits, the lines, eight bytes, four digits
-pub text-size : (d : Device) → textBytes d ≡ 11 + decimalDigits (fuseCount d) + bytesIn (pattern d) + 12
+pub text-size : (d : Device) → textBytes d ≡ 11 + decimalDigits (fuseCount d) + linesBytes (pattern d) + 12
 unfolding textBytes
 text-size d = rw (pattern-bytes d, device-bytes d) (omega arith)
 
@@ -115,7 +115,7 @@ unfolding blockLines
 block-of-rows d image out one two fuse at e1 e2 =
     e2 ∙ rw e1 (lines-sets image out (repeat 72 (rowLines true)) (repeat (d .blocks * 18) (rowLines false)) fuse at 11016 7776 (main-rows .1) (main-rows .0))
 
-pub blocks-begun : (d : Device) (image out : List ℕ) (at : ℕ) → known d ≡ true → length image ≡ imageBytes d → at + bytesIn (pattern d) ≤ length out
+pub blocks-begun : (d : Device) (image out : List ℕ) (at : ℕ) → known d ≡ true → length image ≡ imageBytes d → at + linesBytes (pattern d) ≤ length out
     → Left (blockLines d) image out out 0 at (d .blocks) 0 at (d .blocks)
 blocks-begun d image out at k e f =
     begun (blockLines d) image out 0 at (d .blocks) (omega (arith, device-fuses d, image-whole d k)) (omega (arith, pattern-bytes d))
@@ -136,7 +136,7 @@ pub main-row-of : (main : Bool) (image out one two three : List ℕ) (fuse at : 
     → two ≡ sets one (at + 55) (lineText image (fuse + 40) (8 ∷ 8 ∷ 8 ∷ 8 ∷ 6 ∷ []))
     → three ≡ sets two (at + 108) (lineText image (fuse + 78) (6 ∷ 6 ∷ 6 ∷ 6 ∷ 6 ∷ []))
     → three ≡ sets out at (linesText image fuse (rowLines main))
-unfolding total patternFuses bytesIn
+unfolding total patternFuses linesBytes
 main-row-of main image out one two three fuse at e e1 e2 e3 =
     let l1 : List ℕ = 8 ∷ 8 ∷ 8 ∷ 8 ∷ 8 ∷ [] in
     let l2 : List ℕ = 8 ∷ 8 ∷ 8 ∷ 8 ∷ 6 ∷ [] in

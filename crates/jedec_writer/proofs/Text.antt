@@ -21,7 +21,7 @@ use Rattle.image.proofs.Checks as checks
 use Rattle.readout.specs.Readout.{written, Written}
 use Rattle.readout.proofs.Targets.{says}
 use Rattle.jedec.specs.Characters.{stx, etx, letterC, letterF, letterL, letterQ, decimalDigit, hexDigit, sevenDigits, countDigits, fourHex}
-use Rattle.jedec.specs.Written.{lineEnd, linesText, headText, footText, upToEtx, textWith}
+use Rattle.jedec.specs.WrittenText.{lineEnd, linesText, headText, footText, upToEtx, textWith}
 use Rattle.jedec_writer.specs.Pattern.{pattern, textOf, toText, withText}
 use Rattle.jedec_writer.proofs.Tokens.{three-parts}
 use Rattle.jedec_writer.proofs.Words.{hex-cut}

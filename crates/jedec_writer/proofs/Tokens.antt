@@ -13,7 +13,7 @@ use Rattle.cells.specs.Cells.{cut, join, total, number}
 use Rattle.cells.proofs.Laws.{cut-length, cut-low, total-replicate, sets-append, cut-sets, piece}
 use Rattle.readout.proofs.Passages.{number-bit}
 use Rattle.jedec.specs.Characters.{space, decimalDigit}
-use Rattle.jedec.specs.Written.{statesText, columnsText}
+use Rattle.jedec.specs.WrittenText.{statesText, columnsText}
 use Rattle.jedec_writer.specs.Tokens.{bitsText, columnsOf, Stored}
 
 -- every number of a list is a byte

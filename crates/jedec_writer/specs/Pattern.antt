@@ -13,7 +13,7 @@ use Rattle.part.specs.Convert.{ifKnown}
 use Rattle.part.specs.declared.Device.{Device}
 use Rattle.image.specs.Bits.{tabulate}
 use Rattle.image.specs.Image.{ifLength}
-use Rattle.jedec.specs.Written.{textWith}
+use Rattle.jedec.specs.WrittenText.{textWith}
 
 -- the widths of the columns of a line, from a column on
 abbrev pub columnsFrom : (ℕ → ℕ) → ℕ → List ℕ

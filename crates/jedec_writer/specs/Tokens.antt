@@ -27,9 +27,9 @@ abbrev pub Wide : ℕ → Type 0
 Wide width = (6 ≤ width) × (width ≤ 8)
 
 -- the bytes of some lines
-unfoldable pub bytesIn : List (List ℕ) → ℕ
-bytesIn [] = 0
-bytesIn (line ∷ lines) = lineBytes (length line) (total line) + bytesIn lines
+unfoldable pub linesBytes : List (List ℕ) → ℕ
+linesBytes [] = 0
+linesBytes (line ∷ lines) = lineBytes (length line) (total line) + linesBytes lines
 
 -- some bytes stored from an index on, and at most two more behind them, which what is stored next replaces
 pub record Stored (before after : List ℕ) (at : ℕ) (bytes : List ℕ) : Type 0 where

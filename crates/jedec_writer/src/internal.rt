@@ -9,9 +9,9 @@ ghost use lib.Seq.{sets};
 ghost use Rattle.cells.specs.Cells.{cut, total, repeat, number};
 ghost use Rattle.part.specs.Device.{known, fuseCount, imageBytes, textBytes, decimalDigits};
 ghost use Rattle.jedec.specs.Characters.{space, letterL, sevenDigits, hexDigit, fourHex};
-ghost use Rattle.jedec.specs.Written.{lineText, linesText, headText, footText, patternFuses};
+ghost use Rattle.jedec.specs.WrittenText.{lineText, linesText, headText, footText, patternFuses};
 ghost use Rattle.jedec_writer.specs.Pattern.{rowLines, blockLines, pattern, textOf};
-ghost use Rattle.jedec_writer.specs.Tokens.{bitsText, columnText, columnsOf, Wide, bytesIn, Stored};
+ghost use Rattle.jedec_writer.specs.Tokens.{bitsText, columnText, columnsOf, Wide, linesBytes, Stored};
 use cells::internal::low_bits;
 use cells::internal::put_cells;
 use cells::internal::word8;
@@ -171,7 +171,7 @@ fn put_line(
 
 // The lines of a row.
 fn row_out(main: bool, image: &[u8], fuse: usize, out: &mut [u8], at: usize)
-    requires { ⌜ (8 ≤ length (now image)) × (length (now image) ≤ 125000) × (fuse + patternFuses (rowLines main) ≤ length (now image) * 8) × (at + bytesIn (rowLines main) ≤ length (now out)) ⌝ }
+    requires { ⌜ (8 ≤ length (now image)) × (length (now image) ≤ 125000) × (fuse + patternFuses (rowLines main) ≤ length (now image) * 8) × (at + linesBytes (rowLines main) ≤ length (now out)) ⌝ }
     ensures { λ _. ⌜ now (out .exit) ≡ sets (now (out .entry)) at (linesText (now (image .entry)) fuse (rowLines main)) ⌝ }
 {
     if main {
@@ -194,7 +194,7 @@ fn row_fuses(main: bool) -> usize
 }
 
 fn row_bytes(main: bool) -> usize
-    ensures { λ r. ⌜ (r ≡ bytesIn (rowLines main)) × (r ≤ 153) ⌝ }
+    ensures { λ r. ⌜ (r ≡ linesBytes (rowLines main)) × (r ≤ 153) ⌝ }
 {
     if main {
         return 153;
@@ -204,7 +204,7 @@ fn row_bytes(main: bool) -> usize
 
 // The lines of some rows, one after another.
 fn rows_out(main: bool, image: &[u8], fuse: usize, out: &mut [u8], at: usize, count: usize)
-    requires { ⌜ (8 ≤ length (now image)) × (length (now image) ≤ 125000) × (fuse + count * patternFuses (rowLines main) ≤ length (now image) * 8) × (at + count * bytesIn (rowLines main) ≤ length (now out)) ⌝ }
+    requires { ⌜ (8 ≤ length (now image)) × (length (now image) ≤ 125000) × (fuse + count * patternFuses (rowLines main) ≤ length (now image) * 8) × (at + count * linesBytes (rowLines main) ≤ length (now out)) ⌝ }
     ensures { λ _. ⌜ now (out .exit) ≡ sets (now (out .entry)) at (linesText (now (image .entry)) fuse (repeat count (rowLines main))) ⌝ }
 {
     let fuses = row_fuses(main);
@@ -231,7 +231,7 @@ fn block_fuses(d: Device) -> usize
 
 fn block_bytes(d: Device) -> usize
     requires { ⌜ known d ≡ true ⌝ }
-    ensures { λ r. ⌜ (r ≡ bytesIn (blockLines d)) × (r ≤ 25704) ⌝ }
+    ensures { λ r. ⌜ (r ≡ linesBytes (blockLines d)) × (r ≤ 25704) ⌝ }
 {
     let n = d.blocks as usize;
     11016 + n * 918
@@ -239,7 +239,7 @@ fn block_bytes(d: Device) -> usize
 
 // The lines of a block.
 fn block_out(d: Device, image: &[u8], fuse: usize, out: &mut [u8], at: usize)
-    requires { ⌜ (known d ≡ true) × (8 ≤ length (now image)) × (length (now image) ≤ 125000) × (fuse + patternFuses (blockLines d) ≤ length (now image) * 8) × (at + bytesIn (blockLines d) ≤ length (now out)) ⌝ }
+    requires { ⌜ (known d ≡ true) × (8 ≤ length (now image)) × (length (now image) ≤ 125000) × (fuse + patternFuses (blockLines d) ≤ length (now image) * 8) × (at + linesBytes (blockLines d) ≤ length (now out)) ⌝ }
     ensures { λ _. ⌜ now (out .exit) ≡ sets (now (out .entry)) at (linesText (now (image .entry)) fuse (blockLines d)) ⌝ }
 {
     rows_out(true, image, fuse, out, at, 72);
@@ -249,7 +249,7 @@ fn block_out(d: Device, image: &[u8], fuse: usize, out: &mut [u8], at: usize)
 
 // The lines of all blocks.
 fn blocks_out(d: Device, image: &[u8], out: &mut [u8], at: usize)
-    requires { ⌜ (known d ≡ true) × (length (now image) ≡ imageBytes d) × (at + bytesIn (pattern d) ≤ length (now out)) ⌝ }
+    requires { ⌜ (known d ≡ true) × (length (now image) ≡ imageBytes d) × (at + linesBytes (pattern d) ≤ length (now out)) ⌝ }
     ensures { λ _. ⌜ now (out .exit) ≡ sets (now (out .entry)) at (linesText (now (image .entry)) 0 (pattern d)) ⌝ }
 {
     let fuses = block_fuses(d);

@@ -21,7 +21,7 @@ use lib.Dec.{ltb, eqb}
 use borrow.Author.Tests.{lt-ltb, ltb-true}
 use Rattle.part.specs.Outcome.Outcome.{accepted}
 use Rattle.part.specs.Device.{known, fuseCount, columnWidth, imageBytes, readoutBytes, textBytes}
-use Rattle.part.specs.Answer.{number, value}
+use Rattle.part.specs.Answer.{refusalNumber, refusalValue}
 use Rattle.part.specs.Place.{hasPlace, hasByte, widthOf, fuseOfPlace, placeOfFuse, addressOfByte, byteOfAddress, valid}
 use Rattle.part.specs.Convert.{addressOfFuse, fuseOfAddress, sizesOf}
 use Rattle.part.specs.Cases.{TableOfSizes, NoDevices, AllHold, cases}
@@ -44,7 +44,7 @@ refusal : ℕ → ℕ → Refusal
 refusal k v =
     cond (eqb k 1) UnknownDevice (cond (eqb k 2) WrongLength (cond (eqb k 3) NoSuchFuse (cond (eqb k 4) NoSuchSetting (cond (eqb k 5) NoSuchValue (cond (eqb k 6) (StrayBit v) (cond (eqb k 7) (BadForm v) (cond (eqb k 8) (WrongFuseCount v) (cond (eqb k 9) (MisplacedFuseList v) (cond (eqb k 10) (WrongFuseSum v) (cond (eqb k 11) (WrongTransmissionSum v) (RoomTooShort v)))))))))))
 
-found : (r : Refusal) → refusal (number r) (value r) ≡ r
+found : (r : Refusal) → refusal (refusalNumber r) (refusalValue r) ≡ r
 unfolding refusal
 found UnknownDevice = refl
 found WrongLength = refl
@@ -59,10 +59,10 @@ found (WrongFuseSum v) = refl
 found (WrongTransmissionSum v) = refl
 found (RoomTooShort v) = refl
 
-pub refusal-determined : (r s : Refusal) → number r ≡ number s → value r ≡ value s → r ≡ s
+pub refusal-determined : (r s : Refusal) → refusalNumber r ≡ refusalNumber s → refusalValue r ≡ refusalValue s → r ≡ s
 refusal-determined r s e f = sym (found r) ∙ ap₂ refusal e f ∙ found s
 
-pub number-small : (r : Refusal) → number r ≤ 12
+pub number-small : (r : Refusal) → refusalNumber r ≤ 12
 number-small UnknownDevice = omega arith
 number-small WrongLength = omega arith
 number-small NoSuchFuse = omega arith

@@ -9,7 +9,7 @@ use lib.Arith.{digits-div, digits-mod, digits-lt}
 use lib.Dec.{ltb}
 use borrow.Author.Tests.{lt-ltb, le-ltb, ltb-true, ltb-false}
 use Rattle.part.specs.Device.{columnWidth, columnStart}
-use Rattle.part.specs.Place.{columnOf, bitOf}
+use Rattle.part.specs.Place.{columnInRow, bitInRow}
 use Rattle.part.proofs.Facts.{compared}
 
 module _ (wide narrow : ℕ) where
@@ -33,7 +33,7 @@ module _ (wide narrow more : ℕ) (positive : 0 < narrow) where
   pub split-row : (Q : ℕ → ℕ → Type 0) (rest : ℕ) → rest < wide * 8 + more * narrow
       → ((column bit : ℕ) → column < wide + more → bit < columnWidth wide narrow column
       → columnStart wide narrow column + bit ≡ rest → Q column bit)
-      → Q (columnOf wide narrow rest) (bitOf wide narrow rest)
+      → Q (columnInRow wide narrow rest) (bitInRow wide narrow rest)
   split-row Q rest h k =
       compared rest (wide * 8)
       (λ l.
@@ -59,10 +59,10 @@ module _ (wide narrow more : ℕ) (positive : 0 < narrow) where
 
   -- and the bit of a column is found again
   pub join-row : (column bit : ℕ) → bit < columnWidth wide narrow column
-      → (columnOf wide narrow (columnStart wide narrow column + bit) ≡ column)
-      × (bitOf wide narrow (columnStart wide narrow column + bit) ≡ bit)
+      → (columnInRow wide narrow (columnStart wide narrow column + bit) ≡ column)
+      × (bitInRow wide narrow (columnStart wide narrow column + bit) ≡ bit)
   join-row column bit =
-      by-column wide narrow (λ w s. bit < w → (columnOf wide narrow (s + bit) ≡ column) × (bitOf wide narrow (s + bit) ≡ bit)) column
+      by-column wide narrow (λ w s. bit < w → (columnInRow wide narrow (s + bit) ≡ column) × (bitInRow wide narrow (s + bit) ≡ bit)) column
       (λ l b.
       let less : ltb (column * 8 + bit) (wide * 8) ≡ true = lt-ltb (column * 8 + bit) (wide * 8) (omega arith) in
       rw less (digits-div column b, digits-mod column b))

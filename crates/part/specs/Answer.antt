@@ -16,49 +16,49 @@ use Rattle.part.specs.declared.NumberAnswer.{NumberAnswer}
 use Rattle.part.specs.declared.NumberAnswer.the-variants as answer
 
 -- "no."
-abbrev pub number : Refusal → ℕ
-number UnknownDevice = 1
-number WrongLength = 2
-number NoSuchFuse = 3
-number NoSuchSetting = 4
-number NoSuchValue = 5
-number (StrayBit index) = 6
-number (BadForm at) = 7
-number (WrongFuseCount at) = 8
-number (MisplacedFuseList at) = 9
-number (WrongFuseSum at) = 10
-number (WrongTransmissionSum at) = 11
-number (RoomTooShort needed) = 12
+abbrev pub refusalNumber : Refusal → ℕ
+refusalNumber UnknownDevice = 1
+refusalNumber WrongLength = 2
+refusalNumber NoSuchFuse = 3
+refusalNumber NoSuchSetting = 4
+refusalNumber NoSuchValue = 5
+refusalNumber (StrayBit index) = 6
+refusalNumber (BadForm at) = 7
+refusalNumber (WrongFuseCount at) = 8
+refusalNumber (MisplacedFuseList at) = 9
+refusalNumber (WrongFuseSum at) = 10
+refusalNumber (WrongTransmissionSum at) = 11
+refusalNumber (RoomTooShort needed) = 12
 
 -- "returns besides"
-abbrev pub value : Refusal → ℕ
-value UnknownDevice = 0
-value WrongLength = 0
-value NoSuchFuse = 0
-value NoSuchSetting = 0
-value NoSuchValue = 0
-value (StrayBit index) = index
-value (BadForm at) = at
-value (WrongFuseCount at) = at
-value (MisplacedFuseList at) = at
-value (WrongFuseSum at) = at
-value (WrongTransmissionSum at) = at
-value (RoomTooShort needed) = needed
+abbrev pub refusalValue : Refusal → ℕ
+refusalValue UnknownDevice = 0
+refusalValue WrongLength = 0
+refusalValue NoSuchFuse = 0
+refusalValue NoSuchSetting = 0
+refusalValue NoSuchValue = 0
+refusalValue (StrayBit index) = index
+refusalValue (BadForm at) = at
+refusalValue (WrongFuseCount at) = at
+refusalValue (MisplacedFuseList at) = at
+refusalValue (WrongFuseSum at) = at
+refusalValue (WrongTransmissionSum at) = at
+refusalValue (RoomTooShort needed) = needed
 
 abbrev pub sizesOutcome : SizesAnswer → Outcome Sizes
 sizesOutcome (sizes.Of x) = accepted x
-sizesOutcome (sizes.Refused r) = refused (number r) (value r)
+sizesOutcome (sizes.Refused r) = refused (refusalNumber r) (refusalValue r)
 
 -- an address and a bit
 abbrev pub addressOutcome : AddressAnswer → Outcome (ℕ × ℕ)
 addressOutcome (address.At a bit) = accepted (a .0, bit)
-addressOutcome (address.Refused r) = refused (number r) (value r)
+addressOutcome (address.Refused r) = refused (refusalNumber r) (refusalValue r)
 
 abbrev pub fuseOutcome : FuseAnswer → Outcome ℕ
 fuseOutcome (fuse.Fuse f) = accepted (f .0)
-fuseOutcome (fuse.Refused r) = refused (number r) (value r)
+fuseOutcome (fuse.Refused r) = refused (refusalNumber r) (refusalValue r)
 
 -- what an answer that is a plain number says, here and in the crates above
 abbrev pub numberOutcome : NumberAnswer → Outcome ℕ
 numberOutcome (answer.Number x) = accepted x
-numberOutcome (answer.Refused r) = refused (number r) (value r)
+numberOutcome (answer.Refused r) = refused (refusalNumber r) (refusalValue r)

@@ -35,23 +35,23 @@ abbrev pub fuseOfPlace : Device → Place → ℕ
 fuseOfPlace d p = firstFuse d (p .byte) + p .bit
 
 -- The place of a fuse, by the steps of 003's forward routine: the column of what is left in a row, and the bit of the column ..
-abbrev pub columnOf : (wide narrow rest : ℕ) → ℕ
-columnOf wide narrow rest = cond (ltb rest (wide * 8)) (rest / 8) (wide + (rest - wide * 8) / narrow)
+abbrev pub columnInRow : (wide narrow rest : ℕ) → ℕ
+columnInRow wide narrow rest = cond (ltb rest (wide * 8)) (rest / 8) (wide + (rest - wide * 8) / narrow)
 
-abbrev pub bitOf : (wide narrow rest : ℕ) → ℕ
-bitOf wide narrow rest = cond (ltb rest (wide * 8)) (rest % 8) ((rest - wide * 8) % narrow)
+abbrev pub bitInRow : (wide narrow rest : ℕ) → ℕ
+bitInRow wide narrow rest = cond (ltb rest (wide * 8)) (rest % 8) ((rest - wide * 8) % narrow)
 
 -- .. the row of what is left in the main area, the subarea and the row of what is left in the wire-AND area ..
 abbrev pub placeInMain : ℕ → ℕ → Place
 placeInMain block rest =
-    record { byte = Main block (rest / mainRowFuses) (columnOf 9 6 (rest % mainRowFuses)); bit = bitOf 9 6 (rest % mainRowFuses) }
+    record { byte = Main block (rest / mainRowFuses) (columnInRow 9 6 (rest % mainRowFuses)); bit = bitInRow 9 6 (rest % mainRowFuses) }
 
 abbrev pub placeInWireAnd : ℕ → ℕ → Place
 placeInWireAnd block rest =
     record {
       byte =
-          WireAnd block (rest / subareaFuses) (rest % subareaFuses / wireAndRowFuses) (columnOf 1 7 (rest % subareaFuses % wireAndRowFuses));
-      bit = bitOf 1 7 (rest % subareaFuses % wireAndRowFuses);
+          WireAnd block (rest / subareaFuses) (rest % subareaFuses / wireAndRowFuses) (columnInRow 1 7 (rest % subareaFuses % wireAndRowFuses));
+      bit = bitInRow 1 7 (rest % subareaFuses % wireAndRowFuses);
     }
 
 abbrev pub placeInBlock : ℕ → ℕ → Place

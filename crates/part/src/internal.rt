@@ -6,7 +6,7 @@ ghost use Prim.Native.Nat.{_+_, _*_, _/_, _%_, _^_, _<_, _≤_};
 ghost use Rattle.part.specs.Outcome.Outcome.{accepted};
 ghost use Rattle.part.specs.Answer.{addressOutcome};
 ghost use Rattle.part.specs.Device.{isBlockCount, known, blocksOf, isLarge, columnWidth, columnStart, mainFuses, subareaFuses, inBlock, inDevice, blockFuses, fuseCount, imageBytes, readoutBytes, textBytes, decimalDigits};
-ghost use Rattle.part.specs.Place.{hasByte, widthOf, columnOf, bitOf, firstFuse, placeInMain, placeInWireAnd, placeOfFuse, field, addressOfByte, byteOfAddress, indexOfByte};
+ghost use Rattle.part.specs.Place.{hasByte, widthOf, columnInRow, bitInRow, firstFuse, placeInMain, placeInWireAnd, placeOfFuse, field, addressOfByte, byteOfAddress, indexOfByte};
 use super::AddressAnswer;
 use super::BytePlace;
 use super::Device;
@@ -274,7 +274,7 @@ struct ColumnBit {
 // The column and the bit of what is left in a row of `wide` columns of 8 bits and then columns of `narrow` bits.
 fn column_and_bit(wide: u32, narrow: u32, rest: u32) -> ColumnBit
     requires { ⌜ (wide ≤ 9) × (6 ≤ narrow) × (narrow ≤ 8) × (rest < wide * 8 + 36) ⌝ }
-    ensures { λ r. ⌜ (r .column ≡ columnOf wide narrow rest) × (r .bit ≡ bitOf wide narrow rest) ⌝ }
+    ensures { λ r. ⌜ (r .column ≡ columnInRow wide narrow rest) × (r .bit ≡ bitInRow wide narrow rest) ⌝ }
 {
     if rest < wide * 8 {
         return ColumnBit {

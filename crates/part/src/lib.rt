@@ -2,7 +2,7 @@
 // The definitions that the contracts cite stand in specs/, the laws about them in proofs/Laws.antt.
 ghost use mathlib.Core.Path.{_≡_};
 ghost use Rattle.part.specs.Device.{known};
-ghost use Rattle.part.specs.Answer.{sizesOutcome, addressOutcome, fuseOutcome, number, value};
+ghost use Rattle.part.specs.Answer.{sizesOutcome, addressOutcome, fuseOutcome, refusalNumber, refusalValue};
 ghost use Rattle.part.specs.Convert.{sizesOf, addressOfFuse, fuseOfAddress};
 
 pub mod internal;
@@ -100,7 +100,7 @@ pub enum NumberAnswer {
 
 // The refusal's number in the table of refusals.
 pub fn refusal_number(r: Refusal) -> u32
-    ensures { λ k. ⌜ k ≡ number r ⌝ }
+    ensures { λ k. ⌜ k ≡ refusalNumber r ⌝ }
 {
     match r {
         Refusal::UnknownDevice => 1,
@@ -120,7 +120,7 @@ pub fn refusal_number(r: Refusal) -> u32
 
 // What the refusal returns besides its number: 0 where the table says 0.
 pub fn refusal_value(r: Refusal) -> u32
-    ensures { λ v. ⌜ v ≡ value r ⌝ }
+    ensures { λ v. ⌜ v ≡ refusalValue r ⌝ }
 {
     match r {
         Refusal::UnknownDevice => 0,

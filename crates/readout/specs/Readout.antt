@@ -8,7 +8,7 @@ use lib.Dec.{ltb, leb}
 use lib.ListN.{length, getD}
 use Rattle.part.specs.Outcome.{Outcome}
 use Rattle.part.specs.Outcome.Outcome.{accepted, refused}
-use Rattle.part.specs.Answer.{number, value}
+use Rattle.part.specs.Answer.{refusalNumber, refusalValue}
 use Rattle.part.specs.Device.{imageBytes, readoutBytes}
 use Rattle.part.specs.Place.{widthOf, fuseOfPlace, placeOfFuse, indexOfByte, byteOfIndex}
 use Rattle.part.specs.Convert.{ifKnown}
@@ -76,4 +76,4 @@ pub record Written {A : Type 0} (o answer : Outcome A) (result before after : Li
 -- what an answer without a result says
 abbrev pub doneOutcome : DoneAnswer → Outcome (Unit {0})
 doneOutcome answer.Done = accepted tt
-doneOutcome (answer.Refused r) = refused (number r) (value r)
+doneOutcome (answer.Refused r) = refused (refusalNumber r) (refusalValue r)

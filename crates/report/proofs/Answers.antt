@@ -14,7 +14,7 @@ use lib.Seq.{length-sets, length-take-le, take-at}
 use borrow.Author.Tests.{lt-ltb, le-ltb, ltb-false}
 use Rattle.part.specs.Outcome.{Outcome}
 use Rattle.part.specs.Outcome.Outcome.{accepted, refused}
-use Rattle.part.specs.Answer.{number, value, numberOutcome}
+use Rattle.part.specs.Answer.{refusalNumber, refusalValue, numberOutcome}
 use Rattle.part.specs.Device.{known, blocksOf, fuseCount, imageBytes, decimalDigits}
 use Rattle.part.proofs.Devices.{digits-small}
 use Rattle.part.specs.declared.Device.{Device}
@@ -57,7 +57,7 @@ module _ (d : Device) (text before image : List ℕ) (k : known d ≡ true) (l :
       let done : toImageFromText d text before ≡ accepted tt = sym (w .answers) ∙ ap doneOutcome e in
       rw (image-lines d (meaning (fuseCount d) text) image (sym done ∙ read) (rw done at (w .holds))) at p
 
-  pub of-refusal : (r : Refusal) (n v : ℕ) → a ≡ answer.Refused r → n ≡ number r → v ≡ value r → Put out after 0 (refusalLine n v) end
+  pub of-refusal : (r : Refusal) (n v : ℕ) → a ≡ answer.Refused r → n ≡ refusalNumber r → v ≡ refusalValue r → Put out after 0 (refusalLine n v) end
       → Put out after 0 (linesOf d (meaning (fuseCount d) text)) end
   of-refusal r n v e en ev p =
       let said : refused n v ≡ verdict (meaning (fuseCount d) text) = rw (en, ev) (ap doneOutcome (sym e)) ∙ w .answers ∙ read in

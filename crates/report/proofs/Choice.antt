@@ -15,17 +15,17 @@ use borrow.Author.Tests.{eq-eqb, ne-eqb}
 use Rattle.part.specs.Device.{known, fuseCount}
 use Rattle.jedec.specs.Cut.{pieces, Cut, fieldsFrom}
 use Rattle.jedec.specs.Judge.{Judged, judge}
-use Rattle.jedec_fields.specs.Fields.{numberOf, judgedAfter, Says, untilStar, fieldsAt, cutOf, Inside, Stands}
+use Rattle.jedec_fields.specs.Fields.{numberRead, judgedAfter, Says, untilStar, fieldsAt, cutOf, Inside, Stands}
 use Rattle.jedec_fields.specs.declared.Digits.{Digits}
 use Rattle.jedec_fields.specs.declared.Digits.the-variants as digits
 use Rattle.jedec_fields.specs.declared.FieldSays.{FieldSays}
 use Rattle.jedec_fields.specs.declared.Next.{Next}
 use Rattle.jedec_fields.specs.declared.Next.the-variants as next
 use Rattle.jedec_fields.proofs.Fields.{Cuts, pieces-star, Uncut, pieces-none}
-use Rattle.report.specs.Report.{ofBlocks, countIn, firstCount, blocksBy, blocksFor}
+use Rattle.report.specs.Report.{ofBlocks, fuseCountIn, firstCount, blocksBy, blocksFor}
 
-pub field-reads : (after : List ℕ) (j : Judged) (r k : FieldSays) (o : Option ℕ) → Says after j r → r ≡ k → countIn (judgedAfter after k) ≡ o → o ≡ countIn j
-field-reads after j r k o s e f = sym f ∙ rw (← e) (ap countIn (s .is))
+pub field-reads : (after : List ℕ) (j : Judged) (r k : FieldSays) (o : Option ℕ) → Says after j r → r ≡ k → fuseCountIn (judgedAfter after k) ≡ o → o ≡ fuseCountIn j
+field-reads after j r k o s e f = sym f ∙ rw (← e) (ap fuseCountIn (s .is))
 
 -- four blocks or two
 pub four-known : known (ofBlocks 4) ≡ true
@@ -77,17 +77,17 @@ module _ (text : List ℕ) (from at : ℕ) (e : first (fieldsAt at (drop at text
     abbrev field : List ℕ
     field = take (star - start) (drop start text)
 
-    module _ (d : Digits) (f : numberOf d ≡ countIn (judge (take (star - start) (drop start text)))) where
+    module _ (d : Digits) (f : numberRead d ≡ fuseCountIn (judge (take (star - start) (drop start text)))) where
       pub a-count : (count r : ℕ) → d ≡ digits.Number count → r ≡ blocksBy (some count) → r ≡ blocksBy (firstCount (fieldsAt from (drop from text) .fields))
       unfolding firstCount orElse
       a-count count r g h =
-          let reads : countIn (judge field) ≡ some count = sym f ∙ ap numberOf g in
+          let reads : fuseCountIn (judge field) ≡ some count = sym f ∙ ap numberRead g in
           h ∙ ap blocksBy (rw reads at (by-next (next.Field start star) w))
 
       pub no-count : d ≡ digits.Wrong → first (fieldsAt (star + 1) (drop (star + 1) text)) ≡ first (fieldsAt from (drop from text))
       unfolding firstCount orElse
       no-count g =
-          let reads : countIn (judge field) ≡ none = sym f ∙ ap numberOf g in
+          let reads : fuseCountIn (judge field) ≡ none = sym f ∙ ap numberRead g in
           rw reads at (by-next (next.Field start star) w)
 
 -- the fields of a text start behind its first `*`

@@ -32,18 +32,18 @@ fieldsIn [] rest = []
 fieldsIn (design ∷ ended) rest = fieldsFrom (length design + 1) ended rest .fields
 
 -- what a field reads as a QF field: the fuse count that it is judged to give. One of bad form reads none; its text is refused 7 for any device
-abbrev pub countIn : Judged → Option ℕ
-countIn (count n) = some n
-countIn (start s) = none
-countIn (list first states) = none
-countIn (sum x) = none
-countIn skipped = none
-countIn bad = none
+abbrev pub fuseCountIn : Judged → Option ℕ
+fuseCountIn (count n) = some n
+fuseCountIn (start s) = none
+fuseCountIn (list first states) = none
+fuseCountIn (sum x) = none
+fuseCountIn skipped = none
+fuseCountIn bad = none
 
 -- what the first QF field reads
 unfoldable pub firstCount : List Field → Option ℕ
 firstCount [] = none
-firstCount (f ∷ fields) = orElse (countIn (judge (f .bytes))) (firstCount fields)
+firstCount (f ∷ fields) = orElse (fuseCountIn (judge (f .bytes))) (firstCount fields)
 
 -- "n = 4 where the first QF field reads 41472, else 2"
 abbrev pub blocksBy : Option ℕ → ℕ

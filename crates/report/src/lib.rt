@@ -14,8 +14,8 @@ ghost use Rattle.readout.specs.Readout.{Written};
 ghost use Rattle.jedec.specs.Characters.{decimalDigit, digitsOf, countDigits, fourHex};
 ghost use Rattle.jedec.specs.Judge.{judge};
 ghost use Rattle.jedec.specs.Meaning.{meaning};
-ghost use Rattle.jedec_fields.specs.Fields.{numberOf, fieldsAt};
-ghost use Rattle.report.specs.Report.{countIn, firstCount, blocksBy, blocksFor, wordSum, line, countLines, refusalLine, linesOf, reportOf, bytesPut, atStart};
+ghost use Rattle.jedec_fields.specs.Fields.{numberRead, fieldsAt};
+ghost use Rattle.report.specs.Report.{fuseCountIn, firstCount, blocksBy, blocksFor, wordSum, line, countLines, refusalLine, linesOf, reportOf, bytesPut, atStart};
 ghost use Rattle.report.specs.Put.{Put};
 use jedec_fields::Digits;
 use jedec_fields::FieldSays;
@@ -123,7 +123,7 @@ fn put_counts(d: Device, image: &[u8], out: &mut [u8]) -> usize
 
 // What a field reads as a QF field, or `Wrong` for any other.
 fn count_in(field: &[u8]) -> Digits
-    ensures { λ r. ⌜ numberOf r ≡ countIn (judge (now (field .entry))) ⌝ }
+    ensures { λ r. ⌜ numberRead r ≡ fuseCountIn (judge (now (field .entry))) ⌝ }
 {
     let says = jedec_fields::internal::judge_field(field);
     match says {

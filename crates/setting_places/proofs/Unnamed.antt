@@ -10,7 +10,7 @@ use lib.Arith.{digits-div, digits-mod, digits-lt}
 use lib.Dec.{ltb, eqb}
 use borrow.Author.Tests.{lt-ltb, eqb-true, eq-eqb, ne-eqb}
 use Rattle.part.specs.Device.{known, blocksOf, isLarge, fuseCount, blockFuses, wireAndWidth}
-use Rattle.part.specs.Place.{hasPlace, columnOf, bitOf, fuseOfPlace, placeOfFuse}
+use Rattle.part.specs.Place.{hasPlace, columnInRow, bitInRow, fuseOfPlace, placeOfFuse}
 use Rattle.part.specs.declared.Device.{Device}
 use Rattle.part.specs.declared.Place.{Place}
 use Rattle.part.specs.declared.BytePlace.{BytePlace}
@@ -195,7 +195,7 @@ module _ (d : Device) (k : known d ≡ true) (f : ℕ) (below : f < fuseCount d)
 -- How many are unnamed in a main area, computed row by row
 abbrev unnamedInRow : (foeCount : ℕ) (first : Bool) (block row rest : ℕ) → ℕ
 unnamedInRow e first block row rest =
-    cond (named e first row (columnOf 9 6 rest) (bitOf 9 6 rest) (candidateInMain block row (columnOf 9 6 rest) (bitOf 9 6 rest))) 0 1
+    cond (named e first row (columnInRow 9 6 rest) (bitInRow 9 6 rest) (candidateInMain block row (columnInRow 9 6 rest) (bitInRow 9 6 rest))) 0 1
 
 abbrev unnamedInMain : (foeCount : ℕ) (first : Bool) (block : ℕ) → ℕ
 unnamedInMain e first block = sum (λ row. sum (unnamedInRow e first block row) 108) 72
@@ -230,7 +230,7 @@ module _ (d : Device) (k : known d ≡ true) (block : ℕ) (h : block < blocksOf
       ∙ sum-same _ _ 72 (λ row hr. sum-same _ _ 108 (λ x hx.
       let rest = row * 108 + x in
       let l : rest < blockFuses d = omega arith in
-      main-unnamed d k (fuse rest) (in-device rest l) block row (columnOf 9 6 x) (bitOf 9 6 x) h
+      main-unnamed d k (fuse rest) (in-device rest l) block row (columnInRow 9 6 x) (bitInRow 9 6 x) h
       (place-in-main d (fuse rest) block rest (sym (digits-div block l)) (sym (digits-mod block l)) _
       (rw (digits-div row hx, digits-mod row hx)) (omega arith))))
 

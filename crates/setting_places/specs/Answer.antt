@@ -5,7 +5,7 @@ use mathlib.Core.Option.{Option}
 use mathlib.Core.Option.Option.{none, some}
 use Rattle.part.specs.Outcome.{Outcome}
 use Rattle.part.specs.Outcome.Outcome.{accepted, refused}
-use Rattle.part.specs.Answer.{number, value}
+use Rattle.part.specs.Answer.{refusalNumber, refusalValue}
 use Rattle.settings.specs.declared.Setting.{Setting}
 use Rattle.setting_places.specs.declared.BitAnswer.{BitAnswer}
 use Rattle.setting_places.specs.declared.BitAnswer.the-variants as bit
@@ -15,9 +15,9 @@ use Rattle.setting_places.specs.declared.NamedAnswer.the-variants as nam
 abbrev pub bitOutcome : BitAnswer → Outcome (Option ℕ)
 bitOutcome (bit.Fuse f) = accepted (some (f .0))
 bitOutcome bit.NoSuchBit = accepted none
-bitOutcome (bit.Refused r) = refused (number r) (value r)
+bitOutcome (bit.Refused r) = refused (refusalNumber r) (refusalValue r)
 
 abbrev pub namedOutcome : NamedAnswer → Outcome (Option (Setting × ℕ))
 namedOutcome (named.Bit s b) = accepted (some (s, b))
 namedOutcome named.Unnamed = accepted none
-namedOutcome (named.Refused r) = refused (number r) (value r)
+namedOutcome (named.Refused r) = refused (refusalNumber r) (refusalValue r)

@@ -7,7 +7,7 @@ use mathlib.Core.Option.Option.{none, some}
 use lib.Dec.{ltb}
 use Rattle.part.specs.Outcome.{Outcome}
 use Rattle.part.specs.Outcome.Outcome.{accepted, refused}
-use Rattle.part.specs.Answer.{number, value}
+use Rattle.part.specs.Answer.{refusalNumber, refusalValue}
 use Rattle.part.specs.declared.Device.{Device}
 use Rattle.settings.specs.Operations.{ifSetting}
 use Rattle.settings.specs.declared.Setting.{Setting}
@@ -20,7 +20,7 @@ use Rattle.setting_values.specs.declared.ValueAnswer.the-variants as ans
 
 abbrev pub valueOutcome : ValueAnswer → Outcome Value
 valueOutcome (answer.Value v) = accepted v
-valueOutcome (answer.Refused r) = refused (number r) (value r)
+valueOutcome (answer.Refused r) = refused (refusalNumber r) (refusalValue r)
 
 unfoldable pub valueOfPattern : Device → Setting → ℕ → Outcome Value
 valueOfPattern d s pattern = ifSetting d s (cond (ltb pattern (2 ^ bitsOf s)) (accepted (valueOf d s pattern)) (refused 5 0))

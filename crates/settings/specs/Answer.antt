@@ -3,7 +3,7 @@
 use Prim.Native.Nat.{ℕ}
 use Rattle.part.specs.Outcome.{Outcome}
 use Rattle.part.specs.Outcome.Outcome.{accepted, refused}
-use Rattle.part.specs.Answer.{number, value}
+use Rattle.part.specs.Answer.{refusalNumber, refusalValue}
 use Rattle.settings.specs.declared.Setting.{Setting}
 use Rattle.settings.specs.declared.SettingAnswer.{SettingAnswer}
 use Rattle.settings.specs.declared.SettingAnswer.the-variants as setting
@@ -12,8 +12,8 @@ use Rattle.settings.specs.declared.SettingNumberAnswer.the-variants as s
 
 abbrev pub settingOutcome : SettingAnswer → Outcome Setting
 settingOutcome (setting.Setting s) = accepted s
-settingOutcome (setting.Refused r) = refused (number r) (value r)
+settingOutcome (setting.Refused r) = refused (refusalNumber r) (refusalValue r)
 
 abbrev pub settingNumberOutcome : SettingNumberAnswer → Outcome ℕ
 settingNumberOutcome (settingNumber.Number x) = accepted (x .0)
-settingNumberOutcome (settingNumber.Refused r) = refused (number r) (value r)
+settingNumberOutcome (settingNumber.Refused r) = refused (refusalNumber r) (refusalValue r)

@@ -1,7 +1,7 @@
 -- `xc9500_image_to_readout` meets its contract: the library function's answer, packed, and its target.
 -- Assumes nothing.
 use borrow.Author.Needs.{needs}
-use Rattle.capi.specs.Packed.{nothing}
+use Rattle.capi.specs.Packed.{noResult}
 use Rattle.capi.proofs.Words.{packed-same}
 use Rattle.capi.proofs.xc9500_image_to_readout.Statement.{statement}
 use Rattle.capi.proofs.xc9500_image_to_readout.Tie as tie
@@ -17,7 +17,7 @@ same-length c = search needs
 
 returns : tie.Need-returns
 returns c =
-    (packed-same nothing (c .done-word .ensures) (c .before .before .before .image-to-readout .ensures .answers), c .before .before .before .image-to-readout .ensures .holds)
+    (packed-same noResult (c .done-word .ensures) (c .before .before .before .image-to-readout .ensures .answers), c .before .before .before .image-to-readout .ensures .holds)
 
 pub xc9500-image-to-readout-spec : {M : Type 1} → statement M
 xc9500-image-to-readout-spec =

@@ -1,6 +1,6 @@
 -- `xc9500_set_in_image` meets its contract: the library function's answer, packed, and its target.
 -- Assumes nothing.
-use Rattle.capi.specs.Packed.{nothing}
+use Rattle.capi.specs.Packed.{noResult}
 use Rattle.capi.proofs.Words.{packed-same}
 use borrow.Author.Needs.{needs}
 use Rattle.capi.proofs.xc9500_set_in_image.Statement.{statement}
@@ -16,7 +16,7 @@ same-length : tie.Need-same-length
 same-length c = search needs
 
 returns : tie.Need-returns
-returns c = (packed-same nothing (c .done-word .ensures) (c .before .before .before .set-pattern-in-image .ensures .answers), c .before .before .before .set-pattern-in-image .ensures .holds)
+returns c = (packed-same noResult (c .done-word .ensures) (c .before .before .before .set-pattern-in-image .ensures .answers), c .before .before .before .set-pattern-in-image .ensures .holds)
 
 pub xc9500-set-in-image-spec : {M : Type 1} → statement M
 xc9500-set-in-image-spec =

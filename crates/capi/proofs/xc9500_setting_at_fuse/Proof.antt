@@ -4,7 +4,7 @@ use mathlib.Core.Path.{_≡_, sym, _∙_, ap}
 use mathlib.Core.Bool.{true}
 use Prim.Native.Nat.{ℕ, _+_, _*_, _-_, _^_}
 use Rattle.part.specs.Device.{known}
-use Rattle.part.specs.Answer.{number, value}
+use Rattle.part.specs.Answer.{refusalNumber, refusalValue}
 use Rattle.part.specs.declared.Device.{Device}
 use Rattle.part.specs.declared.Refusal.{Refusal}
 use Rattle.settings.specs.Settings.{hasSetting}
@@ -32,7 +32,7 @@ module _ (d : Device) (f w : ℕ) (a : NamedAnswer) (e : namedOutcome a ≡ sett
   unnamed : a ≡ named.Unnamed → _≡_ {A = ℕ} (2 ^ 56 - 1) (packed (orNone (settingAndBit d)) (settingAtFuse d f))
   unnamed g = rw (← e, g)
 
-  not-asked : (r : Refusal) → a ≡ named.Refused r → w ≡ refusalWord (number r) (value r) → w ≡ packed (orNone (settingAndBit d)) (settingAtFuse d f)
+  not-asked : (r : Refusal) → a ≡ named.Refused r → w ≡ refusalWord (refusalNumber r) (refusalValue r) → w ≡ packed (orNone (settingAndBit d)) (settingAtFuse d f)
   not-asked r g h = rw (← e, g) h
 
 setting-at-fuse-requires : tie.Need-setting-at-fuse-requires

@@ -2,7 +2,7 @@
 -- Assumes nothing.
 use mathlib.Core.Path.{_≡_}
 use Prim.Native.Nat.{ℕ}
-use Rattle.part.specs.Answer.{number, value}
+use Rattle.part.specs.Answer.{refusalNumber, refusalValue}
 use Rattle.part.specs.declared.Device.{Device}
 use Rattle.part.specs.declared.Refusal.{Refusal}
 use Rattle.settings.specs.Answer.{settingOutcome}
@@ -23,7 +23,7 @@ module _ (d : Device) (x bit w : ℕ) (a : SettingAnswer) (e : settingOutcome a 
       → w ≡ packed (orNone itself) (through (settingOfNumber d x) (λ s. fuseOfBit d s bit))
   its-fuse s b f g h = rw (← e, f, ← g) h
 
-  no-setting : (r : Refusal) → a ≡ setting.Refused r → w ≡ refusalWord (number r) (value r)
+  no-setting : (r : Refusal) → a ≡ setting.Refused r → w ≡ refusalWord (refusalNumber r) (refusalValue r)
       → w ≡ packed (orNone itself) (through (settingOfNumber d x) (λ s. fuseOfBit d s bit))
   no-setting r f h = rw (← e, f) h
 

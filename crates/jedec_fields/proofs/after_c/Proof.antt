@@ -6,7 +6,7 @@ use Prim.Native.Nat.{ℕ}
 use Rattle.jedec.specs.Characters.{sumIn}
 use Rattle.jedec.specs.Judge.{orBad}
 use Rattle.jedec.specs.Judge.Judged.{sum}
-use Rattle.jedec_fields.specs.Fields.{numberOf, Says}
+use Rattle.jedec_fields.specs.Fields.{numberRead, Says}
 use Rattle.jedec_fields.specs.declared.FieldSays.the-variants.{Sum, Bad}
 use Rattle.jedec_fields.specs.declared.Digits.{Digits}
 use Rattle.jedec_fields.specs.declared.Digits.the-variants.{Number, Wrong}
@@ -14,7 +14,7 @@ use borrow.Author.Needs.{needs}
 use Rattle.jedec_fields.proofs.after_c.Statement.{statement}
 use Rattle.jedec_fields.proofs.after_c.Tie as tie
 
-module _ (bytes : List ℕ) (o : Digits) (e : numberOf o ≡ sumIn bytes) where
+module _ (bytes : List ℕ) (o : Digits) (e : numberRead o ≡ sumIn bytes) where
   a-sum : (x : ℕ) → o ≡ Number x → Says bytes (orBad (sumIn bytes) sum) (Sum x)
   a-sum x w = record { is = rw (← e, w); fits = tt }
 

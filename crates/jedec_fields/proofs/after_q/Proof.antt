@@ -10,7 +10,7 @@ use lib.ListN.{length, getD, take, drop}
 use borrow.Author.Tests.{eq-eqb, ne-eqb}
 use Rattle.jedec.specs.Characters.{numberIn}
 use Rattle.jedec.specs.Judge.{afterQ}
-use Rattle.jedec_fields.specs.Fields.{numberOf, Says}
+use Rattle.jedec_fields.specs.Fields.{numberRead, Says}
 use Rattle.jedec_fields.specs.declared.FieldSays.the-variants.{Count, Skipped, Bad}
 use Rattle.jedec_fields.specs.declared.Digits.{Digits}
 use Rattle.jedec_fields.specs.declared.Digits.the-variants.{Number, Wrong}
@@ -24,12 +24,12 @@ nothing-there [] e = record { is = refl; fits = tt }
 nothing-there (b ∷ bytes) e = absurd (omega arith)
 
 module _ (o : Digits) where
-  a-count : (bytes : List ℕ) (n : ℕ) → (length bytes ≡ 0 → ⊥) → getD bytes 0 0 ≡ 70 → numberOf o ≡ numberIn (take (length bytes - 1) (drop 1 bytes)) → o ≡ Number n
+  a-count : (bytes : List ℕ) (n : ℕ) → (length bytes ≡ 0 → ⊥) → getD bytes 0 0 ≡ 70 → numberRead o ≡ numberIn (take (length bytes - 1) (drop 1 bytes)) → o ≡ Number n
       → Says bytes (afterQ bytes) (Count n)
   a-count [] n h e f w = absurd (h refl)
   a-count (b ∷ bytes) n h e f w = record { is = rw (eq-eqb b 70 e, ← rest-whole 1 (b ∷ bytes), ← f, w); fits = tt }
 
-  no-count : (bytes : List ℕ) → (length bytes ≡ 0 → ⊥) → getD bytes 0 0 ≡ 70 → numberOf o ≡ numberIn (take (length bytes - 1) (drop 1 bytes)) → o ≡ Wrong
+  no-count : (bytes : List ℕ) → (length bytes ≡ 0 → ⊥) → getD bytes 0 0 ≡ 70 → numberRead o ≡ numberIn (take (length bytes - 1) (drop 1 bytes)) → o ≡ Wrong
       → Says bytes (afterQ bytes) Bad
   no-count [] h e f w = absurd (h refl)
   no-count (b ∷ bytes) h e f w = record { is = rw (eq-eqb b 70 e, ← rest-whole 1 (b ∷ bytes), ← f, w); fits = tt }

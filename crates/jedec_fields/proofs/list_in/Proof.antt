@@ -9,7 +9,7 @@ use native.Mathlib.Omega.{arith}
 use lib.ListN.{length, take, drop}
 use Rattle.jedec.specs.Characters.{numberIn}
 use Rattle.jedec.specs.Judge.{unbroken, statesIn, statesFrom, listIn}
-use Rattle.jedec_fields.specs.Fields.{numberOf, countOf, countIn, orEmpty, Says}
+use Rattle.jedec_fields.specs.Fields.{numberRead, statesCount, countedStates, orEmpty, Says}
 use Rattle.jedec_fields.specs.declared.FieldSays.the-variants.{List as ListAt, Bad}
 use Rattle.jedec_fields.specs.declared.Digits.{Digits}
 use Rattle.jedec_fields.specs.declared.Digits.the-variants.{Number, Wrong}
@@ -25,13 +25,13 @@ empty-bad : (states : List ℕ) (first : ℕ) → length states ≡ 0 → states
 empty-bad [] first e = refl
 empty-bad (s ∷ states) first e = absurd (omega arith)
 
-module _ (bytes : List ℕ) (u : ℕ) (e : u ≡ unbroken bytes) (l : u ≤ length bytes) (o : Digits) (f : numberOf o ≡ numberIn (take u bytes)) where
+module _ (bytes : List ℕ) (u : ℕ) (e : u ≡ unbroken bytes) (l : u ≤ length bytes) (o : Digits) (f : numberRead o ≡ numberIn (take u bytes)) where
   no-number : o ≡ Wrong → Says bytes (listIn bytes) Bad
   unfolding listIn
   no-number w = record { is = rw (← e, ← f, w); fits = tt }
 
-  module _ (first : ℕ) (w : o ≡ Number first) (q : Counted) (g : countIn q ≡ countOf (statesIn (take (length bytes - u) (drop u bytes)))) where
-    counts : countIn q ≡ countOf (statesIn (drop u bytes))
+  module _ (first : ℕ) (w : o ≡ Number first) (q : Counted) (g : countedStates q ≡ statesCount (statesIn (take (length bytes - u) (drop u bytes)))) where
+    counts : countedStates q ≡ statesCount (statesIn (drop u bytes))
     counts = g ∙ rw (rest-whole u bytes)
 
     wrong-states : q ≡ counted.Wrong → Says bytes (listIn bytes) Bad

@@ -33,19 +33,19 @@ use Rattle.edit.proofs.internal.set.Statement.{statement}
 use Rattle.edit.proofs.internal.set.Tie as tie
 
 -- what the call must give: the outcome's answer, and the bytes that go with it
-abbrev Given : Device → Bool → List ℕ → Setting → Value → Outcome (Unit {0}) → List ℕ → Type 0
-Given d form bytes s v answer after = Written (setIn d form bytes s v) answer (withValue d form bytes s v) bytes after
+abbrev SetGives : Device → Bool → List ℕ → Setting → Value → Outcome (Unit {0}) → List ℕ → Type 0
+SetGives d form bytes s v answer after = Written (setIn d form bytes s v) answer (withValue d form bytes s v) bytes after
 
 refusal : (d : Device) (form : Bool) (bytes : List ℕ) (s : Setting) (v : Value) (n x : ℕ) → refused n x ≡ setIn d form bytes s v
-    → Given d form bytes s v (refused n x) bytes
+    → SetGives d form bytes s v (refused n x) bytes
 refusal d form bytes s v n x e = says (setIn d form bytes s v) (refused n x) (withValue d form bytes s v) bytes e
 
-no-device : (d : Device) (form : Bool) (bytes : List ℕ) (s : Setting) (v : Value) → known d ≡ false → Given d form bytes s v (refused 1 0) bytes
+no-device : (d : Device) (form : Bool) (bytes : List ℕ) (s : Setting) (v : Value) → known d ≡ false → SetGives d form bytes s v (refused 1 0) bytes
 unfolding setIn
 no-device d form bytes s v k = refusal d form bytes s v 1 0 (rw k)
 
 module _ (d : Device) (form : Bool) (bytes : List ℕ) (s : Setting) (v : Value) (size : ℕ) (k : known d ≡ true) (e : size ≡ bytesOf d form) where
-  wrong-length : (length bytes ≡ size → ⊥) → Given d form bytes s v (refused 2 0) bytes
+  wrong-length : (length bytes ≡ size → ⊥) → SetGives d form bytes s v (refused 2 0) bytes
   unfolding setIn
   wrong-length ne = refusal d form bytes s v 2 0 (rw (k, ne-eqb (length bytes) (bytesOf d form) (λ f. ne (f ∙ sym e))))
 
@@ -56,7 +56,7 @@ module _ (d : Device) (form : Bool) (bytes : List ℕ) (s : Setting) (v : Value)
     small : (stray : ℕ) → stray < length bytes → Fits w32 stray
     small stray l = record { fits = omega (arith, its-size, bytes-between d form k) }
 
-    no-setting : hasSetting d s ≡ false → Given d form bytes s v (refused 4 0) bytes
+    no-setting : hasSetting d s ≡ false → SetGives d form bytes s v (refused 4 0) bytes
     unfolding setIn
     no-setting h = refusal d form bytes s v 4 0 (rw (k, eq-eqb (length bytes) (bytesOf d form) its-size, h))
 
@@ -64,12 +64,12 @@ module _ (d : Device) (form : Bool) (bytes : List ℕ) (s : Setting) (v : Value)
       its : patternIn (kindOf d s) v ≡ foundPattern o
       its = ap (λ (x : Kind). patternIn x v) (sym f) ∙ sym g
 
-      no-value : o ≡ NoSuchValue → Given d form bytes s v (refused 5 0) bytes
+      no-value : o ≡ NoSuchValue → SetGives d form bytes s v (refused 5 0) bytes
       unfolding setIn
       no-value w = refusal d form bytes s v 5 0 (rw (k, eq-eqb (length bytes) (bytesOf d form) its-size, h, its, w))
 
       module _ (pattern : ℕ) (w : o ≡ Pattern pattern) (stray : ℕ) (q : stray ≡ strayIn d form bytes s) where
-        a-stray : stray < length bytes → Given d form bytes s v (refused 6 stray) bytes
+        a-stray : stray < length bytes → SetGives d form bytes s v (refused 6 stray) bytes
         unfolding setIn
         a-stray l =
             refusal d form bytes s v 6 stray
@@ -80,7 +80,7 @@ module _ (d : Device) (form : Bool) (bytes : List ℕ) (s : Setting) (v : Value)
         done l =
             rw (k, eq-eqb (length bytes) (bytesOf d form) its-size, h, its, w, ← q, le-ltb stray (bytesOf d form) (omega (arith, its-size)))
 
-        the-set : (after : List ℕ) → length bytes ≤ stray → after ≡ withPattern d form bytes s pattern → Given d form bytes s v (accepted tt) after
+        the-set : (after : List ℕ) → length bytes ≤ stray → after ≡ withPattern d form bytes s pattern → SetGives d form bytes s v (accepted tt) after
         unfolding withValue
         the-set after l x =
             let same = done l in

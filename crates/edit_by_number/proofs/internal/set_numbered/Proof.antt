@@ -19,23 +19,23 @@ use Rattle.setting_bits.specs.SettingBits.{bytesOf, withPattern}
 use Rattle.setting_bits.proofs.Steps.{bits-few}
 use Rattle.edit.specs.Edit.{strayIn}
 use Rattle.edit_by_number.specs.ByNumber.{setPattern}
-use Rattle.edit_by_number.proofs.Asked.{below, there, its-size, stray-fits, Given, refusal, sets-none, sets-stray, sets-clean}
+use Rattle.edit_by_number.proofs.Asked.{below, there, its-size, stray-fits, PatternGives, refusal, sets-none, sets-stray, sets-clean}
 use Rattle.edit_by_number.proofs.Usercode.{has-usercode, sets-code}
 use borrow.Author.Needs.{needs}
 use Rattle.edit_by_number.proofs.internal.set_numbered.Statement.{statement}
 use Rattle.edit_by_number.proofs.internal.set_numbered.Tie as tie
 
-no-device : (d : Device) (form : Bool) (bytes : List ℕ) (x pattern : ℕ) → known d ≡ false → Given d form bytes x pattern (refused 1 0) bytes
+no-device : (d : Device) (form : Bool) (bytes : List ℕ) (x pattern : ℕ) → known d ≡ false → PatternGives d form bytes x pattern (refused 1 0) bytes
 unfolding setPattern
 no-device d form bytes x pattern k = refusal d form bytes x pattern 1 0 (rw k)
 
 module _ (d : Device) (form : Bool) (bytes : List ℕ) (x pattern size : ℕ) (k : known d ≡ true) (e : size ≡ bytesOf d form) where
-  wrong-length : (length bytes ≡ size → ⊥) → Given d form bytes x pattern (refused 2 0) bytes
+  wrong-length : (length bytes ≡ size → ⊥) → PatternGives d form bytes x pattern (refused 2 0) bytes
   unfolding setPattern
   wrong-length ne = refusal d form bytes x pattern 2 0 (rw (k, ne-eqb (length bytes) (bytesOf d form) (λ f. ne (f ∙ sym e))))
 
   module _ (n : length bytes ≡ size) (count : ℕ) (f : count ≡ countOf d) where
-    no-number : count ≤ x → Given d form bytes x pattern (refused 4 0) bytes
+    no-number : count ≤ x → PatternGives d form bytes x pattern (refused 4 0) bytes
     unfolding setPattern
     no-number l = refusal d form bytes x pattern 4 0 (rw (k, eq-eqb (length bytes) (bytesOf d form) (n ∙ e), le-ltb x (countOf d) (omega arith)))
 
@@ -43,14 +43,14 @@ module _ (d : Device) (form : Bool) (bytes : List ℕ) (x pattern size : ℕ) (k
       its-test : ltb pattern (2 ^ bitsOf s) ≡ t
       its-test = rw (← w) (sym u)
 
-      not-fitting : not t ≡ true → Given d form bytes x pattern (refused 5 0) bytes
+      not-fitting : not t ≡ true → PatternGives d form bytes x pattern (refused 5 0) bytes
       not-fitting y = sets-none d form bytes x k (n ∙ e) (below d x count f l) s g pattern (its-test ∙ not-true t y)
 
       module _ (y : not t ≡ false) (stray : ℕ) (q : stray ≡ strayIn d form bytes s) where
-        a-stray : stray < length bytes → Given d form bytes x pattern (refused 6 stray) bytes
+        a-stray : stray < length bytes → PatternGives d form bytes x pattern (refused 6 stray) bytes
         a-stray m = sets-stray d form bytes x k (n ∙ e) (below d x count f l) s g pattern (its-test ∙ not-false t y) stray (sym q) m
 
-        the-set : (after : List ℕ) → length bytes ≤ stray → after ≡ withPattern d form bytes s pattern → Given d form bytes x pattern (accepted tt) after
+        the-set : (after : List ℕ) → length bytes ≤ stray → after ≡ withPattern d form bytes s pattern → PatternGives d form bytes x pattern (accepted tt) after
         the-set after m z = sets-clean d form bytes x k (n ∙ e) (below d x count f l) s g pattern (its-test ∙ not-false t y) stray (sym q) after m z
 
 few : (d : Device) (x count : ℕ) (s : Setting) (bits : ℕ) → count ≡ countOf d → x < count → s ≡ settingOf d x → bits ≡ bitsOf s → bits ≤ 32

@@ -14,10 +14,10 @@ use mir.Val.{Fits}
 use Rattle.cells.specs.Cells.{cut, join}
 use Rattle.cells.proofs.Laws.{cut-length, join-small, total-replicate}
 use Rattle.jedec_runs.specs.Runs.{IsBlankAt, StatesAt}
-use Rattle.jedec_runs.proofs.Words.{Taken, taken-at, none-first}
+use Rattle.jedec_runs.proofs.Words.{StatesTaken, taken-at, none-first}
 use Rattle.jedec_fields.specs.Fields.{statesOf}
 use Rattle.jedec_image.specs.States.{withStates}
-use Rattle.jedec_image.proofs.Puts.{Written, rest-written, none-written, pending, pending-none, pending-own, group-under, put-few, put-over}
+use Rattle.jedec_image.proofs.Puts.{WritesStates, rest-written, none-written, pending, pending-none, pending-own, group-under, put-few, put-over}
 use borrow.Author.Needs.{needs}
 use Rattle.jedec_image.proofs.internal.put_states.Statement.{statement}
 use Rattle.jedec_image.proofs.internal.put_states.Tie as tie
@@ -27,13 +27,13 @@ record Puts (bytes image₀ : List ℕ) (fuse : ℕ) (image : List ℕ) (index b
   upto : i ≤ length bytes
   small : bit < 8
   under : low < 2 ^ bit
-  left : Written (drop i bytes)
+  left : WritesStates (drop i bytes)
   fits : index * 8 + bit + length (statesOf (drop i bytes)) ≤ length image * 8
   same : length image ≡ length image₀
   octets : (k : ℕ) → Fits w8 (getD image k 0)
   so-far : withStates (pending image index bit low) (index * 8 + bit) (statesOf (drop i bytes)) ≡ withStates image₀ fuse (statesOf bytes)
 
-starts : (bytes image : List ℕ) (fuse low : ℕ) → Written bytes → fuse + length (statesOf bytes) ≤ length image * 8 → low ≡ getD image (fuse / 8) 0 % 2 ^ (fuse % 8)
+starts : (bytes image : List ℕ) (fuse low : ℕ) → WritesStates bytes → fuse + length (statesOf bytes) ≤ length image * 8 → low ≡ getD image (fuse / 8) 0 % 2 ^ (fuse % 8)
     → ((k : ℕ) → Fits w8 (getD image k 0)) → Puts bytes image fuse image (fuse / 8) (fuse % 8) low 0
 starts bytes image fuse low w l e o =
     let whole : fuse / 8 * 8 + fuse % 8 ≡ fuse = div-add-mod' fuse 8 in
@@ -82,13 +82,13 @@ module _ (bytes image₀ : List ℕ) (fuse : ℕ) (image : List ℕ) (index bit 
     room = let m : bit + count ≤ 64 = omega (arith, r .small, there .few) in omega (arith, next-under, pow-mono m)
 
     module _ (z : ℕ) (l : i < length bytes) (o : (k : ℕ) → Fits w8 (getD bytes k 0)) (blank : IsBlankAt bytes (i + count) z) where
-      s : Taken bytes i count (count + z)
+      s : StatesTaken bytes i count (count + z)
       s = taken-at bytes i count z l o there blank
 
       inside : i + (count + z) ≤ length bytes
       inside = s .inside
 
-      rest : (statesOf (drop i bytes) ≡ cut (replicate count 1) bits ++ statesOf (drop (i + (count + z)) bytes)) × Written (drop (i + (count + z)) bytes)
+      rest : (statesOf (drop i bytes) ≡ cut (replicate count 1) bits ++ statesOf (drop (i + (count + z)) bytes)) × WritesStates (drop (i + (count + z)) bytes)
       rest = rest-written bytes i (count + z) (cut (replicate count 1) bits) (r .left) (s .writes ∙ rw e)
 
       -- a byte is taken, since every byte left is a state or a blank

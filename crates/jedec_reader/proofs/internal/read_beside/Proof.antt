@@ -5,21 +5,21 @@ use mathlib.Core.List.{List}
 use Prim.Native.Nat.{ℕ}
 use Rattle.part.specs.Outcome.{Outcome}
 use Rattle.part.specs.Outcome.Outcome.{accepted, refused}
-use Rattle.part.specs.Answer.{number, value}
+use Rattle.part.specs.Answer.{refusalNumber, refusalValue}
 use Rattle.part.specs.declared.Refusal.{Refusal}
 use Rattle.readout.specs.Readout.{doneOutcome}
 use Rattle.readout.specs.declared.DoneAnswer.{DoneAnswer}
 use Rattle.readout.specs.declared.DoneAnswer.the-variants as answer
-use Rattle.jedec_reader.specs.Progress.{Reads, ReadInto}
+use Rattle.jedec_reader.specs.Progress.{ReadBeside, ReadInto}
 use borrow.Author.Needs.{needs}
 use Rattle.jedec_reader.proofs.internal.read_beside.Statement.{statement}
 use Rattle.jedec_reader.proofs.internal.read_beside.Tie as tie
 
-module _ (o : Outcome (List ℕ)) (a : DoneAnswer) (made : List ℕ) (r : Reads o (doneOutcome a) made) (before : List ℕ) where
+module _ (o : Outcome (List ℕ)) (a : DoneAnswer) (made : List ℕ) (r : ReadBeside o (doneOutcome a) made) (before : List ℕ) where
   done : (after : List ℕ) → a ≡ answer.Done → after ≡ made → ReadInto o (accepted tt) before after
   done after w e = record { answers = sym (ap doneOutcome w) ∙ r .answers; holds = e ∙ r .holds (ap doneOutcome w) }
 
-  no-image : (x : Refusal) → a ≡ answer.Refused x → ReadInto o (refused (number x) (value x)) before before
+  no-image : (x : Refusal) → a ≡ answer.Refused x → ReadInto o (refused (refusalNumber x) (refusalValue x)) before before
   no-image x w = record { answers = sym (ap doneOutcome w) ∙ r .answers; holds = refl }
 
 read-text-requires : tie.Need-read-text-requires

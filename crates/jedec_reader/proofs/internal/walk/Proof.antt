@@ -12,9 +12,9 @@ use Rattle.part.specs.Outcome.{Outcome}
 use Rattle.part.specs.Outcome.Outcome.{refused}
 use Rattle.jedec.specs.Cut.{Cut}
 use Rattle.jedec.specs.Judge.{judge}
-use Rattle.jedec.specs.Rules.{Known, nothing, inOrder, after, allFields, misplaced, stateGiven, imageWith}
+use Rattle.jedec.specs.Rules.{Known, nothingKnown, inOrder, after, allFields, misplaced, stateGiven, imageWith}
 use Rattle.jedec.specs.Meaning.{withEnd, withFields, ofCut}
-use Rattle.jedec_fields.specs.Fields.{judgedAfter, Fits, Says, fieldsAt, cutOf, Inside, nextOf, JudgedStands}
+use Rattle.jedec_fields.specs.Fields.{judgedAfter, SaysFits, Says, fieldsAt, cutOf, Inside, nextOf, JudgedStands}
 use Rattle.jedec_fields.specs.declared.FieldSays.{FieldSays}
 use Rattle.jedec_fields.specs.declared.FieldSays.the-variants as says
 use Rattle.jedec_fields.specs.declared.NextSays.{NextSays}
@@ -23,7 +23,7 @@ use Rattle.jedec_fields.specs.declared.Next.the-variants as next
 use Rattle.jedec_image.specs.States.{lastEnd}
 use Rattle.jedec.proofs.States.{image-length}
 use Rattle.jedec_image.proofs.Images.{start-holds}
-use Rattle.jedec_reader.specs.Progress.{mayStand, Few, afterField, putField, PutFits, Given, Reads}
+use Rattle.jedec_reader.specs.Progress.{mayStand, Few, afterField, putField, PutFits, ProgressKnows, ReadBeside}
 use Rattle.jedec_reader.specs.declared.internal.Seen.the-variants as seen
 use Rattle.jedec_reader.specs.declared.internal.Noted.the-variants as noted
 use Rattle.jedec_reader.specs.declared.internal.Progress.{Progress}
@@ -40,7 +40,7 @@ ofRest fuses text k cut = withFields fuses text (cut .end) (allFields k (cut .fi
 -- what the fields so far gave, and the fields still to come
 record Walks (fuses : ℕ) (text : List ℕ) (from : ℕ) (image₀ image : List ℕ) (p : Progress) (at : ℕ) : Type 0 where
   k : Known
-  given : Given fuses p k image
+  given : ProgressKnows fuses p k image
   size : length image ≡ (fuses + 7) / 8
   same : length image ≡ length image₀
   inside : at ≤ length text
@@ -51,7 +51,7 @@ starts : (fuses : ℕ) (text : List ℕ) (from : ℕ) (image : List ℕ) → fro
 unfolding misplaced lastEnd
 starts fuses text from image l e =
     record {
-      k = nothing;
+      k = nothingKnown;
       given = record { count = refl; start = refl; listed = refl; end = refl; faulty = refl; sum = refl; bits = λ m. start-holds fuses 0 (omega arith) .bits; holds = λ m. e };
       size = ap length e ∙ image-length fuses (stateGiven 0 []);
       same = refl;
@@ -74,15 +74,15 @@ module _ (fuses : ℕ) (text : List ℕ) (from : ℕ) (image₀ image : List ℕ
     by-next : (m : NextSays) → n ≡ m → ofRest fuses text (r .k) (cutOf text (nextOf m)) ≡ ofCut fuses text (fieldsAt from (drop from text))
     by-next m w = ap (ofRest fuses text (r .k)) (ap (λ (x : NextSays). cutOf text (nextOf x)) (sym w) ∙ s .stands .cut) ∙ r .rest
 
-    early : n ≡ next-says.Early → Reads (ofCut fuses text (fieldsAt from (drop from text))) (refused 7 (length text)) image
+    early : n ≡ next-says.Early → ReadBeside (ofCut fuses text (fieldsAt from (drop from text))) (refused 7 (length text)) image
     unfolding allFields
     early w = refused-reads _ 7 (length text) image (sym (by-next next-says.Early w))
 
     etx-there : (etx : ℕ) → n ≡ next-says.End etx → etx < length text
     etx-there etx w = rw w at (s .stands .inside)
 
-    the-end : (etx : ℕ) (answer : Outcome (Unit {0})) → n ≡ next-says.End etx → ((k : Known) → Given fuses p k image → Reads (withEnd fuses text k (some etx)) answer image)
-        → Reads (ofCut fuses text (fieldsAt from (drop from text))) answer image
+    the-end : (etx : ℕ) (answer : Outcome (Unit {0})) → n ≡ next-says.End etx → ((k : Known) → ProgressKnows fuses p k image → ReadBeside (withEnd fuses text k (some etx)) answer image)
+        → ReadBeside (ofCut fuses text (fieldsAt from (drop from text))) answer image
     unfolding allFields
     the-end etx answer w f = rw (← by-next (next-says.End etx) w) (f (r .k) (r .given))
 
@@ -114,7 +114,7 @@ module _ (fuses : ℕ) (text : List ℕ) (from : ℕ) (image₀ image : List ℕ
       order : mayStand p fs ≡ inOrder (r .k) (judge field)
       order = in-order fuses p (r .k) image (drop 1 field) fs (r .given) ∙ ap (inOrder (r .k)) (j .is)
 
-      a-bad-field : (t : Bool) → t ≡ mayStand p fs → not t ≡ true → Reads (ofCut fuses text (fieldsAt from (drop from text))) (refused 7 start) image
+      a-bad-field : (t : Bool) → t ≡ mayStand p fs → not t ≡ true → ReadBeside (ofCut fuses text (fieldsAt from (drop from text))) (refused 7 start) image
       unfolding allFields
       a-bad-field t e h =
           let bad : inOrder (r .k) (judge field) ≡ false = sym order ∙ sym e ∙ not-true t h in
@@ -123,7 +123,7 @@ module _ (fuses : ℕ) (text : List ℕ) (from : ℕ) (image₀ image : List ℕ
       few-states : length text ≤ 1048576 → Few fs
       few-states l = few fs (j .fits)
         where
-          few : (x : FieldSays) → Fits (drop 1 (take (star - start) (drop start text))) x → Few x
+          few : (x : FieldSays) → SaysFits (drop 1 (take (star - start) (drop start text))) x → Few x
           few (says.Count n) f = tt
           few (says.Start x) f = tt
           few (says.List first skip number) f = omega (arith, f .few, length-drop 1 (take (star - start) (drop start text)), length-take (star - start) (drop start text), length-drop start text)
@@ -141,7 +141,7 @@ module _ (fuses : ℕ) (text : List ℕ) (from : ℕ) (image₀ image : List ℕ
         one-more t image′ f h i =
             let good : inOrder (r .k) (judge field) ≡ true = sym order ∙ sym f ∙ not-false t h in
             let good-here : inOrder (r .k) (judgedAfter (drop 1 field) fs) ≡ true = ap (inOrder (r .k)) (j .is) ∙ good in
-            let known : Given fuses q (after (r .k) start (judge field)) image′ =
+            let known : ProgressKnows fuses q (after (r .k) start (judge field)) image′ =
             rw (i, e, ← j .is) (given-after fuses p (r .k) image (drop 1 field) start (r .given) fs (j .fits) good-here) in
             let long : length image′ ≡ length image = rw i (put-length fuses (drop 1 field) fs (q .misplaced) image (r .size)) in
             record {
