@@ -363,18 +363,6 @@ fn read_text(fuses: u32, text: &[u8], image: &mut [u8]) -> DoneAnswer
     walk(fuses, text, star + 1, image)
 }
 
-// An image copied.
-fn copy(from: &[u8], to: &mut [u8])
-    requires { ⌜ length (now from) ≡ length (now to) ⌝ }
-    ensures { λ _. ⌜ now (to .exit) ≡ now (from .entry) ⌝ }
-{
-    let mut i: usize = 0;
-    while i < to.len() {
-        to[i] = from[i];
-        i += 1;
-    }
-}
-
 // The image of a text, made in `made` and put into `image` only where nothing is refused.
 pub fn read_beside(fuses: u32, text: &[u8], made: &mut [u8], image: &mut [u8]) -> DoneAnswer
     requires { ⌜ (length (now made) ≡ (fuses + 7) / 8) × (length (now image) ≡ (fuses + 7) / 8) ⌝ }
@@ -383,7 +371,7 @@ pub fn read_beside(fuses: u32, text: &[u8], made: &mut [u8], image: &mut [u8]) -
     let answer = read_text(fuses, text, made);
     match answer {
         DoneAnswer::Done => {
-            copy(made, image);
+            image::internal::copy(made, image);
             DoneAnswer::Done
         }
         DoneAnswer::Refused(r) => DoneAnswer::Refused(r),
