@@ -5,6 +5,10 @@
 --   accepted-iff        a text is accepted with an image exactly if it is of the form, its C field gives the fuse sum of that image, and its
 --                       transmission sum is 0000 or the sum of its bytes from STX to ETX (`Accepted` in specs/Form.antt)
 --   in-place-iff        no L is refused exactly if each starts at or after the end of the L before it and ends at or before the count
+--   misplaced-iff       the L that is refused is the first out of place: every L before it is in place, and it starts before the end of the L
+--                       before it or ends past the count; the value is where its field starts (`FirstMisplaced` in specs/Form.antt)
+--   refused-9-iff       a text is refused 9 exactly if it is of the form, its QF gives the count and some L is out of place; the value is where
+--                       the first such L starts (`Refused9` in specs/Form.antt)
 --   finished-state      the image of fields in order, with each L in place, is the one in which each L gives its fuses their states and every
 --                       other fuse has the start state (`Described` in specs/Form.antt)
 --   assembled-accepted  a text put together in that form, with fields in order and right counts and sums, is accepted
@@ -13,6 +17,7 @@
 --   values-small        a refusal has a number of 7 to 11, and its value is no larger than the longest text
 pub use Rattle.jedec.proofs.Cases.{accepted-texts, refused-texts, written-text, too-long, no-start}
 pub use Rattle.jedec.proofs.Conditions.{accepted-iff}
+pub use Rattle.jedec.proofs.Misplaced.{misplaced-iff, refused-9-iff}
 pub use Rattle.jedec.proofs.States.{in-place-iff, finished-state}
 pub use Rattle.jedec.proofs.Forms.{assembled-accepted}
 pub use Rattle.jedec.proofs.ReadBack.{read-back}

@@ -3,6 +3,7 @@
 pub mod Cases
 pub mod Numbers
 pub mod Conditions
+pub mod Misplaced
 pub mod Cutting
 pub mod Forms
 pub mod Judging
