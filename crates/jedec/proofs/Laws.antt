@@ -12,6 +12,9 @@
 --   finished-state      the image of fields in order, with each L in place, is the one in which each L gives its fuses their states and every
 --                       other fuse has the start state (`Described` in specs/Form.antt)
 --   assembled-accepted  a text put together in that form, with fields in order and right counts and sums, is accepted
+--   form-iff            a text is of the form exactly if it is put together from STX, a design text, fields after blanks, ETX, four hex digits
+--                       and blanks, with its fields and its ETX where these stand (`GoodForm`, `Assembled` in specs/Form.antt)
+--   assembled-iff       a text is accepted with an image exactly if it is put together so, with fields in order and right counts and sums
 --   read-back           what the writer writes of an image is accepted and gives that image
 --   seven-back, count-back, sum-back   seven digits, a plain count and four hex digits are read back as the number that was written
 --   values-small        a refusal has a number of 7 to 11, and its value is no larger than the longest text
@@ -20,6 +23,7 @@ pub use Rattle.jedec.proofs.Conditions.{accepted-iff}
 pub use Rattle.jedec.proofs.Misplaced.{misplaced-iff, refused-9-iff}
 pub use Rattle.jedec.proofs.States.{in-place-iff, finished-state}
 pub use Rattle.jedec.proofs.Forms.{assembled-accepted}
+pub use Rattle.jedec.proofs.Parts.{form-iff, assembled-iff}
 pub use Rattle.jedec.proofs.ReadBack.{read-back}
 pub use Rattle.jedec.proofs.Numbers.{seven-back, count-back, sum-back}
 pub use Rattle.jedec.proofs.Places.{values-small}

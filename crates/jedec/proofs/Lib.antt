@@ -6,6 +6,7 @@ pub mod Conditions
 pub mod Misplaced
 pub mod Cutting
 pub mod Forms
+pub mod Parts
 pub mod Judging
 pub mod ReadBack
 pub mod Places

@@ -1,6 +1,6 @@
 -- A text of document 01's form, put together from its parts, and what it is for a text to be accepted: what the laws speak of.
--- The laws are `accepted-iff`, `in-place-iff`, `misplaced-iff`, `refused-9-iff`, `finished-state`, `assembled-accepted` and `read-back` in
--- proofs/Laws.antt.
+-- The laws are `accepted-iff`, `in-place-iff`, `misplaced-iff`, `refused-9-iff`, `finished-state`, `assembled-accepted`, `form-iff`,
+-- `assembled-iff` and `read-back` in proofs/Laws.antt.
 use Prim.Native.Nat.{ℕ, _+_, _/_, _^_, _<_, _≤_}
 use mathlib.Core.Path.{_≡_}
 use mathlib.Core.Logic.{_⊎_}
@@ -118,6 +118,20 @@ pub record Accepted (fuses : ℕ) (text image : List ℕ) : Type 0 where
   pub sum : ℕ
   pub form : GoodForm text gives end sum
   pub concluded : Concluded fuses text image end sum gives
+
+-- a text put together from its parts, with what its fields give, where its ETX stands, and its transmission sum: it is not too long, its parts
+-- hold what they may, and its fields are good and in order
+pub record Assembled (text : List ℕ) (gives : Known) (end sum : ℕ) : Type 0 where
+  pub not-long : length text ≤ longest
+  pub design : List ℕ
+  pub parts : List Part
+  pub gap : List ℕ
+  pub digits : List ℕ
+  pub blanks : List ℕ
+  pub right-form : RightForm design parts gap digits blanks sum
+  pub its-bytes : text ≡ assembled design parts gap digits blanks
+  pub good-fields : allFields nothingKnown (fieldsOf (firstAt design) parts) ≡ known gives
+  pub its-end : end ≡ etxAt design parts gap
 
 -- an image of so many fuses: its bytes, and nothing past the last fuse
 pub record Image (fuses : ℕ) (image : List ℕ) : Type 0 where
