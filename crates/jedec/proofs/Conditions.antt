@@ -1,5 +1,4 @@
--- A text that is not refused 7 is of document 01's form, and it is accepted exactly if its counts and sums are right too (`GoodForm`, `Accepted`
--- in specs/Form.antt).
+-- A text is of document 01's form or refused 7, and accepted exactly if its counts and sums are right too (`GoodForm`, `Accepted` in specs/Form.antt).
 -- Assumes nothing.
 use mathlib.Core.Path.{_≡_, refl, sym, _∙_, ap}
 use mathlib.Core.Logic.{_↔_, _⊎_, inl, inr}

@@ -1,6 +1,5 @@
--- A text of document 01's form, put together from its parts, and what it is for a text to be accepted: what the laws speak of.
--- The laws are `accepted-iff`, `in-place-iff`, `misplaced-iff`, `refused-9-iff`, `finished-state`, `assembled-accepted`, `form-iff`,
--- `assembled-iff` and `read-back` in proofs/Laws.antt.
+-- A text of document 01's form, put together from its parts, and what it is for a text to be accepted, or refused 9: what the laws speak of.
+-- The laws stand in proofs/Laws.antt: those whose names end in -iff, `finished-state`, `assembled-accepted` and `read-back`.
 use Prim.Native.Nat.{ℕ, _+_, _/_, _^_, _<_, _≤_}
 use mathlib.Core.Path.{_≡_}
 use mathlib.Core.Logic.{_⊎_}
