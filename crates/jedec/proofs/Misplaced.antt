@@ -26,12 +26,14 @@ module _ (fuses : ℕ) where
   -- the first of several is out of place, or it is in place and the first out of place is one of the others
   here : (end : ℕ) (l : Listed) (lists : List Listed) (at : ℕ) → misplaced fuses end (l ∷ lists) ≡ some at → OutOfPlace fuses end l
       → FirstMisplaced fuses end (l ∷ lists) at
+  unfolding lastEnd
   here end l lists at e out =
       let same : some (l .at) ≡ some at = rw (named end l lists out) at e in
       record { before = []; it = l; behind = lists; its-place = refl; before-in-place = tt; out-of-place = out; its-start = cc }
 
   later : (end : ℕ) (l : Listed) (lists : List Listed) (at : ℕ) → end ≤ l .first → endOf l ≤ fuses → FirstMisplaced fuses (endOf l) lists at
       → FirstMisplaced fuses end (l ∷ lists) at
+  unfolding lastEnd
   later end l lists at late fits f =
       record {
         before = l ∷ f .before;
@@ -56,7 +58,7 @@ module _ (fuses : ℕ) where
 
   of-first : (end : ℕ) (before : List Listed) (it : Listed) (behind : List Listed) → InPlace fuses end before → OutOfPlace fuses (lastEnd end before) it
       → misplaced fuses end (before ++ (it ∷ behind)) ≡ some (it .at)
-  unfolding misplaced
+  unfolding misplaced lastEnd
   of-first end [] it behind p out = named end it behind out
   of-first end (l ∷ before) it behind p out =
       rw (le-ltb (l .first) end (p .0), le-ltb fuses (endOf l) (p .1)) (of-first (endOf l) before it behind (p .2) out)

@@ -145,7 +145,7 @@ InPlace fuses end (l ∷ lists) =
     (end ≤ l .first) × (l .first + length (l .states) ≤ fuses) × InPlace fuses (l .first + length (l .states)) lists
 
 -- where the last L ends; `end` if there is none
-abbrev pub lastEnd : (end : ℕ) → List Listed → ℕ
+unfoldable pub lastEnd : (end : ℕ) → List Listed → ℕ
 lastEnd end [] = end
 lastEnd end (l ∷ lists) = lastEnd (l .first + length (l .states)) lists
 

@@ -21,7 +21,8 @@ use Rattle.image.specs.Bits.{bitOf, putBit, withBit, gathered}
 use Rattle.image.proofs.Bits.{put-same, put-other, put-small, gathered-small, gathered-bit, gathered-same, gathered-own}
 use Rattle.jedec.specs.Rules.{Listed, endOf, misplaced, stateGiven, within, imageWith}
 use Rattle.jedec.proofs.States.{placed, image-length, image-at, within-small}
-use Rattle.jedec_image.specs.States.{withState, withStates, lastEnd}
+use Rattle.jedec.specs.Form.{lastEnd}
+use Rattle.jedec_image.specs.States.{withState, withStates}
 
 -- two images are one where each byte is gathered from like bits
 image-is : (fuses : ℕ) (f : ℕ → ℕ) (bytes : List ℕ) → length bytes ≡ (fuses + 7) / 8

@@ -3,7 +3,6 @@
 use Prim.Native.Nat.{ℕ, _+_, _/_, _%_}
 use mathlib.Core.List.{List, [], _∷_}
 use Rattle.image.specs.Bits.{withBit}
-use Rattle.jedec.specs.Rules.{Listed, endOf}
 
 -- fuse f is bit f mod 8 of byte f div 8
 unfoldable pub withState : (image : List ℕ) → (fuse state : ℕ) → List ℕ
@@ -12,8 +11,3 @@ withState image fuse state = withBit image (fuse / 8) (fuse % 8) state
 unfoldable pub withStates : (image : List ℕ) → (fuse : ℕ) → (states : List ℕ) → List ℕ
 withStates image fuse [] = image
 withStates image fuse (s ∷ states) = withStates (withState image fuse s) (fuse + 1) states
-
--- where the last of some L fields ends
-unfoldable pub lastEnd : (end : ℕ) → List Listed → ℕ
-lastEnd end [] = end
-lastEnd end (l ∷ lists) = lastEnd (endOf l) lists

@@ -18,7 +18,8 @@ use Rattle.jedec.specs.Rules.{Listed, Known, has, hasAny, inOrder, after, endOf
 use Rattle.jedec_fields.specs.Fields.{statesOf, judgedAfter, ListFits, SaysFits}
 use Rattle.jedec_fields.specs.declared.FieldSays.{FieldSays}
 use Rattle.jedec_fields.specs.declared.FieldSays.the-variants as says
-use Rattle.jedec_image.specs.States.{withState, withStates, lastEnd}
+use Rattle.jedec.specs.Form.{lastEnd}
+use Rattle.jedec_image.specs.States.{withState, withStates}
 use Rattle.jedec_image.proofs.Puts.{written-bits}
 use Rattle.jedec.proofs.States.{image-length}
 use Rattle.jedec_image.proofs.Images.{Holds, start-holds, put-listed, last-more, still-misplaced, now-misplaced}

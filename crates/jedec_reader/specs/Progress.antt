@@ -15,7 +15,8 @@ use Rattle.jedec.specs.Rules.{At, Known, has, hasAny, misplaced, startState, st
 use Rattle.jedec_fields.specs.Fields.{statesOf, ListFits}
 use Rattle.jedec_fields.specs.declared.FieldSays.{FieldSays}
 use Rattle.jedec_fields.specs.declared.FieldSays.the-variants as says
-use Rattle.jedec_image.specs.States.{withStates, lastEnd}
+use Rattle.jedec.specs.Form.{lastEnd}
+use Rattle.jedec_image.specs.States.{withStates}
 use Rattle.jedec_reader.specs.Reader.{verdict, resultOf}
 use Rattle.jedec_reader.specs.declared.internal.Noted.{Noted}
 use Rattle.jedec_reader.specs.declared.internal.Noted.the-variants as noted

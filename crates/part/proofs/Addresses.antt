@@ -14,13 +14,13 @@ use Rattle.part.proofs.Facts.{tests}
 use Rattle.part.proofs.Devices.{blocks-small}
 
 -- the fields of an address that is composed of numbers that fit them
-main-fields : (a b r h l : ℕ) → a ≡ b * 2 ^ 13 + 0 * 2 ^ 12 + r * 2 ^ 5 + h * 2 ^ 3 + l → r < 128 → h < 4 → l < 8
-    → (field a 12 1 ≡ 0) × (a / 2 ^ 13 ≡ b) × (field a 5 7 ≡ r) × (field a 3 2 ≡ h) × (field a 0 3 ≡ l)
-main-fields a b r h l e hr hh hl = omega arith
+main-fields : (a b r h l : ℕ) → a ≡ b * 2 ^ 13 + 0 * 2 ^ 12 + r * 2 ^ 5 + h * 2 ^ 3 + l → b < 16 → r < 128 → h < 4 → l < 8
+    → (field a 12 1 ≡ 0) × (field a 13 4 ≡ b) × (field a 5 7 ≡ r) × (field a 3 2 ≡ h) × (field a 0 3 ≡ l)
+main-fields a b r h l e hb hr hh hl = omega arith
 
-wire-and-fields : (a b s r c : ℕ) → a ≡ b * 2 ^ 13 + 1 * 2 ^ 12 + s * 2 ^ 8 + r * 2 ^ 3 + c → s < 16 → r < 32 → c < 8
-    → (field a 12 1 ≡ 1) × (a / 2 ^ 13 ≡ b) × (field a 8 4 ≡ s) × (field a 3 5 ≡ r) × (field a 0 3 ≡ c)
-wire-and-fields a b s r c e hs hr hc = omega arith
+wire-and-fields : (a b s r c : ℕ) → a ≡ b * 2 ^ 13 + 1 * 2 ^ 12 + s * 2 ^ 8 + r * 2 ^ 3 + c → b < 16 → s < 16 → r < 32 → c < 8
+    → (field a 12 1 ≡ 1) × (field a 13 4 ≡ b) × (field a 8 4 ≡ s) × (field a 3 5 ≡ r) × (field a 0 3 ≡ c)
+wire-and-fields a b s r c e hb hs hr hc = omega arith
 
 -- the address of a byte names that byte
 pub again : (d : Device) → known d ≡ true → (byte : BytePlace) → hasByte d byte ≡ true → byteOfAddress (addressOfByte byte) ≡ byte
@@ -29,14 +29,14 @@ again d k (Main block row column) h =
     let small = blocks-small d k in
     let facts = simp tests at h in
     let a = addressOfByte (Main block row column) in
-    let f = main-fields a block row (column / 5) (column % 5) refl (omega arith) (omega arith) (omega arith) in
+    let f = main-fields a block row (column / 5) (column % 5) refl (omega arith) (omega arith) (omega arith) (omega arith) in
     let whole : column / 5 * 5 + column % 5 ≡ column = omega arith in
     rw (f .0, f .1, f .2, f .3, f .4, whole)
 again d k (WireAnd block subarea row column) h =
     let small = blocks-small d k in
     let facts = simp tests at h in
     let a = addressOfByte (WireAnd block subarea row column) in
-    let f = wire-and-fields a block subarea row column refl (omega arith) (omega arith) (omega arith) in
+    let f = wire-and-fields a block subarea row column refl (omega arith) (omega arith) (omega arith) (omega arith) in
     rw (f .0, f .1, f .2, f .3, f .4)
 
 -- and has 17 bits

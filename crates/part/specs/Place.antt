@@ -72,12 +72,12 @@ addressOfByte (WireAnd block subarea row column) = block * 2 ^ 13 + 1 * 2 ^ 12 +
 abbrev pub field : ℕ → ℕ → ℕ → ℕ
 field x from width = x / 2 ^ from % 2 ^ width
 
--- the byte that an address names, if any: what stands above bit 16 is left in the block, which no device then has
+-- the byte that the fields of an address name; bits above bit 16 belong to no field, so that an address with one is not composed again
 unfoldable pub byteOfAddress : ℕ → BytePlace
 byteOfAddress address =
     cond (eqb (field address 12 1) 0)
-    (Main (address / 2 ^ 13) (field address 5 7) (field address 3 2 * 5 + field address 0 3))
-    (WireAnd (address / 2 ^ 13) (field address 8 4) (field address 3 5) (field address 0 3))
+    (Main (field address 13 4) (field address 5 7) (field address 3 2 * 5 + field address 0 3))
+    (WireAnd (field address 13 4) (field address 8 4) (field address 3 5) (field address 0 3))
 
 -- an address is valid if it is composed as above from a block, row and column (wire-AND: subarea too) that the device has
 unfoldable pub valid : Device → ℕ → Bool

@@ -450,7 +450,7 @@ pub fn byte_of_address(a: DeviceAddress) -> BytePlace
     ensures { λ r. ⌜ r ≡ byteOfAddress (a .0) ⌝ }
 {
     let address = a.0;
-    let block = address >> 13;
+    let block = field_of(address, 13, 4);
     if field_of(address, 12, 1) == 0 {
         BytePlace::Main {
             block,

@@ -20,7 +20,7 @@ use Rattle.jedec_fields.specs.declared.FieldSays.the-variants as says
 use Rattle.jedec_fields.specs.declared.NextSays.{NextSays}
 use Rattle.jedec_fields.specs.declared.NextSays.the-variants as next-says
 use Rattle.jedec_fields.specs.declared.Next.the-variants as next
-use Rattle.jedec_image.specs.States.{lastEnd}
+use Rattle.jedec.specs.Form.{lastEnd}
 use Rattle.jedec.proofs.States.{image-length}
 use Rattle.jedec_image.proofs.Images.{start-holds}
 use Rattle.jedec_reader.specs.Progress.{mayStand, Few, afterField, putField, PutFits, ProgressKnows, TextRead}
