@@ -1,10 +1,10 @@
 // What the vectors program of reading and setting prints, worked out by the plain access to settings.
-// Many settings are read, set one after the other on the same bytes, and read again.
+// Many settings are read, set one after the other on the same bytes, and read again; then some are set in an image and in its readout at once.
 
 use crate::access::{read_in_image, read_in_readout, set_in_image, set_in_readout};
 use crate::catalogue::{number_of_setting, setting_count};
-use crate::device::{Answer, Device, SMALL};
-use crate::image::{image_bytes, image_to_readout, readout_bytes};
+use crate::device::{Answer, Device, Refusal, SMALL};
+use crate::image::{image_bytes, image_to_readout, readout_bytes, readout_to_image};
 use crate::setting::{MacrocellField, Setting};
 use crate::value::{pattern_of_value, value_of_pattern, Value, ValueName};
 use crate::vectors::{devices_and_others, fill, halves, word, Digest};
@@ -175,7 +175,85 @@ fn document_case(smallest: Device) -> Answer<Vec<String>> {
     Ok(lines)
 }
 
-/// Document 01's case; then each device, with the lengths one off, right, and one off the other way.
+/// How many times a device is asked both ways.
+const TURNS: u32 = 37;
+
+/// The setting of a number, or OE_MUX of macrocell 0 where the device has none.
+fn setting_or_oe_mux(device: Device, number: u32) -> u32 {
+    let count = setting_count(device).unwrap_or(0);
+    if number < count {
+        return number;
+    }
+    let oe_mux = Setting::Macrocell {
+        block: 0,
+        macrocell: 0,
+        field: MacrocellField::OeMux,
+    };
+    number_of_setting(device, oe_mux).unwrap_or(number)
+}
+
+/// A refusal's number in the high half of the word and its value in the low half; 0 or the pattern where it is accepted.
+fn halved(answer: Answer<u32>) -> u64 {
+    match answer {
+        Ok(result) => u64::from(result),
+        Err(Refusal { number, value }) => (u64::from(number) << 32) + u64::from(value),
+    }
+}
+
+/// A setting set to a pattern in an image and straight in its readout, both converted, and another setting read in both before and after.
+fn both_ways(device: Device, lengths: [usize; 5]) -> String {
+    let [mut image, mut readout, mut kept, mut its_readout, mut its_image] =
+        lengths.map(|length| vec![0; length]);
+    let slices = [
+        &mut image,
+        &mut readout,
+        &mut kept,
+        &mut its_readout,
+        &mut its_image,
+    ];
+    for (bytes, seed) in slices.into_iter().zip(3..) {
+        fill(bytes, seed);
+    }
+    let past = setting_count(device).unwrap_or(0) + 2;
+    let mut digest = Digest::new();
+    let done = |answer: Answer<()>| halved(answer.map(|()| 0));
+    for k in 0..TURNS {
+        let setting = setting_or_oe_mux(device, (k * 7919 + 13) % past);
+        let other = setting_or_oe_mux(device, (k * 104_729 + 7) % past);
+        let pattern = k * 5 % 9;
+        digest.take_in(done(image_to_readout(device, &image, &mut readout)));
+        if kept.len() == readout.len() {
+            kept.copy_from_slice(&readout);
+        }
+        digest.take_in(halved(read_in_image(device, &image, other)));
+        digest.take_in(halved(read_in_readout(device, &readout, other)));
+        digest.take_in(done(set_in_image(device, &mut image, setting, pattern)));
+        digest.take_in(done(set_in_readout(device, &mut readout, setting, pattern)));
+        digest.take_in(done(image_to_readout(device, &image, &mut its_readout)));
+        digest.take_in(done(readout_to_image(device, &readout, &mut its_image)));
+        for asked in [setting, other] {
+            digest.take_in(halved(read_in_image(device, &image, asked)));
+            digest.take_in(halved(read_in_readout(device, &readout, asked)));
+        }
+    }
+    format!(
+        "both ways {} image {} readout {} before {} its readout {} its image {}",
+        digest.value,
+        digest_of(&image),
+        digest_of(&readout),
+        digest_of(&kept),
+        digest_of(&its_readout),
+        digest_of(&its_image)
+    )
+}
+
+/// The sizes of a device's image and readout, or of the smallest one's where there is none.
+fn sizes(device: Device, smallest: Device) -> (usize, usize) {
+    let sized = if device.is_known() { device } else { smallest };
+    (image_bytes(sized).unwrap(), readout_bytes(sized).unwrap())
+}
+
+/// Document 01's case; then each device, with the lengths one off, right, and one off the other way; then both ways at once.
 pub(crate) fn edit_vectors() -> String {
     let smallest = Device {
         blocks: 2,
@@ -187,9 +265,7 @@ pub(crate) fn edit_vectors() -> String {
     }
     for device in devices_and_others() {
         let Device { blocks, class } = device;
-        let sized = if device.is_known() { device } else { smallest };
-        let image = image_bytes(sized).unwrap();
-        let readout = readout_bytes(sized).unwrap();
+        let (image, readout) = sizes(device, smallest);
         for (image, readout) in [
             (image - 1, readout + 1),
             (image, readout),
@@ -197,6 +273,18 @@ pub(crate) fn edit_vectors() -> String {
         ] {
             let answers = answers(device, image, readout);
             writeln!(lines, "blocks {blocks} class {class} {answers}").unwrap();
+        }
+    }
+    for device in devices_and_others() {
+        let Device { blocks, class } = device;
+        let (image, readout) = sizes(device, smallest);
+        for lengths in [
+            [image - 1, readout + 1, readout - 1, readout - 1, image + 1],
+            [image, readout, readout, readout, image],
+            [image + 1, readout - 1, readout + 1, readout + 1, image - 1],
+        ] {
+            let both = both_ways(device, lengths);
+            writeln!(lines, "blocks {blocks} class {class} {both}").unwrap();
         }
     }
     lines

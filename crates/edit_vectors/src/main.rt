@@ -1,4 +1,4 @@
-// Prints what reading and setting one setting answer in an image and in a readout: document 01's case, then each device.
+// Prints what reading and setting one setting answer in an image and in a readout: document 01's case, then each device; then both ways at once.
 // The file stdout beside src/ is what the independent program prints.
 use part::Device;
 use readout::DoneAnswer;
@@ -10,6 +10,8 @@ use values::Value;
 use vectors::SMALLEST;
 use vectors::at_most;
 use vectors::near;
+
+mod both;
 
 // OE_MUX of macrocell 0 of block 0, of the smallest part.
 const OE_MUX: u32 = 15563;
@@ -247,4 +249,14 @@ fn main() {
     let mut readout = io::large_buffer();
     on_the_smallest(&mut image, &mut readout);
     each_device(&mut image, &mut readout);
+    let mut kept = io::large_buffer();
+    let mut its_readout = io::large_buffer();
+    let mut its_image = io::large_buffer();
+    both::each_device(
+        &mut image,
+        &mut readout,
+        &mut kept,
+        &mut its_readout,
+        &mut its_image,
+    );
 }
