@@ -9,6 +9,9 @@ const DEVICE: Device = Device {
     class: SMALL,
 };
 const IMAGE_BYTES: usize = 2268;
+/// How many texts the specification states, so that none is passed over.
+const ACCEPTED: usize = 11;
+const REFUSED: usize = 65;
 
 /// The bytes of a text as the specification writes it: characters between quotes, numbers, and the names of two; `file` puts STX and ETX
 /// around its two.
@@ -66,7 +69,7 @@ fn all_but(byte: u8, index: usize, other: u8) -> Vec<u8> {
 
 #[test]
 fn each_text_is_answered_as_stated() {
-    let mut texts = 0;
+    let (mut accepted, mut refused) = (0, 0);
     for line in CASES.lines() {
         let Some(case) = line.trim_start_matches([' ', '∷']).strip_prefix("is (") else {
             continue;
@@ -76,7 +79,20 @@ fn each_text_is_answered_as_stated() {
         let mut image = vec![0xA5; IMAGE_BYTES];
         let given = text_to_image(DEVICE, &bytes(text), &mut image).map(|()| image);
         assert_eq!(given, expected(answer), "{text}");
-        texts += 1;
+        match given {
+            Ok(_) => accepted += 1,
+            Err(_) => refused += 1,
+        }
     }
-    assert!(texts >= 70, "only {texts} texts found");
+    assert_eq!(
+        (accepted, refused),
+        (ACCEPTED, REFUSED),
+        "texts accepted and refused: found in Cases.antt, and expected here"
+    );
+    let stated = CASES.matches("is (").count();
+    assert_eq!(
+        stated,
+        ACCEPTED + REFUSED,
+        "`is (` in Cases.antt, and texts read"
+    );
 }

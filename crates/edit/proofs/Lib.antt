@@ -7,6 +7,7 @@ pub mod ReadsAsSet
 pub mod OthersAsBefore
 pub mod ListedFuses
 pub mod OtherFuses
+pub mod ConversionsAccepted
 pub mod Demand
 pub mod Cases
 pub mod Laws

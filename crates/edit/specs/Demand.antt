@@ -1,25 +1,23 @@
--- Demand 3, whole, in the customer's words: a field for each of its sentences, in their order, over document 01's places and values, the conversions and the
--- passages; it speaks of the definitions that the contracts of the operations cite.
+-- Demand 3, whole, in the customer's words: a field for each of its sentences, in their order, over document 01's places and values and the
+-- conversions; it speaks of the definitions that the contracts of the operations cite, and of calls.
 use mathlib.Core.Path.{_≡_}
 use mathlib.Core.Logic.{_≢_}
-use mathlib.Core.Bool.{true}
+use mathlib.Core.Bool.{Bool, true}
 use mathlib.Core.List.{List}
 use Prim.Native.Nat.{ℕ, _^_, _<_}
 use lib.ListN.{length, getD}
 use Rattle.part.specs.Outcome.{Outcome}
 use Rattle.part.specs.Outcome.Outcome.{accepted}
-use Rattle.part.specs.Device.{known, fuseCount, imageBytes, readoutBytes}
+use Rattle.part.specs.Device.{known, fuseCount, imageBytes}
 use Rattle.part.specs.declared.Device.{Device}
 use Rattle.image.specs.Bits.{bitOf}
-use Rattle.readout.specs.Readout.{readoutOf, imageOf, doneOutcome}
+use Rattle.readout.specs.Readout.{toReadout, readoutOf, toImage, imageOf}
 use Rattle.settings.specs.Settings.{hasSetting}
 use Rattle.settings.specs.declared.Setting.{Setting}
 use Rattle.setting_places.specs.Places.{bitsOf, fuseOf}
 use Rattle.values.specs.declared.Value.{Value}
 use Rattle.setting_values.specs.Kinds.{valueOf}
-use Rattle.setting_values.specs.Operations.{valueOutcome}
 use Rattle.setting_bits.specs.SettingBits.{inImage, inReadout, stateOf}
-use Rattle.edit.specs.declared.internal.BothAnswer.{BothAnswer}
 use Rattle.edit.specs.Edit.{readIn, setIn, withValue}
 
 -- "take any known device, any image of it, the readout of that image, any setting of that device and any value of that setting": what 003's
@@ -32,27 +30,55 @@ pub record Taken (d : Device) (image : List ℕ) (s : Setting) (v : Value) (patt
   pub fits : pattern < 2 ^ bitsOf s
   pub value : valueOf d s pattern ≡ v
 
--- what the calls gave: the answers of setting in the image and in the readout; the bytes after that; the readout of the changed image
--- and the image of the changed readout; the answers of reading
-pub record Calls : Type 0 where
+-- What the calls gave: the answer of the conversion of the image and the readout that it made; the answers of setting in the image and
+-- in the readout, and the bytes after that; the answers of the conversions of the changed image and of the changed readout, and their
+-- results; the answers of reading the setting in both, and of reading another setting in both before and after the change.
+pub record Calls (A : Type 0) : Type 0 where
+  pub converted : Outcome (Unit {0})
+  pub readout-before : List ℕ
   pub set-image : Outcome (Unit {0})
   pub set-readout : Outcome (Unit {0})
   pub image : List ℕ
   pub readout : List ℕ
+  pub converted-image : Outcome (Unit {0})
   pub its-readout : List ℕ
+  pub converted-readout : Outcome (Unit {0})
   pub its-image : List ℕ
-  pub read-image : Outcome Value
-  pub read-readout : Outcome Value
+  pub read-image : Outcome A
+  pub read-readout : Outcome A
+  pub other-image-before : Outcome A
+  pub other-readout-before : Outcome A
+  pub other-image : Outcome A
+  pub other-readout : Outcome A
 
--- the calls are those that their names say: the answers of setting and what it left, the bytes of each passage and the answers of reading
--- are the definitions'
-pub record Made (d : Device) (image : List ℕ) (s : Setting) (v : Value) (c : Calls) : Type 0 where
-  pub answers : (c .set-image ≡ setIn d inImage image s v) × (c .set-readout ≡ setIn d inReadout (readoutOf d image) s v)
-  pub changes : (c .image ≡ withValue d inImage image s v) × (c .readout ≡ withValue d inReadout (readoutOf d image) s v)
-  pub passages : (c .its-readout ≡ readoutOf d (c .image)) × (c .its-image ≡ imageOf d (c .readout))
-  pub readings : (c .read-image ≡ readIn d inImage (c .image) s) × (c .read-readout ≡ readIn d inReadout (c .readout) s)
+-- What the definitions give where setting answers `set` and leaves `changed`, and a setting that is called `s` is read by `read`. The answer
+-- of a conversion depends on its target by the length alone, which is that of its result.
+abbrev pub callsBy : {S A : Type 0} → Device → (set : Bool → List ℕ → Outcome (Unit {0})) → (changed : Bool → List ℕ → List ℕ)
+    → (read : Bool → List ℕ → S → Outcome A) → (image : List ℕ) → (s t : S) → Calls A
+callsBy d set changed read image s t = record {
+  converted = toReadout d image (readoutOf d image);
+  readout-before = readoutOf d image;
+  set-image = set inImage image;
+  set-readout = set inReadout (readoutOf d image);
+  image = changed inImage image;
+  readout = changed inReadout (readoutOf d image);
+  converted-image = toReadout d (changed inImage image) (readoutOf d (changed inImage image));
+  its-readout = readoutOf d (changed inImage image);
+  converted-readout = toImage d (changed inReadout (readoutOf d image)) (imageOf d (changed inReadout (readoutOf d image)));
+  its-image = imageOf d (changed inReadout (readoutOf d image));
+  read-image = read inImage (changed inImage image) s;
+  read-readout = read inReadout (changed inReadout (readoutOf d image)) s;
+  other-image-before = read inImage image t;
+  other-readout-before = read inReadout (readoutOf d image) t;
+  other-image = read inImage (changed inImage image) t;
+  other-readout = read inReadout (changed inReadout (readoutOf d image)) t;
+}
 
-pub record Demand3 (d : Device) (image : List ℕ) (s : Setting) (v : Value) (pattern : ℕ) (c : Calls) : Type 0 where
+-- The demand of some calls. A setting is called `s`: by its name and fields, or by its number; `has` says which of these the device has,
+-- `read` reads one, `v` is what it is set to, `pattern` the states that `v` needs, and `fuse b` for b below `bits` are the fuses listed for
+-- it. `t` is the other setting that the calls read.
+pub record Demand3 {S A : Type 0} (d : Device) (has : S → Type 0) (read : Bool → List ℕ → S → Outcome A) (image : List ℕ)
+    (s : S) (v : A) (pattern bits : ℕ) (fuse : ℕ → ℕ) (t : S) (c : Calls A) : Type 0 where
   -- "Set it in the image, or set it straight in the readout's few bytes. Neither is refused."
   pub not-refused : (c .set-image ≡ accepted tt) × (c .set-readout ≡ accepted tt)
   -- "Then the changed readout equals, byte for byte, the readout of the changed image, .."
@@ -61,39 +87,41 @@ pub record Demand3 (d : Device) (image : List ℕ) (s : Setting) (v : Value) (pa
   pub same-image : c .its-image ≡ c .image
   -- "In the changed image and in the changed readout the setting reads as that value, .."
   pub reads-as-set : (c .read-image ≡ accepted v) × (c .read-readout ≡ accepted v)
-  -- ".. and every other setting reads as it did before."
-  pub others-as-before : (t : Setting) → hasSetting d t ≡ true → t ≢ s
-      → (readIn d inImage (c .image) t ≡ readIn d inImage image t)
-      × (readIn d inReadout (c .readout) t ≡ readIn d inReadout (readoutOf d image) t)
+  -- ".. and every other setting reads as it did before.": the one that the calls read, and every one
+  pub others-as-before : (has t → t ≢ s
+      → (c .other-image ≡ c .other-image-before) × (c .other-readout ≡ c .other-readout-before))
+      × ((u : S) → has u → u ≢ s
+      → (read inImage (c .image) u ≡ read inImage image u)
+      × (read inReadout (c .readout) u ≡ read inReadout (c .readout-before) u))
   -- "Each fuse listed for the setting stands as the value needs it."
-  pub listed-fuses : (b : ℕ) → b < bitsOf s
-      → (stateOf d inImage (c .image) (fuseOf d s b) ≡ bitOf pattern b)
-      × (stateOf d inReadout (c .readout) (fuseOf d s b) ≡ bitOf pattern b)
+  pub listed-fuses : (b : ℕ) → b < bits
+      → (stateOf d inImage (c .image) (fuse b) ≡ bitOf pattern b)
+      × (stateOf d inReadout (c .readout) (fuse b) ≡ bitOf pattern b)
   -- "Every other fuse of the part, named or not, stands as before."
-  pub other-fuses : (f : ℕ) → f < fuseCount d → ((b : ℕ) → b < bitsOf s → fuseOf d s b ≢ f)
+  pub other-fuses : (f : ℕ) → f < fuseCount d → ((b : ℕ) → b < bits → fuse b ≢ f)
       → (stateOf d inImage (c .image) f ≡ stateOf d inImage image f)
-      × (stateOf d inReadout (c .readout) f ≡ stateOf d inReadout (readoutOf d image) f)
+      × (stateOf d inReadout (c .readout) f ≡ stateOf d inReadout (c .readout-before) f)
+  -- none of the three conversions was refused
+  pub conversions-accepted :
+      (c .converted ≡ accepted tt) × (c .converted-image ≡ accepted tt) × (c .converted-readout ≡ accepted tt)
 
--- the calls of `both_ways`: what it answered, and what its four slices then held
-abbrev pub callsOf : BothAnswer → (image readout its-readout its-image : List ℕ) → Calls
-callsOf r image readout its-readout its-image = record {
-  set-image = doneOutcome (r .«set_image»);
-  set-readout = doneOutcome (r .«set_readout»);
-  image = image;
-  readout = readout;
-  its-readout = its-readout;
-  its-image = its-image;
-  read-image = valueOutcome (r .«read_image»);
-  read-readout = valueOutcome (r .«read_readout»);
-}
+-- The operations by setting and value: what the definitions give, and the demand of some calls of them.
+abbrev pub callsByName : Device → (image : List ℕ) → Setting → Value → (t : Setting) → Calls Value
+callsByName d image s v t =
+    callsBy d (λ form bytes. setIn d form bytes s v) (λ form bytes. withValue d form bytes s v) (readIn d) image s t
 
--- its three other slices have the lengths of a readout, a readout and an image
-pub record Room (d : Device) (readout its-readout its-image : List ℕ) : Type 0 where
-  pub readout-size : length readout ≡ readoutBytes d
-  pub its-readout-size : length its-readout ≡ readoutBytes d
-  pub its-image-size : length its-image ≡ imageBytes d
+abbrev pub DemandByName : Device → (image : List ℕ) → Setting → Value → (pattern : ℕ) → (t : Setting) → Calls Value → Type 0
+DemandByName d image s v pattern t c =
+    Demand3 d (λ u. hasSetting d u ≡ true) (readIn d) image s v pattern (bitsOf s) (fuseOf d s) t c
 
--- what `both_ways` ensures of its calls, for whatever it was given: they are those, and demand 3 holds of them
-abbrev pub BothWays : Device → (image readout its-readout its-image : List ℕ) → Setting → Value → Calls → Type 0
-BothWays d image readout its-readout its-image s v c =
-    (pattern : ℕ) → Taken d image s v pattern → Room d readout its-readout its-image → Made d image s v c × Demand3 d image s v pattern c
+-- The calls are those that their names say: each answer, and the bytes that each call left, are the definitions'.
+pub record Made (d : Device) (image : List ℕ) (s : Setting) (v : Value) (t : Setting) (c : Calls Value) : Type 0 where
+  pub conversion : (c .converted ≡ toReadout d image (c .readout-before)) × (c .readout-before ≡ readoutOf d image)
+  pub answers : (c .set-image ≡ setIn d inImage image s v) × (c .set-readout ≡ setIn d inReadout (c .readout-before) s v)
+  pub changes : (c .image ≡ withValue d inImage image s v) × (c .readout ≡ withValue d inReadout (c .readout-before) s v)
+  pub image-converted : (c .converted-image ≡ toReadout d (c .image) (c .its-readout)) × (c .its-readout ≡ readoutOf d (c .image))
+  pub readout-converted : (c .converted-readout ≡ toImage d (c .readout) (c .its-image)) × (c .its-image ≡ imageOf d (c .readout))
+  pub readings : (c .read-image ≡ readIn d inImage (c .image) s) × (c .read-readout ≡ readIn d inReadout (c .readout) s)
+  pub others-before : (c .other-image-before ≡ readIn d inImage image t)
+      × (c .other-readout-before ≡ readIn d inReadout (c .readout-before) t)
+  pub others-after : (c .other-image ≡ readIn d inImage (c .image) t) × (c .other-readout ≡ readIn d inReadout (c .readout) t)

@@ -9,7 +9,6 @@ ghost use Rattle.settings.specs.Settings.{hasSetting};
 ghost use Rattle.setting_values.specs.Operations.{valueOutcome};
 ghost use Rattle.setting_bits.specs.SettingBits.{bytesOf};
 ghost use Rattle.edit.specs.Edit.{strayIn, readIn, setIn, withValue};
-ghost use Rattle.edit.specs.Demand.{BothWays, callsOf};
 use part::Device;
 use part::Refusal;
 use readout::DoneAnswer;
@@ -89,42 +88,5 @@ pub fn set(d: Device, readout: bool, bytes: &mut [u8], s: Setting, v: Value) -> 
             DoneAnswer::Done
         }
         Found::NoSuchValue => DoneAnswer::Refused(Refusal::NoSuchValue),
-    }
-}
-
-// What the calls of `both_ways` answered.
-pub struct BothAnswer {
-    pub set_image: DoneAnswer,
-    pub set_readout: DoneAnswer,
-    pub read_image: ValueAnswer,
-    pub read_readout: ValueAnswer,
-}
-
-// Demand 3, run on slices that the caller passes: the readout of an image; a setting set in the image and straight in the readout; the
-// readout of the changed image, the image of the changed readout; the setting read in both. It is here for its contract, and no
-// operation: where a call is refused, the calls after it are made all the same.
-pub fn both_ways(
-    d: Device,
-    image: &mut [u8],
-    readout: &mut [u8],
-    its_readout: &mut [u8],
-    its_image: &mut [u8],
-    s: Setting,
-    v: Value,
-) -> BothAnswer
-    ensures { λ r. ⌜ BothWays d (now (image .entry)) (now (readout .entry)) (now («its_readout» .entry)) (now («its_image» .entry)) s v (callsOf r (now (image .exit)) (now (readout .exit)) (now («its_readout» .exit)) (now («its_image» .exit))) ⌝ }
-{
-    readout::image_to_readout(d, image, readout);
-    let set_image = super::set_in_image(d, image, s, v);
-    let set_readout = super::set_in_readout(d, readout, s, v);
-    readout::image_to_readout(d, image, its_readout);
-    readout::readout_to_image(d, readout, its_image);
-    let read_image = super::read_in_image(d, image, s);
-    let read_readout = super::read_in_readout(d, readout, s);
-    BothAnswer {
-        set_image,
-        set_readout,
-        read_image,
-        read_readout,
     }
 }

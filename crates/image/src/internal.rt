@@ -99,3 +99,15 @@ pub fn ones_of(bytes: &[u8]) -> u64
     }
     ones
 }
+
+// All bytes copied to a slice of the same length.
+pub fn copy(from: &[u8], to: &mut [u8])
+    requires { ⌜ length (now from) ≡ length (now to) ⌝ }
+    ensures { λ _. ⌜ now (to .exit) ≡ now (from .entry) ⌝ }
+{
+    let mut i: usize = 0;
+    while i < to.len() {
+        to[i] = from[i];
+        i += 1;
+    }
+}

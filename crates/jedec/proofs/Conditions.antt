@@ -1,4 +1,4 @@
--- A text is accepted exactly if it is of document 01's form and its counts and sums are right (`Accepted` in specs/Form.antt).
+-- A text is of document 01's form or refused 7, and accepted exactly if its counts and sums are right too (`GoodForm`, `Accepted` in specs/Form.antt).
 -- Assumes nothing.
 use mathlib.Core.Path.{_≡_, refl, sym, _∙_, ap}
 use mathlib.Core.Logic.{_↔_, _⊎_, inl, inr}
@@ -21,36 +21,44 @@ use Rattle.jedec.specs.Cut.Tail.{given, wrong}
 use Rattle.jedec.specs.Rules.{At, Known, nothingKnown, Fields, allFields, wrongCount, misplaced, finished}
 use Rattle.jedec.specs.Rules.Fields.{known, badAt}
 use Rattle.jedec.specs.Meaning.{longest, unless, wrongSum, wrongTransmission, concluded, withTail, withEnd, withFields, ofPieces, meaning}
-use Rattle.jedec.specs.Form.{Concluded, Accepted}
+use Rattle.jedec.specs.Form.{Counted, Concluded, GoodForm, Accepted}
 
--- a refusal is no acceptance
-never : {A : Type 0} {P : Type 0} (n v : ℕ) (x : A) → refused n v ≡ accepted x → P
-never n v x e = let z : _≡_ {A = ℕ} 0 1 = cc in absurd (omega arith)
+-- an answer is no refusal of this number; an accepted text is none
+abbrev pub Not : (number : ℕ) → Outcome (List ℕ) → Type 0
+Not number answer = (at : ℕ) → refused number at ≡ answer → ⊥
 
--- what was accepted passed each test
-passed : (t : Bool) (n v : ℕ) (answer : Outcome (List ℕ)) (image : List ℕ) → cond t (refused n v) answer ≡ accepted image
-    → (t ≡ false) × (answer ≡ accepted image)
-passed true n v answer image e = never n v image e
-passed false n v answer image e = (refl, e)
+pub not-refused : (number : ℕ) (image : List ℕ) → Not number (accepted image)
+not-refused number image at e = let z : _≡_ {A = ℕ} 0 1 = cc in omega arith
 
-was : (t : Bool) (n v : ℕ) (answer : Outcome (List ℕ)) (image : List ℕ) → cond t answer (refused n v) ≡ accepted image
-    → (t ≡ true) × (answer ≡ accepted image)
-was true n v answer image e = (refl, e)
-was false n v answer image e = never n v image e
+-- what is not refused for a test passed it
+passed : (t : Bool) (n v : ℕ) (other answer : Outcome (List ℕ)) → Not n answer → cond t (refused n v) other ≡ answer
+    → (t ≡ false) × (other ≡ answer)
+passed true n v other answer never e = absurd (never v e)
+passed false n v other answer never e = (refl, e)
 
-no-place : (n : ℕ) (o : Option ℕ) (answer : Outcome (List ℕ)) (image : List ℕ) → unless n o answer ≡ accepted image
-    → (o ≡ none) × (answer ≡ accepted image)
-no-place n none answer image e = (refl, e)
-no-place n (some at) answer image e = never n at image e
+was : (t : Bool) (n v : ℕ) (other answer : Outcome (List ℕ)) → Not n answer → cond t other (refused n v) ≡ answer
+    → (t ≡ true) × (other ≡ answer)
+was true n v other answer never e = (refl, e)
+was false n v other answer never e = absurd (never v e)
+
+pub no-place : (n : ℕ) (o : Option ℕ) (other answer : Outcome (List ℕ)) → Not n answer → unless n o other ≡ answer → (o ≡ none) × (other ≡ answer)
+no-place n none other answer never e = (refl, e)
+no-place n (some at) other answer never e = absurd (never at e)
 
 -- each rule, from its place to what it says, and back
-the-count : (fuses etx : ℕ) (o : Option At) → wrongCount fuses etx o ≡ none → (q : At) × (o ≡ some q) × (q .value ≡ fuses)
-the-count fuses etx none e = let z : _≡_ {A = ℕ} 0 1 = cc in absurd (omega arith)
-the-count fuses etx (some q) e = go (eqb (q .value) fuses) refl e
+pub the-count : (fuses etx : ℕ) (k : Known) → wrongCount fuses etx (k .count) ≡ none → Counted fuses k
+the-count fuses etx k e = given-as (k .count) refl e
   where
-    go : (t : Bool) → eqb (q .value) fuses ≡ t → cond t none (some (q .at)) ≡ none → (r : At) × (some q ≡ some r) × (r .value ≡ fuses)
-    go true w e = (q, refl, eqb-true (q .value) fuses w)
-    go false w e = let z : _≡_ {A = ℕ} 0 1 = cc in absurd (omega arith)
+    right : (q : At) (t : Bool) → eqb (q .value) fuses ≡ t → cond t none (some (q .at)) ≡ none → q .value ≡ fuses
+    right q true w e = eqb-true (q .value) fuses w
+    right q false w e = let z : _≡_ {A = ℕ} 0 1 = cc in absurd (omega arith)
+
+    given-as : (o : Option At) → k .count ≡ o → wrongCount fuses etx o ≡ none → Counted fuses k
+    given-as none w e = let z : _≡_ {A = ℕ} 0 1 = cc in absurd (omega arith)
+    given-as (some q) w e = record { count-field = q; has-count = w; right-count = right q (eqb (q .value) fuses) refl e }
+
+pub count-none : (fuses etx : ℕ) (k : Known) → Counted fuses k → wrongCount fuses etx (k .count) ≡ none
+count-none fuses etx k c = rw (c .has-count, eq-eqb (c .count-field .value) fuses (c .right-count))
 
 the-sum : (image : List ℕ) (o : Option At) → wrongSum image o ≡ none → (c : At) → o ≡ some c → c .value ≡ sum16 image
 the-sum image none e c f = let z : _≡_ {A = ℕ} 0 1 = cc in absurd (omega arith)
@@ -80,49 +88,55 @@ transmission-none text etx sum (inr s) = go (eqb sum 0)
     go true = refl
     go false = rw (eq-eqb sum (sum16 (take (etx + 1) text)) s)
 
-module _ (fuses : ℕ) (text image : List ℕ) where
-  -- what the end answers
-  conclusion : (etx sum : ℕ) (k : Known) → concluded fuses text etx sum k ≡ accepted image → Concluded fuses text image etx sum k
+-- what the end answers
+module _ (fuses : ℕ) (text image : List ℕ) (etx sum : ℕ) (k : Known) where
+  conclusion : concluded fuses text etx sum k ≡ accepted image → Concluded fuses text image etx sum k
   unfolding concluded
-  conclusion etx sum k e =
-      let eight = no-place 8 (wrongCount fuses etx (k .count)) _ image e in
-      let nine = no-place 9 (misplaced fuses 0 (k .lists)) _ image (eight .1) in
-      let ten = no-place 10 (wrongSum (finished fuses k) (k .sum)) _ image (nine .1) in
-      let eleven = no-place 11 (wrongTransmission text etx sum) _ image (ten .1) in
-      let q = the-count fuses etx (k .count) (eight .0) in
+  conclusion e =
+      let eight = no-place 8 (wrongCount fuses etx (k .count)) _ (accepted image) (not-refused 8 image) e in
+      let nine = no-place 9 (misplaced fuses 0 (k .lists)) _ (accepted image) (not-refused 9 image) (eight .1) in
+      let ten = no-place 10 (wrongSum (finished fuses k) (k .sum)) _ (accepted image) (not-refused 10 image) (nine .1) in
+      let eleven = no-place 11 (wrongTransmission text etx sum) _ (accepted image) (not-refused 11 image) (ten .1) in
       let same : image ≡ finished fuses k = cc in
       record {
-        count-field = q .0;
-        has-count = q .1;
-        right-count = q .2;
+        counted = the-count fuses etx k (eight .0);
         in-place = nine .0;
         its-image = same;
         right-sum = λ c f. the-sum (finished fuses k) (k .sum) (ten .0) c f ∙ ap sum16 (sym same);
         right-transmission = the-transmission text etx sum (eleven .0);
       }
 
-  concluding : (etx sum : ℕ) (k : Known) → Concluded fuses text image etx sum k → concluded fuses text etx sum k ≡ accepted image
+  concluding : Concluded fuses text image etx sum k → concluded fuses text etx sum k ≡ accepted image
   unfolding concluded
-  concluding etx sum k c =
+  concluding c =
       let sums : wrongSum (finished fuses k) (k .sum) ≡ none = sum-none (finished fuses k) (k .sum) (λ x f. c .right-sum x f ∙ ap sum16 (c .its-image)) in
-      rw (c .has-count, eq-eqb (c .count-field .value) fuses (c .right-count), c .in-place, sums, transmission-none text etx sum (c .right-transmission))
+      rw (count-none fuses etx k (c .counted), c .in-place, sums, transmission-none text etx sum (c .right-transmission))
       (ap accepted (sym (c .its-image)))
 
+-- a text that is not refused 7 is of good form, and means what its end answers
+pub record Formed (fuses : ℕ) (text : List ℕ) (answer : Outcome (List ℕ)) : Type 0 where
+  pub gives : Known
+  pub end : ℕ
+  pub sum : ℕ
+  pub form : GoodForm text gives end sum
+  pub its-answer : concluded fuses text end sum gives ≡ answer
+
+module _ (fuses : ℕ) (text : List ℕ) (answer : Outcome (List ℕ)) (not-7 : Not 7 answer) where
   -- the form, step by step
   record Ended (k : Known) (end : Option ℕ) : Type 0 where
     at : ℕ
     has : end ≡ some at
     sum : ℕ
     good-tail : tailFrom (at + 1) 4 0 (drop (at + 1) text) ≡ given sum
-    right : Concluded fuses text image at sum k
+    its-answer : concluded fuses text at sum k ≡ answer
 
-  of-tail : (k : Known) (etx : ℕ) (t : Tail) → tailFrom (etx + 1) 4 0 (drop (etx + 1) text) ≡ t → withTail fuses text etx k t ≡ accepted image
+  of-tail : (k : Known) (etx : ℕ) (t : Tail) → tailFrom (etx + 1) 4 0 (drop (etx + 1) text) ≡ t → withTail fuses text etx k t ≡ answer
       → Ended k (some etx)
-  of-tail k etx (given sum) w e = record { at = etx; has = refl; sum = sum; good-tail = w; right = conclusion etx sum k e }
-  of-tail k etx (wrong at) w e = never 7 at image e
+  of-tail k etx (given sum) w e = record { at = etx; has = refl; sum = sum; good-tail = w; its-answer = e }
+  of-tail k etx (wrong at) w e = absurd (not-7 at e)
 
-  of-end : (k : Known) (end : Option ℕ) → withEnd fuses text k end ≡ accepted image → Ended k end
-  of-end k none e = never 7 (length text) image e
+  of-end : (k : Known) (end : Option ℕ) → withEnd fuses text k end ≡ answer → Ended k end
+  of-end k none e = absurd (not-7 (length text) e)
   of-end k (some etx) e = of-tail k etx (tailFrom (etx + 1) 4 0 (drop (etx + 1) text)) refl e
 
   record Read (fields : Fields) (end : Option ℕ) : Type 0 where
@@ -130,44 +144,60 @@ module _ (fuses : ℕ) (text image : List ℕ) where
     good : fields ≡ known gives
     ended : Ended gives end
 
-  of-fields : (end : Option ℕ) (fields : Fields) → withFields fuses text end fields ≡ accepted image → Read fields end
-  of-fields end (badAt at) e = never 7 at image e
+  of-fields : (end : Option ℕ) (fields : Fields) → withFields fuses text end fields ≡ answer → Read fields end
+  of-fields end (badAt at) e = absurd (not-7 at e)
   of-fields end (known k) e = record { gives = k; good = refl; ended = of-end k end e }
 
   of-pieces : length text ≤ longest → startsWith stx text ≡ true → (all : List (List ℕ)) → pieces text .ended ≡ all
-      → ofPieces fuses text all (pieces text .rest) ≡ accepted image → Accepted fuses text image
-  of-pieces short stx-there [] w e = never 7 (length text) image e
+      → ofPieces fuses text all (pieces text .rest) ≡ answer → Formed fuses text answer
+  of-pieces short stx-there [] w e = absurd (not-7 (length text) e)
   of-pieces short stx-there (design ∷ ended) w e =
-      let good = passed (holdsMark (drop 1 design)) 7 1 _ image e in
+      let good = passed (holdsMark (drop 1 design)) 7 1 _ answer not-7 e in
       let cut = fieldsFrom (length design + 1) ended (pieces text .rest) in
       let r = of-fields (cut .end) (allFields nothingKnown (cut .fields)) (good .1) in
       record {
-        not-long = short;
-        begins = stx-there;
-        design = design;
-        ended = ended;
-        its-pieces = w;
-        good-design = good .0;
         gives = r .gives;
-        good-fields = r .good;
         end = r .ended .at;
-        has-end = r .ended .has;
         sum = r .ended .sum;
-        good-tail = r .ended .good-tail;
-        concluded = r .ended .right;
+        form =
+            record {
+              not-long = short;
+              begins = stx-there;
+              design = design;
+              ended = ended;
+              its-pieces = w;
+              good-design = good .0;
+              good-fields = r .good;
+              has-end = r .ended .has;
+              good-tail = r .ended .good-tail;
+            };
+        its-answer = r .ended .its-answer;
       }
 
-  pub accepted-iff : (meaning fuses text ≡ accepted image) ↔ Accepted fuses text image
+  pub formed : meaning fuses text ≡ answer → Formed fuses text answer
   unfolding meaning
-  accepted-iff = (forth, back)
-    where
-      forth : meaning fuses text ≡ accepted image → Accepted fuses text image
-      forth e =
-          let short = passed (ltb longest (length text)) 7 longest _ image e in
-          let there = was (startsWith stx text) 7 0 _ image (short .1) in
-          of-pieces (ltb-false longest (length text) (short .0)) (there .0) (pieces text .ended) refl (there .1)
+  formed e =
+      let short = passed (ltb longest (length text)) 7 longest _ answer not-7 e in
+      let there = was (startsWith stx text) 7 0 _ answer not-7 (short .1) in
+      of-pieces (ltb-false longest (length text) (short .0)) (there .0) (pieces text .ended) refl (there .1)
 
-      back : Accepted fuses text image → meaning fuses text ≡ accepted image
-      back a =
-          rw (le-ltb longest (length text) (a .not-long), a .begins, a .its-pieces, a .good-design, a .good-fields, a .has-end, a .good-tail)
-          (concluding (a .end) (a .sum) (a .gives) (a .concluded))
+pub form-means : (fuses : ℕ) (text : List ℕ) (k : Known) (end sum : ℕ) → GoodForm text k end sum → meaning fuses text ≡ concluded fuses text end sum k
+unfolding meaning
+form-means fuses text k end sum f =
+    rw (le-ltb longest (length text) (f .not-long), f .begins, f .its-pieces, f .good-design, f .good-fields, f .has-end, f .good-tail)
+
+pub accepted-iff : (fuses : ℕ) (text image : List ℕ) → (meaning fuses text ≡ accepted image) ↔ Accepted fuses text image
+accepted-iff fuses text image = (
+  λ e.
+      let f = formed fuses text (accepted image) (not-refused 7 image) e in
+      record {
+        gives = f .gives;
+        end = f .end;
+        sum = f .sum;
+        form = f .form;
+        concluded = conclusion fuses text image (f .end) (f .sum) (f .gives) (f .its-answer);
+      },
+  λ a.
+      form-means fuses text (a .gives) (a .end) (a .sum) (a .form)
+      ∙ concluding fuses text image (a .end) (a .sum) (a .gives) (a .concluded),
+)

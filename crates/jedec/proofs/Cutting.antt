@@ -12,7 +12,7 @@ use lib.Seq.{drop-append-seam}
 use borrow.Author.Tests.{not-true, ne-eqb}
 use Rattle.part.proofs.Facts.{and-iff}
 use Rattle.jedec.specs.Characters.{etx, star, isBlank}
-use Rattle.jedec.specs.Cut.{onFirst, pieces, blanksBefore, Cut, startsWith, fieldsFrom}
+use Rattle.jedec.specs.Cut.{onFirst, pieces, blanksBefore, Cut, startsWith, orEnd, fieldsFrom}
 use Rattle.jedec.specs.Form.{all, notStar, Part, starts, RightPart, RightParts, partsText, next, fieldsOf, endOf}
 
 -- bytes without a `*` stay together
@@ -64,6 +64,11 @@ all-append test (b ∷ xs) ys h k =
     let both = and-iff (test b) (all test xs) .0 h in
     and-iff (test b) (all test (xs ++ ys)) .1 (both .0, all-append test xs ys (both .1) k)
 
+pub all-behind : (test : ℕ → Bool) (xs ys : List ℕ) → all test (xs ++ ys) ≡ true → all test ys ≡ true
+unfolding all
+all-behind test [] ys h = h
+all-behind test (b ∷ xs) ys h = all-behind test xs ys (and-iff (test b) (all test (xs ++ ys)) .0 h .1)
+
 -- no blank is a `*`
 pub blank-no-star : (bytes : List ℕ) → all isBlank bytes ≡ true → all notStar bytes ≡ true
 unfolding all
@@ -75,8 +80,19 @@ blank-no-star (b ∷ bytes) h =
     one : (b : ℕ) → isBlank b ≡ true → notStar b ≡ true
     one b h = rw (ne-eqb b star (λ e. true≢false (sym (rw e at h))))
 
+-- a piece with a field is no end, and the one with ETX after blanks is
+pub no-end : (at : ℕ) (p : Part) → all isBlank (p .blanks) ≡ true → starts (p .bytes) ≡ true → (other : Cut) → orEnd at (p .blanks ++ p .bytes) other ≡ other
+no-end at p blank begins other =
+    let s = starting (p .bytes) begins in
+    rw (blanks-before (p .blanks) (p .bytes) blank (s .no-blank), drop-append-seam (p .blanks) (p .bytes), s .no-etx)
+
+pub at-end : (at : ℕ) (gap tail : List ℕ) → all isBlank gap ≡ true → (other : Cut)
+    → orEnd at (gap ++ etx ∷ tail) other ≡ record { fields = []; end = some (at + length gap) }
+unfolding blanksBefore
+at-end at gap tail blank other = rw (blanks-before gap (etx ∷ tail) blank refl, drop-append-seam gap (etx ∷ tail))
+
 -- one field, and the rest of the pieces
-one-field : (at : ℕ) (p : Part) → RightPart p → (ended : List (List ℕ)) (rest : List ℕ)
+pub one-field : (at : ℕ) (p : Part) → RightPart p → (ended : List (List ℕ)) (rest : List ℕ)
     → fieldsFrom at ((p .blanks ++ p .bytes) ∷ ended) rest
     ≡ record {
       fields = record { start = at + length (p .blanks); bytes = p .bytes } ∷ fieldsFrom (next at p) ended rest .fields;
@@ -85,7 +101,8 @@ one-field : (at : ℕ) (p : Part) → RightPart p → (ended : List (List ℕ)) 
 unfolding fieldsFrom
 one-field at p right ended rest =
     let s = starting (p .bytes) (right .begins) in
-    rw (blanks-before (p .blanks) (p .bytes) (right .blank) (s .no-blank), drop-append-seam (p .blanks) (p .bytes), s .no-etx)
+    no-end at p (right .blank) (right .begins) _
+    ∙ rw (blanks-before (p .blanks) (p .bytes) (right .blank) (s .no-blank), drop-append-seam (p .blanks) (p .bytes))
 
 -- the parts before blanks and ETX
 module _ (gap tail : List ℕ) (blank : all isBlank gap ≡ true) (no-star : all notStar tail ≡ true) where
@@ -97,8 +114,8 @@ module _ (gap tail : List ℕ) (blank : all isBlank gap ≡ true) (no-star : all
   last-pieces = no-star-pieces (gap ++ etx ∷ tail) (all-append notStar gap (etx ∷ tail) (blank-no-star gap blank) no-star)
 
   last-cut : (at : ℕ) → fieldsFrom at [] last ≡ record { fields = []; end = some (at + length gap) }
-  unfolding last fieldsFrom blanksBefore
-  last-cut at = rw (blanks-before gap (etx ∷ tail) blank refl, drop-append-seam gap (etx ∷ tail))
+  unfolding last fieldsFrom
+  last-cut at = at-end at gap tail blank _
 
   cutFrom : ℕ → List ℕ → Cut
   cutFrom at text = fieldsFrom at (pieces text .ended) (pieces text .rest)

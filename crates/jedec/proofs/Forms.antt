@@ -19,7 +19,7 @@ use Rattle.jedec.specs.Cut.Tail.{given}
 use Rattle.jedec.specs.Rules.{Known, nothingKnown, allFields}
 use Rattle.jedec.specs.Rules.Fields.{known}
 use Rattle.jedec.specs.Meaning.{longest, meaning}
-use Rattle.jedec.specs.Form.{all, notStar, Part, partsText, fieldsOf, headOf, assembled, RightForm, firstAt, etxAt, Concluded}
+use Rattle.jedec.specs.Form.{all, notStar, Part, partsText, fieldsOf, headOf, assembled, RightForm, firstAt, etxAt, Concluded, GoodForm}
 use Rattle.jedec.proofs.Conditions.{accepted-iff}
 use Rattle.jedec.proofs.Cutting.{star-pieces, all-append, blank-no-star, parts-cut, end-of}
 
@@ -72,6 +72,17 @@ tail-read digits blanks at sum h blank =
     let f = four digits sum h in
     rw (f .0) at (hex-tail digits at 0 sum blanks (f .1)) ∙ blank-tail blanks (at + 4) sum blank
 
+-- where the text after ETX begins
+pub head-length : (design : List ℕ) (parts : List Part) (gap : List ℕ) → length (headOf design parts gap) ≡ etxAt design parts gap + 1
+head-length design parts gap =
+    omega (
+      arith,
+      end-of (firstAt design) parts,
+      length-append ((stx ∷ design) ++ (star ∷ (partsText parts ++ gap))) (etx ∷ []),
+      length-append (stx ∷ design) (star ∷ (partsText parts ++ gap)),
+      length-append (partsText parts) gap,
+    )
+
 module _ (design : List ℕ) (parts : List Part) (gap digits blanks : List ℕ) (sum : ℕ) (right : RightForm design parts gap digits blanks sum) where
   text : List ℕ
   text = assembled design parts gap digits blanks
@@ -96,37 +107,29 @@ module _ (design : List ℕ) (parts : List Part) (gap digits blanks : List ℕ) 
       (all-append notStar digits blanks (hex-no-star digits 0 sum (f .1)) (blank-no-star blanks (right .blank-end)))
       (firstAt design) parts (right .right-parts)
 
-  pub head-length : length (headOf design parts gap) ≡ etxAt design parts gap + 1
-  head-length =
-      omega (
-        arith,
-        end-of (firstAt design) parts,
-        length-append ((stx ∷ design) ++ (star ∷ (partsText parts ++ gap))) (etx ∷ []),
-        length-append (stx ∷ design) (star ∷ (partsText parts ++ gap)),
-        length-append (partsText parts) gap,
-      )
-
-  pub assembled-accepted : (fuses : ℕ) (image : List ℕ) (k : Known) → length (assembled design parts gap digits blanks) ≤ longest
+  pub assembled-form : (k : Known) → length (assembled design parts gap digits blanks) ≤ longest
       → allFields nothingKnown (fieldsOf (firstAt design) parts) ≡ known k
-      → Concluded fuses (assembled design parts gap digits blanks) image (etxAt design parts gap) sum k
-      → meaning fuses (assembled design parts gap digits blanks) ≡ accepted image
+      → GoodForm (assembled design parts gap digits blanks) k (etxAt design parts gap) sum
   unfolding text
-  assembled-accepted fuses image k short read concluded =
-      accepted-iff fuses text image .1
-      (record {
+  assembled-form k short read =
+      record {
         not-long = short;
         begins = refl;
         design = stx ∷ design;
         ended = pieces rest .ended;
         its-pieces = rw its-pieces;
         good-design = right .design-no-mark;
-        gives = k;
         good-fields = rw (its-pieces, its-cut) read;
-        end = etxAt design parts gap;
         has-end = rw (its-pieces, its-cut);
-        sum = sum;
         good-tail =
-            rw (drop-at (headOf design parts gap) (digits ++ blanks) (etxAt design parts gap + 1) head-length)
+            rw (drop-at (headOf design parts gap) (digits ++ blanks) (etxAt design parts gap + 1) (head-length design parts gap))
             (tail-read digits blanks (etxAt design parts gap + 1) sum (right .hex-digits) (right .blank-end));
-        concluded = concluded;
-      })
+      }
+
+  pub assembled-accepted : (fuses : ℕ) (image : List ℕ) (k : Known) → length (assembled design parts gap digits blanks) ≤ longest
+      → allFields nothingKnown (fieldsOf (firstAt design) parts) ≡ known k
+      → Concluded fuses (assembled design parts gap digits blanks) image (etxAt design parts gap) sum k
+      → meaning fuses (assembled design parts gap digits blanks) ≡ accepted image
+  assembled-accepted fuses image k short read concluded =
+      accepted-iff fuses (assembled design parts gap digits blanks) image .1
+      (record { gives = k; end = etxAt design parts gap; sum = sum; form = assembled-form k short read; concluded = concluded })

@@ -3,8 +3,10 @@
 pub mod Cases
 pub mod Numbers
 pub mod Conditions
+pub mod Misplaced
 pub mod Cutting
 pub mod Forms
+pub mod Parts
 pub mod Judging
 pub mod ReadBack
 pub mod Places

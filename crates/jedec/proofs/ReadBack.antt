@@ -270,9 +270,7 @@ module _ (fuses : ℕ) (pattern : List (List ℕ)) (image : List ℕ) (few : fus
   unfolding gives q lists its-sum parts
   concluded =
       record {
-        count-field = q;
-        has-count = refl;
-        right-count = refl;
+        counted = record { count-field = q; has-count = refl; right-count = refl };
         in-place = lines-in-place fuses 0 lines-at image 0 pattern (omega arith) (omega (arith, every-fuse));
         its-image =
             sym
@@ -283,7 +281,7 @@ module _ (fuses : ℕ) (pattern : List (List ℕ)) (image : List ℕ) (few : fus
             inr
             (ap sum16
             (upto-assembled fuses pattern image
-            ∙ sym (take-at (headOf [] parts (lf ∷ [])) (fourHex its-sum ++ []) (etxAt [] parts (lf ∷ []) + 1) (head-length [] parts (lf ∷ []) (fourHex its-sum) [] its-sum right-form))));
+            ∙ sym (take-at (headOf [] parts (lf ∷ [])) (fourHex its-sum ++ []) (etxAt [] parts (lf ∷ []) + 1) (head-length [] parts (lf ∷ [])))));
       }
 
   pub read-back : length (textWith fuses pattern image) ≤ longest → meaning fuses (textWith fuses pattern image) ≡ accepted image

@@ -1,5 +1,5 @@
--- A text of document 01's form, put together from its parts, and what it is for a text to be accepted: what the laws speak of.
--- The laws are `accepted-iff`, `in-place-iff`, `finished-state`, `assembled-accepted` and `read-back` in proofs/Laws.antt.
+-- A text of document 01's form, put together from its parts, and what it is for a text to be accepted, or refused 9: what the laws speak of.
+-- The laws stand in proofs/Laws.antt: those whose names end in -iff, `finished-state`, `assembled-accepted` and `read-back`.
 use Prim.Native.Nat.{ℕ, _+_, _/_, _^_, _<_, _≤_}
 use mathlib.Core.Path.{_≡_}
 use mathlib.Core.Logic.{_⊎_}
@@ -82,33 +82,55 @@ firstAt design = length (stx ∷ design) + 1
 abbrev pub etxAt : (design : List ℕ) → List Part → (gap : List ℕ) → ℕ
 etxAt design parts gap = endOf (firstAt design) parts + length gap
 
--- what the end of a text of good form needs: QF gives the count, no L is out of place, C gives the fuse sum of the image, and the transmission
--- sum is 0000 or the sum of the bytes from STX to ETX; `in-place` and `its-image` in plain terms are `InPlace` and `Described` below
-pub record Concluded (fuses : ℕ) (text image : List ℕ) (end sum : ℕ) (k : Known) : Type 0 where
+-- QF gives the count
+pub record Counted (fuses : ℕ) (k : Known) : Type 0 where
   pub count-field : At
   pub has-count : k .count ≡ some count-field
   pub right-count : count-field .value ≡ fuses
+
+-- what the end of a text of good form needs: QF gives the count, no L is out of place, C gives the fuse sum of the image, and the transmission
+-- sum is 0000 or the sum of the bytes from STX to ETX; `in-place` and `its-image` in plain terms are `InPlace` and `Described` below
+pub record Concluded (fuses : ℕ) (text image : List ℕ) (end sum : ℕ) (k : Known) : Type 0 where
+  pub counted : Counted fuses k
   pub in-place : misplaced fuses 0 (k .lists) ≡ none
   pub its-image : image ≡ finished fuses k
   pub right-sum : (c : At) → k .sum ≡ some c → c .value ≡ sum16 image
   pub right-transmission : (sum ≡ 0) ⊎ (sum ≡ sum16 (take (end + 1) text))
 
--- a text that is accepted, and its image: it is not too long; STX, a design text without STX and ETX, good fields in order, ETX, four hex
--- digits and blanks
-pub record Accepted (fuses : ℕ) (text image : List ℕ) : Type 0 where
+-- a text of good form, with what its fields give, where its ETX stands, and its transmission sum: it is not too long; STX, a design text
+-- without STX and ETX, good fields in order, ETX, four hex digits and blanks
+pub record GoodForm (text : List ℕ) (gives : Known) (end sum : ℕ) : Type 0 where
   pub not-long : length text ≤ longest
   pub begins : startsWith stx text ≡ true
   pub design : List ℕ
   pub ended : List (List ℕ)
   pub its-pieces : pieces text .ended ≡ design ∷ ended
   pub good-design : holdsMark (drop 1 design) ≡ false
-  pub gives : Known
   pub good-fields : allFields nothingKnown (fieldsFrom (length design + 1) ended (pieces text .rest) .fields) ≡ known gives
-  pub end : ℕ
   pub has-end : fieldsFrom (length design + 1) ended (pieces text .rest) .end ≡ some end
-  pub sum : ℕ
   pub good-tail : tailFrom (end + 1) 4 0 (drop (end + 1) text) ≡ given sum
+
+-- a text that is accepted, and its image: it is of good form, and its counts and sums are right
+pub record Accepted (fuses : ℕ) (text image : List ℕ) : Type 0 where
+  pub gives : Known
+  pub end : ℕ
+  pub sum : ℕ
+  pub form : GoodForm text gives end sum
   pub concluded : Concluded fuses text image end sum gives
+
+-- a text put together from its parts, with what its fields give, where its ETX stands, and its transmission sum: it is not too long, its parts
+-- hold what they may, and its fields are good and in order
+pub record Assembled (text : List ℕ) (gives : Known) (end sum : ℕ) : Type 0 where
+  pub not-long : length text ≤ longest
+  pub design : List ℕ
+  pub parts : List Part
+  pub gap : List ℕ
+  pub digits : List ℕ
+  pub blanks : List ℕ
+  pub right-form : RightForm design parts gap digits blanks sum
+  pub its-bytes : text ≡ assembled design parts gap digits blanks
+  pub good-fields : allFields nothingKnown (fieldsOf (firstAt design) parts) ≡ known gives
+  pub its-end : end ≡ etxAt design parts gap
 
 -- an image of so many fuses: its bytes, and nothing past the last fuse
 pub record Image (fuses : ℕ) (image : List ℕ) : Type 0 where
@@ -121,6 +143,35 @@ abbrev pub InPlace : (fuses end : ℕ) → List Listed → Type 0
 InPlace fuses end [] = Unit {0}
 InPlace fuses end (l ∷ lists) =
     (end ≤ l .first) × (l .first + length (l .states) ≤ fuses) × InPlace fuses (l .first + length (l .states)) lists
+
+-- where the last L ends; `end` if there is none
+abbrev pub lastEnd : (end : ℕ) → List Listed → ℕ
+lastEnd end [] = end
+lastEnd end (l ∷ lists) = lastEnd (l .first + length (l .states)) lists
+
+-- an L starts before an end, or ends past the count
+abbrev pub OutOfPlace : (fuses end : ℕ) → Listed → Type 0
+OutOfPlace fuses end l = (l .first < end) ⊎ (fuses < l .first + length (l .states))
+
+-- the first L that is out of place, and where its field starts: every L before it is in place, and it starts before the end of the L before it
+-- (if there is none before it, before `end`) or ends past the count
+pub record FirstMisplaced (fuses end : ℕ) (lists : List Listed) (at : ℕ) : Type 0 where
+  pub before : List Listed
+  pub it : Listed
+  pub behind : List Listed
+  pub its-place : lists ≡ before ++ (it ∷ behind)
+  pub before-in-place : InPlace fuses end before
+  pub out-of-place : OutOfPlace fuses (lastEnd end before) it
+  pub its-start : it .at ≡ at
+
+-- a text that is refused 9, and the refusal's value: it is of good form, QF gives the count, and the first L that is out of place starts there
+pub record Refused9 (fuses : ℕ) (text : List ℕ) (at : ℕ) : Type 0 where
+  pub gives : Known
+  pub end : ℕ
+  pub sum : ℕ
+  pub form : GoodForm text gives end sum
+  pub counted : Counted fuses gives
+  pub first-misplaced : FirstMisplaced fuses 0 (gives .lists) at
 
 -- something holds of each L
 abbrev pub Each : (Listed → Type 0) → List Listed → Type 0

@@ -10,18 +10,18 @@ use Rattle.part.specs.Outcome.{Outcome}
 use Rattle.part.specs.Outcome.Outcome.{accepted, refused}
 use Rattle.jedec.specs.Rules.{Known, wrongCount, misplaced, finished}
 use Rattle.jedec.specs.Meaning.{wrongSum, wrongTransmission, concluded}
-use Rattle.jedec_reader.specs.Progress.{notedOf, seenOf, ProgressKnows, ReadBeside}
+use Rattle.jedec_reader.specs.Progress.{notedOf, seenOf, ProgressKnows, TextRead}
 use Rattle.jedec_reader.specs.declared.internal.Seen.{Seen}
 use Rattle.jedec_reader.specs.declared.internal.Seen.the-variants as seen
 use Rattle.jedec_reader.specs.declared.internal.Progress.{Progress}
 
-pub refused-reads : (o : Outcome (List ℕ)) (number value : ℕ) (image : List ℕ) → o ≡ refused number value → ReadBeside o (refused number value) image
+pub refused-reads : (o : Outcome (List ℕ)) (number value : ℕ) (image : List ℕ) → o ≡ refused number value → TextRead o (refused number value) image
 refused-reads o number value image e =
     record { answers = rw e; holds = λ h. let z : _≡_ {A = ℕ} 0 1 = cc in absurd (omega arith) }
 
 module _ (fuses : ℕ) (text : List ℕ) (etx sum : ℕ) (p : Progress) (image : List ℕ) where
   abbrev pub Concludes : Outcome (Unit {0}) → Type 0
-  Concludes answer = (k : Known) → ProgressKnows fuses p k image → ReadBeside (concluded fuses text etx sum k) answer image
+  Concludes answer = (k : Known) → ProgressKnows fuses p k image → TextRead (concluded fuses text etx sum k) answer image
 
   module _ (a : Seen) (f : seenOf a ≡ wrongCount fuses etx (notedOf (p .count))) where
     pub eight : (at : ℕ) → a ≡ seen.Number at → Concludes (refused 8 at)

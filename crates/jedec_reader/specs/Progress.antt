@@ -120,7 +120,7 @@ pub record ProgressKnows (fuses : ℕ) (p : Progress) (k : Known) (image : List 
   pub holds : misplaced fuses 0 (k .lists) ≡ none → image ≡ imageWith fuses (stateGiven (startState (k .start)) (k .lists))
 
 -- the answer to a text that means an outcome, and the image made where it is accepted
-pub record ReadBeside (o : Outcome (List ℕ)) (answer : Outcome (Unit {0})) (image : List ℕ) : Type 0 where
+pub record TextRead (o : Outcome (List ℕ)) (answer : Outcome (Unit {0})) (image : List ℕ) : Type 0 where
   pub answers : answer ≡ verdict o
   pub holds : answer ≡ accepted tt → image ≡ resultOf o
 

@@ -9,7 +9,7 @@ ghost use Rattle.jedec.specs.Rules.{Known, has, wrongCount, stateGiven, imageWi
 ghost use Rattle.jedec.specs.Meaning.{wrongSum, wrongTransmission, concluded, withEnd, ofCut, meaning};
 ghost use mathlib.Core.Option.Option.{some};
 ghost use Rattle.jedec_fields.specs.Fields.{fieldsAt};
-ghost use Rattle.jedec_reader.specs.Progress.{notedOf, seenOf, mayStand, misplacedAfter, withCount, withStart, withList, withSum, Few, afterField, putField, PutFits, ProgressKnows, ReadBeside, ReadInto};
+ghost use Rattle.jedec_reader.specs.Progress.{notedOf, seenOf, mayStand, misplacedAfter, withCount, withStart, withList, withSum, Few, afterField, putField, PutFits, ProgressKnows, TextRead, ReadInto};
 use jedec_fields::FieldSays;
 use jedec_fields::NextSays;
 use jedec_fields::TailSays;
@@ -263,7 +263,7 @@ fn conclude(
     image: &[u8],
 ) -> DoneAnswer
     requires { ⌜ (etx < length (now text)) × (length (now text) ≤ 1048576) ⌝ }
-    ensures { λ r. ⌜ ((k : Known) → ProgressKnows fuses p k (now (image .entry)) → ReadBeside (concluded fuses (now (text .entry)) etx given k) (doneOutcome r) (now (image .entry))) ⌝ }
+    ensures { λ r. ⌜ ((k : Known) → ProgressKnows fuses p k (now (image .entry)) → TextRead (concluded fuses (now (text .entry)) etx given k) (doneOutcome r) (now (image .entry))) ⌝ }
 {
     let count = p.count;
     let eight = wrong_count(fuses, etx as u32, count);
@@ -289,7 +289,7 @@ fn conclude(
 // From the ETX after the fields on.
 fn finish(fuses: u32, text: &[u8], etx: usize, p: Progress, image: &[u8]) -> DoneAnswer
     requires { ⌜ (etx < length (now text)) × (length (now text) ≤ 1048576) ⌝ }
-    ensures { λ r. ⌜ ((k : Known) → ProgressKnows fuses p k (now (image .entry)) → ReadBeside (withEnd fuses (now (text .entry)) k (some etx)) (doneOutcome r) (now (image .entry))) ⌝ }
+    ensures { λ r. ⌜ ((k : Known) → ProgressKnows fuses p k (now (image .entry)) → TextRead (withEnd fuses (now (text .entry)) k (some etx)) (doneOutcome r) (now (image .entry))) ⌝ }
 {
     let tail = jedec_fields::internal::tail_from(text, etx + 1);
     match tail {
@@ -297,14 +297,14 @@ fn finish(fuses: u32, text: &[u8], etx: usize, p: Progress, image: &[u8]) -> Don
             let place = at as u32;
             DoneAnswer::Refused(Refusal::BadForm(place))
         }
-        TailSays::ProgressKnows(given) => conclude(fuses, text, etx, given, p, image),
+        TailSays::Given(given) => conclude(fuses, text, etx, given, p, image),
     }
 }
 
 // The fields from an offset on, one after another, and the end.
 fn walk(fuses: u32, text: &[u8], from: usize, image: &mut [u8]) -> DoneAnswer
     requires { ⌜ (from ≤ length (now text)) × (length (now text) ≤ 1048576) × (now image ≡ imageWith fuses (stateGiven 0 [])) ⌝ }
-    ensures { λ r. ⌜ ReadBeside (ofCut fuses (now (text .entry)) (fieldsAt from (drop from (now (text .entry))))) (doneOutcome r) (now (image .exit)) ⌝ }
+    ensures { λ r. ⌜ TextRead (ofCut fuses (now (text .entry)) (fieldsAt from (drop from (now (text .entry))))) (doneOutcome r) (now (image .exit)) ⌝ }
 {
     let mut p = Progress {
         count: Noted::Nothing,
@@ -340,7 +340,7 @@ fn walk(fuses: u32, text: &[u8], from: usize, image: &mut [u8]) -> DoneAnswer
 // The image of a text, made in `image`, which holds it where the answer is `Done`.
 fn read_text(fuses: u32, text: &[u8], image: &mut [u8]) -> DoneAnswer
     requires { ⌜ length (now image) ≡ (fuses + 7) / 8 ⌝ }
-    ensures { λ r. ⌜ ReadBeside (meaning fuses (now (text .entry))) (doneOutcome r) (now (image .exit)) ⌝ }
+    ensures { λ r. ⌜ TextRead (meaning fuses (now (text .entry))) (doneOutcome r) (now (image .exit)) ⌝ }
 {
     if 1048576 < text.len() {
         return DoneAnswer::Refused(Refusal::BadForm(1048576));
@@ -363,18 +363,6 @@ fn read_text(fuses: u32, text: &[u8], image: &mut [u8]) -> DoneAnswer
     walk(fuses, text, star + 1, image)
 }
 
-// An image copied.
-fn copy(from: &[u8], to: &mut [u8])
-    requires { ⌜ length (now from) ≡ length (now to) ⌝ }
-    ensures { λ _. ⌜ now (to .exit) ≡ now (from .entry) ⌝ }
-{
-    let mut i: usize = 0;
-    while i < to.len() {
-        to[i] = from[i];
-        i += 1;
-    }
-}
-
 // The image of a text, made in `made` and put into `image` only where nothing is refused.
 pub fn read_beside(fuses: u32, text: &[u8], made: &mut [u8], image: &mut [u8]) -> DoneAnswer
     requires { ⌜ (length (now made) ≡ (fuses + 7) / 8) × (length (now image) ≡ (fuses + 7) / 8) ⌝ }
@@ -383,7 +371,7 @@ pub fn read_beside(fuses: u32, text: &[u8], made: &mut [u8], image: &mut [u8]) -
     let answer = read_text(fuses, text, made);
     match answer {
         DoneAnswer::Done => {
-            copy(made, image);
+            image::internal::copy(made, image);
             DoneAnswer::Done
         }
         DoneAnswer::Refused(r) => DoneAnswer::Refused(r),

@@ -1,6 +1,7 @@
 -- What holds of images and readouts, each law once, for every known device:
 --   readout-bit          bit b of a readout byte, within its width, is the state of the fuse with that byte's address and bit b
 --   readout-above        bits above the width are 0
+--   kept-at-address      any readout keeps a fuse in the byte with the address that the conversion gives the fuse, at the bit that it gives
 --   image-again          image to readout to image is the image, for any bytes of the image's length
 --   readout-again        readout to image to readout is the readout, for any accepted readout
 --   accepted-iff         a readout is accepted exactly if no byte has a bit above its width
@@ -23,7 +24,7 @@ use Rattle.part.specs.Outcome.{Outcome}
 use Rattle.part.specs.Outcome.Outcome.{accepted, refused}
 use Rattle.part.specs.Device.{known, fuseCount, imageBytes, readoutBytes}
 use Rattle.part.specs.Place.{hasByte, hasPlace, widthOf, firstFuse, placeOfFuse, addressOfByte, byteOfAddress, indexOfByte, byteOfIndex}
-use Rattle.part.specs.Convert.{fuseOfAddress}
+use Rattle.part.specs.Convert.{addressOfFuse, fuseOfAddress}
 use Rattle.part.specs.declared.Device.{Device}
 use Rattle.part.specs.declared.Place.{Place}
 use Rattle.part.specs.declared.BytePlace.{BytePlace}
@@ -37,22 +38,15 @@ use Rattle.image.specs.Bits.{bitOf, bitAt, putBit, withBit, gathered}
 use Rattle.image.specs.Image.{state, imageFrom}
 use Rattle.image.proofs.Bits.{put-same, put-other, put-small, with-same, with-other, gathered-small, gathered-bit, gathered-same, gathered-own, bit-above, tabulate-length, tabulate-at}
 use Rattle.image.proofs.Counts.{state-bit}
-use Rattle.readout.specs.Readout.{widthAt, fuseAt, readoutFrom, readoutOf, stateIn, imageOf, strayAt, firstStray, toImage}
+use Rattle.readout.specs.Readout.{widthAt, fuseAt, readoutFrom, readoutOf, indexInReadout, bitInReadout, stateIn, imageOf, strayAt, firstStray, toImage}
 use Rattle.readout.proofs.Passages.{fuse-below, place-at}
 use Rattle.readout.proofs.Strays.{lowest-is, none-below}
 
--- where a fuse lies in a readout
-abbrev pub indexOf : Device → ℕ → ℕ
-indexOf d fuse = indexOfByte d (placeOfFuse d fuse .byte)
-
-abbrev pub bitOfFuse : Device → ℕ → ℕ
-bitOfFuse d fuse = placeOfFuse d fuse .bit
-
 -- a fuse below the count has a byte and a bit, and is theirs
 pub record Lying (d : Device) (fuse : ℕ) : Type 0 where
-  pub index-below : indexOf d fuse < readoutBytes d
-  pub bit-below : bitOfFuse d fuse < widthAt d (indexOf d fuse)
-  pub its-own : fuseAt d (indexOf d fuse) (bitOfFuse d fuse) ≡ fuse
+  pub index-below : indexInReadout d fuse < readoutBytes d
+  pub bit-below : bitInReadout d fuse < widthAt d (indexInReadout d fuse)
+  pub its-own : fuseAt d (indexInReadout d fuse) (bitInReadout d fuse) ≡ fuse
 
 pub lying : (d : Device) (fuse : ℕ) → fuse < fuseCount d → Lying d fuse
 unfolding hasPlace
@@ -67,9 +61,19 @@ lying d fuse h =
       its-own = rw (found .1) (lies .1);
     }
 
+-- the byte has the address that the conversion gives the fuse, and the bit is the one that it gives: so it is for any readout
+pub kept-at-address : (d : Device) → known d ≡ true → (fuse : ℕ) → fuse < fuseCount d
+    → (indexInReadout d fuse < readoutBytes d)
+    × (addressOfFuse d fuse ≡ accepted (addressOfByte (byteOfIndex d (indexInReadout d fuse)), bitInReadout d fuse))
+unfolding hasPlace addressOfFuse
+kept-at-address d k fuse h =
+    let byte = placeOfFuse d fuse .byte in
+    let there = and-iff (hasByte d byte) (ltb (placeOfFuse d fuse .bit) (widthOf byte)) .0 (at-fuse d fuse h .0) .0 in
+    (of-byte d byte there .0, rw (k, lt-ltb fuse (fuseCount d) h, of-byte d byte there .1))
+
 -- and no other fuse lies there
 pub lies-there : (d : Device) (index bit : ℕ) → index < readoutBytes d → bit < widthAt d index
-    → (indexOf d (fuseAt d index bit) ≡ index) × (bitOfFuse d (fuseAt d index bit) ≡ bit)
+    → (indexInReadout d (fuseAt d index bit) ≡ index) × (bitInReadout d (fuseAt d index bit) ≡ bit)
 lies-there d index bit h hb =
     let p : Place = record { byte = byteOfIndex d index; bit = bit } in
     let e : placeOfFuse d (fuseAt d index bit) ≡ p = of-place d p (place-at d index bit h hb) .1 in
@@ -100,7 +104,7 @@ module _ (d : Device) (states : ℕ → ℕ) (small : (fuse : ℕ) → states fu
   unfolding stateIn
   readout-state fuse h =
       let l = lying d fuse h in
-      readout-from (indexOf d fuse) (bitOfFuse d fuse) (l .index-below) (l .bit-below) ∙ ap states (l .its-own)
+      readout-from (indexInReadout d fuse) (bitInReadout d fuse) (l .index-below) (l .bit-below) ∙ ap states (l .its-own)
 
 -- the same states make the same image and the same readout
 module _ (d : Device) (f g : ℕ → ℕ) (same : (fuse : ℕ) → fuse < fuseCount d → f fuse ≡ g fuse) where
@@ -235,7 +239,7 @@ abbrev pub withFuse : List ℕ → (fuse s : ℕ) → List ℕ
 withFuse image fuse s = withBit image (fuse / 8) (fuse % 8) s
 
 abbrev pub withFuseIn : Device → List ℕ → (fuse s : ℕ) → List ℕ
-withFuseIn d readout fuse s = withBit readout (indexOf d fuse) (bitOfFuse d fuse) s
+withFuseIn d readout fuse s = withBit readout (indexInReadout d fuse) (bitInReadout d fuse) s
 
 -- in the image: the fuse has the new state, every other fuse stands
 module _ (image : List ℕ) (fuse s : ℕ) (there : fuse < length image * 8) (bit : s < 2) where
@@ -249,17 +253,17 @@ module _ (image : List ℕ) (fuse s : ℕ) (there : fuse < length image * 8) (bi
 
 -- in the readout, whatever its other bytes hold
 module _ (d : Device) (readout : List ℕ) (fuse s : ℕ) (l : length readout ≡ readoutBytes d) (h : fuse < fuseCount d) (bit : s < 2) where
-  there : indexOf d fuse < length readout
+  there : indexInReadout d fuse < length readout
   there = rw l (lying d fuse h .index-below)
 
   pub readout-changed : stateIn d (withFuseIn d readout fuse s) fuse ≡ s
   unfolding stateIn
-  readout-changed = with-same readout (indexOf d fuse) (bitOfFuse d fuse) s there bit
+  readout-changed = with-same readout (indexInReadout d fuse) (bitInReadout d fuse) s there bit
 
   pub readout-others : (other : ℕ) → other < fuseCount d → other ≢ fuse → stateIn d (withFuseIn d readout fuse s) other ≡ stateIn d readout other
   unfolding stateIn
   readout-others other ho ne =
-      with-other readout (indexOf d fuse) (bitOfFuse d fuse) s there bit (indexOf d other) (bitOfFuse d other)
+      with-other readout (indexInReadout d fuse) (bitInReadout d fuse) s there bit (indexInReadout d other) (bitInReadout d other)
       (λ e. ne (sym (lying d other ho .its-own) ∙ ap₂ (fuseAt d) (e .0) (e .1) ∙ lying d fuse h .its-own))
 
 -- a number gathered from bits, with one put in place
@@ -287,25 +291,25 @@ module _ (d : Device) (image : List ℕ) (fuse s : ℕ) (within : fuse < length 
   new : ℕ → ℕ
   new = state (withFuse image fuse s)
 
-  changed-byte : (index : ℕ) → index < readoutBytes d → Dec (index ≡ indexOf d fuse)
+  changed-byte : (index : ℕ) → index < readoutBytes d → Dec (index ≡ indexInReadout d fuse)
       → getD (readoutFrom d new) index 0
-      ≡ getD (set (readoutFrom d old) (indexOf d fuse) (putBit (getD (readoutFrom d old) (indexOf d fuse) 0) (bitOfFuse d fuse) s)) index 0
+      ≡ getD (set (readoutFrom d old) (indexInReadout d fuse) (putBit (getD (readoutFrom d old) (indexInReadout d fuse) 0) (bitInReadout d fuse) s)) index 0
   unfolding old new
   changed-byte index below (yes same) =
       let l = lying d fuse h in
-      let j = indexOf d fuse in
-      let b = bitOfFuse d fuse in
+      let j = indexInReadout d fuse in
+      let b = bitInReadout d fuse in
       let put = putBit (getD (readoutFrom d old) j 0) b s in
       let at : new (fuseAt d j b) ≡ s = ap new (l .its-own) ∙ image-changed image fuse s within bit in
       rw (same, getD-set-same (readoutFrom d old) j put 0 (rw (from-length d old) (l .index-below)), readout-byte d new (state-bit (withFuse image fuse s)) j (l .index-below), readout-byte d old (state-bit image) j (l .index-below))
       (gathered-put (λ i. old (fuseAt d j i)) (λ i. new (fuseAt d j i)) (widthAt d j) b s (λ i. state-bit image _) bit (l .bit-below) at
-      (λ i hi ne. image-others image fuse s within bit (fuseAt d j i) (λ e. ne (sym (lies-there d j i (l .index-below) hi .1) ∙ ap (bitOfFuse d) e))))
+      (λ i hi ne. image-others image fuse s within bit (fuseAt d j i) (λ e. ne (sym (lies-there d j i (l .index-below) hi .1) ∙ ap (bitInReadout d) e))))
   changed-byte index below (no other) =
-      let j = indexOf d fuse in
-      let put = putBit (getD (readoutFrom d old) j 0) (bitOfFuse d fuse) s in
+      let j = indexInReadout d fuse in
+      let put = putBit (getD (readoutFrom d old) j 0) (bitInReadout d fuse) s in
       rw (getD-set-other (readoutFrom d old) j index put 0 other, readout-byte d new (state-bit (withFuse image fuse s)) index below, readout-byte d old (state-bit image) index below)
       (gathered-same (λ i. new (fuseAt d index i)) (λ i. old (fuseAt d index i)) (widthAt d index)
-      (λ i hi. image-others image fuse s within bit (fuseAt d index i) (λ e. other (sym (lies-there d index i below hi .0) ∙ ap (indexOf d) e))))
+      (λ i hi. image-others image fuse s within bit (fuseAt d index i) (λ e. other (sym (lies-there d index i below hi .0) ∙ ap (indexInReadout d) e))))
 
 -- The readout of the changed image is the changed readout.
 pub change-agrees : (d : Device) (image : List ℕ) (fuse s : ℕ) → known d ≡ true → length image ≡ imageBytes d → fuse < fuseCount d → s < 2
@@ -314,8 +318,8 @@ unfolding readoutOf withBit old new
 change-agrees d image fuse s k e h bit =
     let before = readoutFrom d (state image) in
     let after = readoutFrom d (state (withFuse image fuse s)) in
-    let put = putBit (getD before (indexOf d fuse) 0) (bitOfFuse d fuse) s in
-    ext-getD 0 after (set before (indexOf d fuse) put)
-    (from-length d (state (withFuse image fuse s)) ∙ sym (length-set before (indexOf d fuse) put ∙ from-length d (state image)))
+    let put = putBit (getD before (indexInReadout d fuse) 0) (bitInReadout d fuse) s in
+    ext-getD 0 after (set before (indexInReadout d fuse) put)
+    (from-length d (state (withFuse image fuse s)) ∙ sym (length-set before (indexInReadout d fuse) put ∙ from-length d (state image)))
     (λ index g.
-    changed-byte d image fuse s (omega (arith, image-whole d k)) h bit index (rw (from-length d (state (withFuse image fuse s))) at g) (ℕ-discrete index (indexOf d fuse)))
+    changed-byte d image fuse s (omega (arith, image-whole d k)) h bit index (rw (from-length d (state (withFuse image fuse s))) at g) (ℕ-discrete index (indexInReadout d fuse)))

@@ -32,9 +32,16 @@ readoutFrom d states = tabulate (readoutBytes d) (λ index. gathered (λ bit. st
 unfoldable pub readoutOf : Device → List ℕ → List ℕ
 readoutOf d image = readoutFrom d (state image)
 
--- the state of a fuse in a readout: the bit of the byte with its address
+-- where a readout keeps a fuse: the index of the byte with its address, and its bit there (`kept-at-address` in proofs/Laws.antt)
+abbrev pub indexInReadout : Device → ℕ → ℕ
+indexInReadout d fuse = indexOfByte d (placeOfFuse d fuse .byte)
+
+abbrev pub bitInReadout : Device → ℕ → ℕ
+bitInReadout d fuse = placeOfFuse d fuse .bit
+
+-- the state of a fuse in a readout
 unfoldable pub stateIn : Device → List ℕ → ℕ → ℕ
-stateIn d readout fuse = bitAt readout (indexOfByte d (placeOfFuse d fuse .byte)) (placeOfFuse d fuse .bit)
+stateIn d readout fuse = bitAt readout (indexInReadout d fuse) (bitInReadout d fuse)
 
 unfoldable pub imageOf : Device → List ℕ → List ℕ
 imageOf d readout = imageFrom d (stateIn d readout)

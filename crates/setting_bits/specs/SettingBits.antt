@@ -5,10 +5,9 @@ use mathlib.Core.Bool.{Bool, true, false, cond, _&&_}
 use mathlib.Core.List.{List}
 use lib.Dec.{ltb}
 use Rattle.part.specs.Device.{imageBytes, readoutBytes}
-use Rattle.part.specs.Place.{placeOfFuse, indexOfByte}
 use Rattle.part.specs.declared.Device.{Device}
 use Rattle.image.specs.Bits.{bitOf, bitAt, withBit, gathered}
-use Rattle.readout.specs.Readout.{strayAt}
+use Rattle.readout.specs.Readout.{indexInReadout, bitInReadout, strayAt}
 use Rattle.settings.specs.declared.Setting.{Setting}
 use Rattle.setting_places.specs.Places.{bitsOf, fuseOf}
 
@@ -26,11 +25,11 @@ bytesOf d form = cond form (readoutBytes d) (imageBytes d)
 -- the byte and the bit of a fuse: in an image byte f div 8 and bit f mod 8; in a readout the byte with its address and its bit there
 abbrev pub byteOf : Device → Bool → ℕ → ℕ
 byteOf d false fuse = fuse / 8
-byteOf d true fuse = indexOfByte d (placeOfFuse d fuse .byte)
+byteOf d true fuse = indexInReadout d fuse
 
 abbrev pub bitIn : Device → Bool → ℕ → ℕ
 bitIn d false fuse = fuse % 8
-bitIn d true fuse = placeOfFuse d fuse .bit
+bitIn d true fuse = bitInReadout d fuse
 
 -- the state of a fuse, and a change of it
 abbrev pub stateOf : Device → Bool → List ℕ → ℕ → ℕ

@@ -10,12 +10,12 @@ use Rattle.part.specs.declared.Refusal.{Refusal}
 use Rattle.readout.specs.Readout.{doneOutcome}
 use Rattle.readout.specs.declared.DoneAnswer.{DoneAnswer}
 use Rattle.readout.specs.declared.DoneAnswer.the-variants as answer
-use Rattle.jedec_reader.specs.Progress.{ReadBeside, ReadInto}
+use Rattle.jedec_reader.specs.Progress.{TextRead, ReadInto}
 use borrow.Author.Needs.{needs}
 use Rattle.jedec_reader.proofs.internal.read_beside.Statement.{statement}
 use Rattle.jedec_reader.proofs.internal.read_beside.Tie as tie
 
-module _ (o : Outcome (List ℕ)) (a : DoneAnswer) (made : List ℕ) (r : ReadBeside o (doneOutcome a) made) (before : List ℕ) where
+module _ (o : Outcome (List ℕ)) (a : DoneAnswer) (made : List ℕ) (r : TextRead o (doneOutcome a) made) (before : List ℕ) where
   done : (after : List ℕ) → a ≡ answer.Done → after ≡ made → ReadInto o (accepted tt) before after
   done after w e = record { answers = sym (ap doneOutcome w) ∙ r .answers; holds = e ∙ r .holds (ap doneOutcome w) }
 

@@ -16,23 +16,23 @@ use Rattle.jedec.specs.Cut.{pieces, holdsMark}
 use Rattle.jedec.specs.Meaning.{ofCut, ofPieces, meaning}
 use Rattle.jedec_fields.specs.Fields.{untilStar, fieldsAt}
 use Rattle.jedec_fields.proofs.Fields.{Cuts, pieces-star, Uncut, pieces-none}
-use Rattle.jedec_reader.specs.Progress.{ReadBeside}
+use Rattle.jedec_reader.specs.Progress.{TextRead}
 use Rattle.jedec_reader.proofs.Ends.{refused-reads}
 use borrow.Author.Needs.{needs}
 use Rattle.jedec_reader.proofs.internal.read_text.Statement.{statement}
 use Rattle.jedec_reader.proofs.internal.read_text.Tie as tie
 
 module _ (fuses : ℕ) where
-  too-long : (text image : List ℕ) → 1048576 < length text → ReadBeside (meaning fuses text) (refused 7 1048576) image
+  too-long : (text image : List ℕ) → 1048576 < length text → TextRead (meaning fuses text) (refused 7 1048576) image
   unfolding meaning
   too-long text image l = refused-reads _ 7 1048576 image (rw (lt-ltb 1048576 (length text) l))
 
-  nothing-there : (text image : List ℕ) → length text ≡ 0 → ReadBeside (meaning fuses text) (refused 7 0) image
+  nothing-there : (text image : List ℕ) → length text ≡ 0 → TextRead (meaning fuses text) (refused 7 0) image
   unfolding meaning
   nothing-there [] image e = refused-reads _ 7 0 image refl
   nothing-there (b ∷ text) image e = absurd (omega arith)
 
-  no-stx : (text image : List ℕ) → length text ≤ 1048576 → (length text ≡ 0 → ⊥) → (getD text 0 0 ≡ 2 → ⊥) → ReadBeside (meaning fuses text) (refused 7 0) image
+  no-stx : (text image : List ℕ) → length text ≤ 1048576 → (length text ≡ 0 → ⊥) → (getD text 0 0 ≡ 2 → ⊥) → TextRead (meaning fuses text) (refused 7 0) image
   unfolding meaning
   no-stx [] image l n h = absurd (n refl)
   no-stx (b ∷ text) image l n h = refused-reads _ 7 0 image (rw (le-ltb 1048576 (suc (length text)) l, ne-eqb b 2 h))
@@ -61,7 +61,7 @@ module _ (fuses : ℕ) (text image : List ℕ) (l : length text ≤ 1048576) (n 
   past-stx : 1 ≤ star
   past-stx = rw is (past-first text n h)
 
-  no-star : star ≡ length text → ReadBeside (meaning fuses text) (refused 7 (length text)) image
+  no-star : star ≡ length text → TextRead (meaning fuses text) (refused 7 (length text)) image
   no-star f =
       let u : Uncut text = pieces-none text (omega (arith, is)) in
       refused-reads _ 7 (length text) image (after-stx fuses text l n h ∙ rw (u .ended))
@@ -73,10 +73,10 @@ module _ (fuses : ℕ) (text image : List ℕ) (l : length text ≤ 1048576) (n 
     marked : holdsMark (drop 1 (take star text)) ≡ t
     marked = ap holdsMark (design-rest text star past-stx) ∙ sym g
 
-    a-mark : t ≡ true → ReadBeside (meaning fuses text) (refused 7 1) image
+    a-mark : t ≡ true → TextRead (meaning fuses text) (refused 7 1) image
     a-mark v = refused-reads _ 7 1 image (after-stx fuses text l n h ∙ rw (cut .ended, marked, v))
 
-    then-fields : (answer : Outcome (Unit {0})) → t ≡ false → ReadBeside (ofCut fuses text (fieldsAt (star + 1) (drop (star + 1) text))) answer image → ReadBeside (meaning fuses text) answer image
+    then-fields : (answer : Outcome (Unit {0})) → t ≡ false → TextRead (ofCut fuses text (fieldsAt (star + 1) (drop (star + 1) text))) answer image → TextRead (meaning fuses text) answer image
     unfolding fieldsAt
     then-fields answer v r =
         let whole : meaning fuses text ≡ ofCut fuses text (fieldsAt (star + 1) (drop (star + 1) text)) =

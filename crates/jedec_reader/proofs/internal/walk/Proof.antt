@@ -23,7 +23,7 @@ use Rattle.jedec_fields.specs.declared.Next.the-variants as next
 use Rattle.jedec_image.specs.States.{lastEnd}
 use Rattle.jedec.proofs.States.{image-length}
 use Rattle.jedec_image.proofs.Images.{start-holds}
-use Rattle.jedec_reader.specs.Progress.{mayStand, Few, afterField, putField, PutFits, ProgressKnows, ReadBeside}
+use Rattle.jedec_reader.specs.Progress.{mayStand, Few, afterField, putField, PutFits, ProgressKnows, TextRead}
 use Rattle.jedec_reader.specs.declared.internal.Seen.the-variants as seen
 use Rattle.jedec_reader.specs.declared.internal.Noted.the-variants as noted
 use Rattle.jedec_reader.specs.declared.internal.Progress.{Progress}
@@ -74,15 +74,15 @@ module _ (fuses : ℕ) (text : List ℕ) (from : ℕ) (image₀ image : List ℕ
     by-next : (m : NextSays) → n ≡ m → ofRest fuses text (r .k) (cutOf text (nextOf m)) ≡ ofCut fuses text (fieldsAt from (drop from text))
     by-next m w = ap (ofRest fuses text (r .k)) (ap (λ (x : NextSays). cutOf text (nextOf x)) (sym w) ∙ s .stands .cut) ∙ r .rest
 
-    early : n ≡ next-says.Early → ReadBeside (ofCut fuses text (fieldsAt from (drop from text))) (refused 7 (length text)) image
+    early : n ≡ next-says.Early → TextRead (ofCut fuses text (fieldsAt from (drop from text))) (refused 7 (length text)) image
     unfolding allFields
     early w = refused-reads _ 7 (length text) image (sym (by-next next-says.Early w))
 
     etx-there : (etx : ℕ) → n ≡ next-says.End etx → etx < length text
     etx-there etx w = rw w at (s .stands .inside)
 
-    the-end : (etx : ℕ) (answer : Outcome (Unit {0})) → n ≡ next-says.End etx → ((k : Known) → ProgressKnows fuses p k image → ReadBeside (withEnd fuses text k (some etx)) answer image)
-        → ReadBeside (ofCut fuses text (fieldsAt from (drop from text))) answer image
+    the-end : (etx : ℕ) (answer : Outcome (Unit {0})) → n ≡ next-says.End etx → ((k : Known) → ProgressKnows fuses p k image → TextRead (withEnd fuses text k (some etx)) answer image)
+        → TextRead (ofCut fuses text (fieldsAt from (drop from text))) answer image
     unfolding allFields
     the-end etx answer w f = rw (← by-next (next-says.End etx) w) (f (r .k) (r .given))
 
@@ -114,7 +114,7 @@ module _ (fuses : ℕ) (text : List ℕ) (from : ℕ) (image₀ image : List ℕ
       order : mayStand p fs ≡ inOrder (r .k) (judge field)
       order = in-order fuses p (r .k) image (drop 1 field) fs (r .given) ∙ ap (inOrder (r .k)) (j .is)
 
-      a-bad-field : (t : Bool) → t ≡ mayStand p fs → not t ≡ true → ReadBeside (ofCut fuses text (fieldsAt from (drop from text))) (refused 7 start) image
+      a-bad-field : (t : Bool) → t ≡ mayStand p fs → not t ≡ true → TextRead (ofCut fuses text (fieldsAt from (drop from text))) (refused 7 start) image
       unfolding allFields
       a-bad-field t e h =
           let bad : inOrder (r .k) (judge field) ≡ false = sym order ∙ sym e ∙ not-true t h in

@@ -8,8 +8,8 @@ use native.Mathlib.Numerals.{add-one}
 use lib.ListN.{length, getD, set, take, length-set}
 use lib.Seq.{take-all, take-suc, take-suc-set}
 use borrow.Author.Needs.{needs}
-use Rattle.jedec_reader.proofs.internal.copy.Statement.{statement}
-use Rattle.jedec_reader.proofs.internal.copy.Tie as tie
+use Rattle.image.proofs.internal.copy.Statement.{statement}
+use Rattle.image.proofs.internal.copy.Tie as tie
 
 record Copied (from to₀ to : List ℕ) (i : ℕ) : Type 0 where
   upto : i ≤ length to

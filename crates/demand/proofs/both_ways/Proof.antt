@@ -1,0 +1,180 @@
+-- `both_ways` meets its contract: each call gave what its definition says, and demand 3 holds of the definitions.
+-- Assumes nothing.
+use mathlib.Core.Path.{_≡_, sym, _∙_, ap, subst}
+use mathlib.Core.List.{List}
+use Prim.Native.Nat.{ℕ}
+use native.Mathlib.Omega.{arith}
+use lib.ListN.{length}
+use Rattle.part.specs.Outcome.{Outcome}
+use Rattle.part.specs.Outcome.Outcome.{accepted}
+use Rattle.part.specs.Device.{imageBytes}
+use Rattle.part.specs.declared.Device.{Device}
+use Rattle.readout.specs.Readout.{doneOutcome, Written, written, toReadout, readoutOf, toImage, imageOf}
+use Rattle.settings.specs.declared.Setting.{Setting}
+use Rattle.values.specs.declared.Value.{Value}
+use Rattle.setting_bits.specs.SettingBits.{inImage, inReadout}
+use Rattle.edit.specs.Edit.{withValue, readIn, setIn}
+use Rattle.edit.specs.Demand.{Taken, Made}
+use Rattle.edit.proofs.NotRefused.{not-refused, its-length}
+use Rattle.edit.proofs.SameReadout.{same-readout}
+use Rattle.edit.proofs.SameImage.{changed, same-image}
+use Rattle.edit.proofs.ConversionsAccepted.{passes, passes-back}
+use Rattle.edit.proofs.Demand.{of-calls}
+use Rattle.demand.specs.BothWays.{ReadInBoth, Begun, SetInBoth, BothConverted, RightLengths, BothWays, callsOf}
+use Rattle.demand.specs.declared.BothAnswer.{BothAnswer}
+use borrow.Author.Needs.{needs}
+use Rattle.demand.proofs.both_ways.Statement.{statement}
+use Rattle.demand.proofs.both_ways.Tie as tie
+
+-- what an accepted call left in its target
+left : {A : Type 0} {o answer : Outcome A} {x : A} {result before after : List ℕ} → Written o answer result before after → o ≡ accepted x
+    → after ≡ result
+left {result = result} {before = before} w e = w .holds ∙ ap (λ (p : Outcome _). written p result before) e
+
+module _ (d : Device) (image readout kept its-readout its-image : List ℕ) (s : Setting) (v : Value) (t : Setting) (r : BothAnswer)
+    (readout1 kept1 image2 readout2 its-readout1 its-image1 : List ℕ)
+    (begun : Begun d image readout readout1 kept kept1 t (r .before))
+    (put : SetInBoth d image image2 readout1 readout2 s v (r .set))
+    (converted : BothConverted d image2 readout2 its-readout its-readout1 its-image its-image1 (r .converted))
+    (reads : ReadInBoth d image2 readout2 s (r .read))
+    (others : ReadInBoth d image2 readout2 t (r .other)) where
+  module _ (pattern : ℕ) (taken : Taken d image s v pattern) (lengths : RightLengths d readout kept its-readout its-image) where
+    -- before the change
+    made-before : readout1 ≡ readoutOf d image
+    made-before = left (begun .converted) (passes d image readout (taken .device) (taken .size) (lengths .readout-size))
+
+    kept-before : kept1 ≡ readout1
+    kept-before = begun .copied (lengths .kept-size ∙ sym (ap length made-before ∙ its-length d image))
+
+    kept-own : kept1 ≡ readoutOf d image
+    kept-own = kept-before ∙ made-before
+
+    first-answer : toReadout d image readout ≡ toReadout d image kept1
+    first-answer =
+        passes d image readout (taken .device) (taken .size) (lengths .readout-size)
+        ∙ sym (passes d image kept1 (taken .device) (taken .size) (ap length kept-own ∙ its-length d image))
+
+    -- setting
+    changed-image : image2 ≡ withValue d inImage image s v
+    changed-image = left (put .in-image) (not-refused d image s v pattern taken .0)
+
+    put-kept : Written (setIn d inReadout kept1 s v) (doneOutcome (r .set .readout)) (withValue d inReadout kept1 s v) kept1 readout2
+    put-kept = rw kept-before (put .in-readout)
+
+    changed-readout : readout2 ≡ withValue d inReadout kept1 s v
+    changed-readout = left put-kept (rw kept-own (not-refused d image s v pattern taken .1))
+
+    -- after the change
+    size2 : length image2 ≡ imageBytes d
+    size2 = ap length changed-image ∙ changed d image s v pattern taken .size
+
+    image-passes : toReadout d image2 its-readout ≡ accepted tt
+    image-passes = passes d image2 its-readout (taken .device) size2 (lengths .its-readout-size)
+
+    its-own-readout : its-readout1 ≡ readoutOf d image2
+    its-own-readout = left (converted .of-image) image-passes
+
+    changed-own : readout2 ≡ withValue d inReadout (readoutOf d image) s v
+    changed-own = changed-readout ∙ ap (λ (x : List ℕ). withValue d inReadout x s v) kept-own
+
+    same : readout2 ≡ readoutOf d image2
+    same = changed-own ∙ same-readout d image s v pattern taken ∙ ap (readoutOf d) (sym changed-image)
+
+    readout-passes : toImage d readout2 its-image ≡ accepted tt
+    readout-passes = passes-back d image2 readout2 its-image (taken .device) same (lengths .its-image-size)
+
+    its-own-image : its-image1 ≡ imageOf d readout2
+    its-own-image = left (converted .of-readout) readout-passes
+
+    its-image-size : length its-image1 ≡ imageBytes d
+    its-image-size =
+        ap length (its-own-image ∙ ap (imageOf d) changed-own ∙ same-image d image s v pattern taken)
+        ∙ changed d image s v pattern taken .size
+
+    made : Made d image s v t (callsOf r image2 readout2 kept1 its-readout1 its-image1)
+    made = record {
+      conversion = (begun .converted .answers ∙ first-answer, kept-own);
+      answers = (put .in-image .answers, put-kept .answers);
+      changes = (changed-image, changed-readout);
+      image-converted = (
+        converted .of-image .answers
+            ∙ image-passes
+            ∙ sym (passes d image2 its-readout1 (taken .device) size2 (ap length its-own-readout ∙ its-length d image2)),
+        its-own-readout,
+      );
+      readout-converted = (
+        converted .of-readout .answers
+            ∙ readout-passes
+            ∙ sym (passes-back d image2 readout2 its-image1 (taken .device) same its-image-size),
+        its-own-image,
+      );
+      readings = (reads .in-image, reads .in-readout);
+      others-before = (begun .read .in-image, rw kept-before (begun .read .in-readout));
+      others-after = (others .in-image, others .in-readout);
+    }
+
+  ran : BothWays d image readout kept its-readout its-image s v t (callsOf r image2 readout2 kept1 its-readout1 its-image1)
+  ran pattern taken lengths =
+      (made pattern taken lengths, of-calls d image s v pattern t _ taken (made pattern taken lengths))
+
+begin-requires : tie.Need-begin-requires
+begin-requires c κs = search needs
+
+set-both-requires : tie.Need-set-both-requires
+set-both-requires c κs = search needs
+
+convert-both-requires : tie.Need-convert-both-requires
+convert-both-requires c κs = search needs
+
+read-both-requires : tie.Need-read-both-requires
+read-both-requires c κs = search needs
+
+read-both-requires-2 : tie.Need-read-both-requires-2
+read-both-requires-2 c κs = search needs
+
+same-length : tie.Need-same-length
+same-length c = search needs
+
+same-length-2 : tie.Need-same-length-2
+same-length-2 c =
+    let converting = c .before .before .before .before .before .before .before .before .before .before in
+    let setting = converting .before .before .before .before .before .before .before .before .before in
+    let beginning = setting .before .before .before .before .before .before .before in
+    omega (arith, beginning .begin .kept, setting .set-both .kept)
+
+same-length-3 : tie.Need-same-length-3
+same-length-3 c =
+    let converting = c .before .before .before .before .before .before .before .before .before .before in
+    let setting = converting .before .before .before .before .before .before .before .before .before in
+    let beginning = setting .before .before .before .before .before .before .before in
+    omega (arith, beginning .begin .kept)
+
+same-length-4 : tie.Need-same-length-4
+same-length-4 c = search needs
+
+same-length-5 : tie.Need-same-length-5
+same-length-5 c = search needs
+
+returns : tie.Need-returns
+returns c =
+    let converting = c .before .before .before .before .before .before .before .before .before .before in
+    let setting = converting .before .before .before .before .before .before .before .before .before in
+    let beginning = setting .before .before .before .before .before .before .before in
+    ran _ _ _ _ _ _ _ _ _ _ _ _ _ _ _ _ (beginning .begin .ensures) (setting .set-both .ensures) (converting .convert-both .ensures)
+    (c .before .before .before .read-both .ensures) (c .read-both2 .ensures)
+
+pub both-ways-spec : {M : Type 1} → statement M
+both-ways-spec =
+    tie.close
+    (tie.spec
+    begin-requires
+    set-both-requires
+    convert-both-requires
+    read-both-requires
+    read-both-requires-2
+    same-length
+    same-length-2
+    same-length-3
+    same-length-4
+    same-length-5
+    returns)

@@ -1,0 +1,73 @@
+-- What `both_ways` ensures: its calls are those that their names say, and demand 3 holds of them (`Made` and `DemandByName` of crate `edit`).
+-- It is said for whatever device, bytes, settings and value it was given.
+use mathlib.Core.Path.{_≡_}
+use mathlib.Core.List.{List}
+use Prim.Native.Nat.{ℕ}
+use lib.ListN.{length}
+use Rattle.part.specs.Device.{imageBytes, readoutBytes}
+use Rattle.part.specs.declared.Device.{Device}
+use Rattle.readout.specs.Readout.{doneOutcome, Written, toReadout, readoutOf, toImage, imageOf}
+use Rattle.settings.specs.declared.Setting.{Setting}
+use Rattle.values.specs.declared.Value.{Value}
+use Rattle.setting_values.specs.Operations.{valueOutcome}
+use Rattle.setting_bits.specs.SettingBits.{inImage, inReadout}
+use Rattle.edit.specs.Edit.{readIn, setIn, withValue}
+use Rattle.edit.specs.Demand.{Taken, Calls, DemandByName, Made}
+use Rattle.demand.specs.declared.BothRead.{BothRead}
+use Rattle.demand.specs.declared.BothDone.{BothDone}
+use Rattle.demand.specs.declared.BeforeAnswer.{BeforeAnswer}
+use Rattle.demand.specs.declared.BothAnswer.{BothAnswer}
+
+-- What the steps of `both_ways` give: a setting read in an image and in a readout ..
+pub record ReadInBoth (d : Device) (image readout : List ℕ) (s : Setting) (r : BothRead) : Type 0 where
+  pub in-image : valueOutcome (r .image) ≡ readIn d inImage image s
+  pub in-readout : valueOutcome (r .readout) ≡ readIn d inReadout readout s
+
+-- .. an image converted, the readout copied to a slice of its length, and a setting read in both ..
+pub record Begun (d : Device) (image readout readout' kept kept' : List ℕ) (t : Setting) (r : BeforeAnswer) : Type 0 where
+  pub converted : Written (toReadout d image readout) (doneOutcome (r .converted)) (readoutOf d image) readout readout'
+  pub copied : length kept ≡ length readout' → kept' ≡ readout'
+  pub read : ReadInBoth d image readout' t (r .other)
+
+-- .. a setting set in both ..
+pub record SetInBoth (d : Device) (image image' readout readout' : List ℕ) (s : Setting) (v : Value) (r : BothDone) : Type 0 where
+  pub in-image : Written (setIn d inImage image s v) (doneOutcome (r .image)) (withValue d inImage image s v) image image'
+  pub in-readout : Written (setIn d inReadout readout s v) (doneOutcome (r .readout)) (withValue d inReadout readout s v) readout readout'
+
+-- .. and both converted
+pub record BothConverted (d : Device) (image readout its-readout its-readout' its-image its-image' : List ℕ) (r : BothDone) : Type 0 where
+  pub of-image : Written (toReadout d image its-readout) (doneOutcome (r .image)) (readoutOf d image) its-readout its-readout'
+  pub of-readout : Written (toImage d readout its-image) (doneOutcome (r .readout)) (imageOf d readout) its-image its-image'
+
+-- the calls of `both_ways`: what they answered, and what its five slices then held
+abbrev pub callsOf : BothAnswer → (image readout kept its-readout its-image : List ℕ) → Calls Value
+callsOf r image readout kept its-readout its-image = record {
+  converted = doneOutcome (r .before .converted);
+  readout-before = kept;
+  set-image = doneOutcome (r .set .image);
+  set-readout = doneOutcome (r .set .readout);
+  image = image;
+  readout = readout;
+  converted-image = doneOutcome (r .converted .image);
+  its-readout = its-readout;
+  converted-readout = doneOutcome (r .converted .readout);
+  its-image = its-image;
+  read-image = valueOutcome (r .read .image);
+  read-readout = valueOutcome (r .read .readout);
+  other-image-before = valueOutcome (r .before .other .image);
+  other-readout-before = valueOutcome (r .before .other .readout);
+  other-image = valueOutcome (r .other .image);
+  other-readout = valueOutcome (r .other .readout);
+}
+
+-- its four other slices have the lengths of a readout, a readout, a readout and an image
+pub record RightLengths (d : Device) (readout kept its-readout its-image : List ℕ) : Type 0 where
+  pub readout-size : length readout ≡ readoutBytes d
+  pub kept-size : length kept ≡ readoutBytes d
+  pub its-readout-size : length its-readout ≡ readoutBytes d
+  pub its-image-size : length its-image ≡ imageBytes d
+
+abbrev pub BothWays : Device → (image readout kept its-readout its-image : List ℕ) → Setting → Value → (t : Setting) → Calls Value → Type 0
+BothWays d image readout kept its-readout its-image s v t c =
+    (pattern : ℕ) → Taken d image s v pattern → RightLengths d readout kept its-readout its-image
+    → Made d image s v t c × DemandByName d image s v pattern t c

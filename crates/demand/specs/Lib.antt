@@ -1,0 +1,3 @@
+-- The definitions that the contracts of `demand` cite.
+-- Assumes nothing.
+pub mod BothWays
