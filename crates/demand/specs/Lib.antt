@@ -1,3 +1,4 @@
 -- The definitions that the contracts of `demand` cite.
 -- Assumes nothing.
 pub mod BothWays
+pub mod Cases

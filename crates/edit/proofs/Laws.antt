@@ -1,12 +1,11 @@
 -- What holds of reading and setting, each law once, for every device, setting and value:
---   holds            demand 3, whole (specs/Demand.antt), of the definitions of setting, reading and the passages
+--   holds            demand 3, whole (specs/Demand.antt), of the definitions of setting, reading and the conversions
 --   some-fuse        each setting of a device lists a fuse at least, so that the field `listed-fuses` is never about none
---   of-calls         the same of any calls that are those that their names say (`Made`); `both_ways` is such a run
+--   of-calls         the same of any calls that are those that their names say (`Made`); `both_ways` of crate `demand` is such a run
 --   value-iff        a pattern is that of a value exactly if it has the setting's bits and 003's list for the setting gives it this value
 --   read-after-set, read-after-set-image   in any readout, whatever its other bytes hold, and in any image: a setting that was set reads
 --                    as set
 --   other-bits       .. and every bit of every byte that is none of the setting's stands as before
---   oe-mux-case, order   document 01's case of OE_MUX, and the order of the refusals of setting (specs/Cases.antt)
 use mathlib.Core.Path.{_≡_, _∙_}
 use mathlib.Core.Bool.{Bool, true}
 use mathlib.Core.List.{List}
@@ -32,7 +31,6 @@ use Rattle.edit.proofs.ReadsAsSet.{image-clean, readout-clean, reads}
 pub use Rattle.setting_bits.proofs.Edits.{some-fuse}
 pub use Rattle.edit.proofs.NotRefused.{value-iff}
 pub use Rattle.edit.proofs.Demand.{holds, of-calls}
-pub use Rattle.edit.proofs.Cases.{oe-mux-case, order}
 
 module _ (d : Device) (k : known d ≡ true) (s : Setting) (h : hasSetting d s ≡ true) (v : Value) (pattern : ℕ) (p : patternIn (kindOf d s) v ≡ some pattern) where
   reads-set : (form : Bool) (bytes : List ℕ) → length bytes ≡ bytesOf d form → Clean d form (withPattern d form bytes s pattern) s

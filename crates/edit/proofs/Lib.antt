@@ -9,5 +9,4 @@ pub mod ListedFuses
 pub mod OtherFuses
 pub mod ConversionsAccepted
 pub mod Demand
-pub mod Cases
 pub mod Laws

@@ -2,4 +2,3 @@
 -- Assumes nothing.
 pub mod Edit
 pub mod Demand
-pub mod Cases

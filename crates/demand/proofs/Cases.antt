@@ -12,8 +12,8 @@ use Rattle.values.specs.Values.{named}
 use Rattle.values.specs.Patterns.{same, candidate, patternIn}
 use Rattle.setting_values.specs.Kinds.{kindOf}
 use Rattle.setting_bits.specs.SettingBits.{patternAt, withBits, withPattern, strayAmong}
 use Rattle.edit.specs.Edit.{strayIn, readIn, setIn, withValue}
-use Rattle.edit.specs.Cases.{OeMuxCase, Order}
+use Rattle.demand.specs.Cases.{OeMuxCase, Order}
 
 pub oe-mux-case : OeMuxCase
 unfolding readIn setIn withValue strayIn strayAt strayAmong patternAt withBits withPattern known imageBytes readoutBytes fuseCount placeOfFuse byteOfIndex hasSetting bitsOf placeOf fuseOf kindOf named same candidate patternIn state bitAt withBit putBit gathered

@@ -1,0 +1,4 @@
+-- What the definitions of reading and setting give for document 01's case and for a call of each refusal.
+-- Assumes nothing.
+pub mod Cases
+pub mod Laws
