@@ -11,7 +11,7 @@ const DEVICE: Device = Device {
 const IMAGE_BYTES: usize = 2268;
 /// How many texts the specification states, so that none is passed over.
 const ACCEPTED: usize = 11;
-const REFUSED: usize = 65;
+const REFUSED: usize = 68;
 
 /// The bytes of a text as the specification writes it: characters between quotes, numbers, and the names of two; `file` puts STX and ETX
 /// around its two.

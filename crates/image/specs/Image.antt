@@ -10,11 +10,15 @@ use Rattle.part.specs.Outcome.Outcome.{accepted, refused}
 use Rattle.part.specs.Device.{fuseCount, imageBytes}
 use Rattle.part.specs.Convert.{ifKnown}
 use Rattle.part.specs.declared.Device.{Device}
-use Rattle.image.specs.Bits.{bitAt, gathered, tabulate}
+use Rattle.image.specs.Bits.{bitAt, withBit, gathered, tabulate}
 
 -- the state of a fuse
 unfoldable pub state : List ℕ → ℕ → ℕ
 state image fuse = bitAt image (fuse / 8) (fuse % 8)
+
+-- the image with the state of one fuse changed
+abbrev pub withFuse : List ℕ → (fuse s : ℕ) → List ℕ
+withFuse image fuse s = withBit image (fuse / 8) (fuse % 8) s
 
 -- the image in which each fuse has the state given
 unfoldable pub imageFrom : Device → (ℕ → ℕ) → List ℕ

@@ -13,7 +13,7 @@ use borrow.Author.Tests.{not-true, ne-eqb}
 use Rattle.part.proofs.Facts.{and-iff}
 use Rattle.jedec.specs.Characters.{etx, star, isBlank}
 use Rattle.jedec.specs.Cut.{onFirst, pieces, blanksBefore, Cut, startsWith, orEnd, fieldsFrom}
-use Rattle.jedec.specs.Form.{all, notStar, Part, starts, RightPart, RightParts, partsText, next, fieldsOf, endOf}
+use Rattle.jedec.specs.Form.{all, notStar, Part, starts, RightPart, RightParts, partsText, next, fieldsOf, partsEnd}
 
 -- bytes without a `*` stay together
 piece-byte : (b : ℕ) → notStar b ≡ true → (bytes : List ℕ) → pieces (b ∷ bytes) ≡ onFirst b (pieces bytes .ended) (pieces bytes .rest)
@@ -121,8 +121,8 @@ module _ (gap tail : List ℕ) (blank : all isBlank gap ≡ true) (no-star : all
   cutFrom at text = fieldsFrom at (pieces text .ended) (pieces text .rest)
 
   parts-last : (at : ℕ) (parts : List Part) → RightParts parts
-      → cutFrom at (partsText parts ++ last) ≡ record { fields = fieldsOf at parts; end = some (endOf at parts + length gap) }
-  unfolding partsText fieldsOf endOf cutFrom
+      → cutFrom at (partsText parts ++ last) ≡ record { fields = fieldsOf at parts; end = some (partsEnd at parts + length gap) }
+  unfolding partsText fieldsOf partsEnd cutFrom
   parts-last at [] right = rw last-pieces (last-cut at)
   parts-last at (p ∷ parts) right =
       let piece = p .blanks ++ p .bytes in
@@ -135,13 +135,13 @@ module _ (gap tail : List ℕ) (blank : all isBlank gap ≡ true) (no-star : all
 
   pub parts-cut : (at : ℕ) (parts : List Part) → RightParts parts
       → fieldsFrom at (pieces (partsText parts ++ (gap ++ etx ∷ tail)) .ended) (pieces (partsText parts ++ (gap ++ etx ∷ tail)) .rest)
-      ≡ record { fields = fieldsOf at parts; end = some (endOf at parts + length gap) }
+      ≡ record { fields = fieldsOf at parts; end = some (partsEnd at parts + length gap) }
   unfolding last cutFrom
   parts-cut at parts right = parts-last at parts right
 
 -- where the parts end
-pub end-of : (at : ℕ) (parts : List Part) → endOf at parts ≡ at + length (partsText parts)
-unfolding endOf partsText
+pub end-of : (at : ℕ) (parts : List Part) → partsEnd at parts ≡ at + length (partsText parts)
+unfolding partsEnd partsText
 end-of at [] = omega arith
 end-of at (p ∷ parts) =
     end-of (next at p) parts

@@ -20,7 +20,7 @@ use Rattle.jedec.specs.Cut.Tail.{given, wrong}
 use Rattle.jedec.specs.Rules.{Known, nothingKnown, allFields}
 use Rattle.jedec.specs.Rules.Fields.{known}
 use Rattle.jedec.specs.Meaning.{longest, meaning}
-use Rattle.jedec.specs.Form.{all, notStar, Part, starts, RightPart, RightParts, partsText, next, fieldsOf, endOf, headOf, firstAt, Concluded, GoodForm, Assembled}
+use Rattle.jedec.specs.Form.{all, notStar, Part, starts, RightPart, RightParts, partsText, next, fieldsOf, partsEnd, headOf, firstAt, Concluded, GoodForm, Assembled}
 use Rattle.jedec.proofs.Conditions.{accepted-iff}
 use Rattle.jedec.proofs.Cutting.{all-behind, no-end, at-end, one-field}
 use Rattle.jedec.proofs.Forms.{head-length, assembled-form}
@@ -80,12 +80,12 @@ record Parted (at : ℕ) (bytes : List ℕ) (cut : Cut) (end : ℕ) : Type 0 whe
   blank-gap : all isBlank gap ≡ true
   its-bytes : bytes ≡ partsText parts ++ (gap ++ etx ∷ tail)
   its-fields : cut .fields ≡ fieldsOf at parts
-  its-end : end ≡ endOf at parts + length gap
+  its-end : end ≡ partsEnd at parts + length gap
 
 -- the piece with ETX, whatever stands behind it
 last-part : (at : ℕ) (gap tail : List ℕ) → all isBlank gap ≡ true → (other : Cut) (end : ℕ) → orEnd at (gap ++ etx ∷ tail) other .end ≡ some end
     → (bytes behind : List ℕ) → bytes ≡ gap ++ etx ∷ behind → Parted at bytes (orEnd at (gap ++ etx ∷ tail) other) end
-unfolding partsText fieldsOf endOf
+unfolding partsText fieldsOf partsEnd
 last-part at gap tail blank other end e bytes behind is =
     let there : some (at + length gap) ≡ some end = rw (at-end at gap tail blank other) at e in
     record {
@@ -103,7 +103,7 @@ last-part at gap tail blank other end e bytes behind is =
 one-part : (at : ℕ) (p : Part) → RightPart p → (ended : List (List ℕ)) (rest : List ℕ) (end : ℕ)
     → Parted (next at p) (joined ended rest) (fieldsFrom (next at p) ended rest) end
     → Parted at (joined ((p .blanks ++ p .bytes) ∷ ended) rest) (fieldsFrom at ((p .blanks ++ p .bytes) ∷ ended) rest) end
-unfolding joined partsText fieldsOf endOf
+unfolding joined partsText fieldsOf partsEnd
 one-part at p right ended rest end q =
     record {
       parts = p ∷ q .parts;

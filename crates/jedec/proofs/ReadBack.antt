@@ -135,15 +135,15 @@ read-line q image at fuse widths lists fields positive h =
 lines-read : (q : At) (image : List ℕ) (at fuse : ℕ) (pattern : List (List ℕ)) (lists : List Listed) (more : List Part)
     → NoneEmpty pattern → fuse + patternFuses pattern < 10 ^ 7
     → allFields (knownWith q lists) (fieldsOf at (lineParts image fuse pattern ++ more))
-    ≡ allFields (knownWith q (lists ++ listsOf at image fuse pattern)) (fieldsOf (form.endOf at (lineParts image fuse pattern)) more)
-unfolding fieldsOf lineParts listsOf patternFuses form.endOf part
+    ≡ allFields (knownWith q (lists ++ listsOf at image fuse pattern)) (fieldsOf (form.partsEnd at (lineParts image fuse pattern)) more)
+unfolding fieldsOf lineParts listsOf patternFuses form.partsEnd part
 lines-read q image at fuse [] lists more positive h = rw (append-nil lists)
 lines-read q image at fuse (widths ∷ pattern) lists more positive h =
     let p = part (lineBytes image fuse widths) in
     let l : Listed = record { at = at + 1; first = fuse; states = statesOf image fuse (total widths) } in
     read-line q image at fuse widths lists _ (positive .0) (omega arith)
     ∙ lines-read q image (next at p) (fuse + total widths) pattern (lists ++ (l ∷ [])) more (positive .1) (omega arith)
-    ∙ ap (λ (ls : List Listed). allFields (knownWith q ls) (fieldsOf (form.endOf (next at p) (lineParts image (fuse + total widths) pattern)) more))
+    ∙ ap (λ (ls : List Listed). allFields (knownWith q ls) (fieldsOf (form.partsEnd (next at p) (lineParts image (fuse + total widths) pattern)) more))
     (append-snoc lists l (listsOf (next at p) image (fuse + total widths) pattern))
 
 states-length : (image : List ℕ) (fuse width : ℕ) → length (statesOf image fuse width) ≡ width
@@ -252,7 +252,7 @@ module _ (fuses : ℕ) (pattern : List (List ℕ)) (image : List ℕ) (few : fus
         count = some q;
         start = some 0;
         lists = lists;
-        sum = some (record { at = form.endOf lines-at (lineParts image 0 pattern) + 1; value = sum16 image });
+        sum = some (record { at = form.partsEnd lines-at (lineParts image 0 pattern) + 1; value = sum16 image });
       }
 
   fields-read : allFields nothingKnown (fieldsOf (firstAt []) parts) ≡ known gives
@@ -264,7 +264,7 @@ module _ (fuses : ℕ) (pattern : List (List ℕ)) (image : List ℕ) (few : fus
       read-one nothingKnown 3 (letterQ ∷ letterF ∷ countDigits fuses) (fieldsOf (next 2 count-part) (start-part ∷ others)) (count fuses) (count-judged fuses few) refl
       ∙ read-one counted (next 2 count-part + 1) (letterF ∷ decimalDigit 0 ∷ []) (fieldsOf lines-at others) (start 0) start-judged refl
       ∙ lines-read q image lines-at 0 pattern [] (sum-part ∷ []) none-empty (omega (arith, every-fuse))
-      ∙ read-one (knownWith q lists) (form.endOf lines-at (lineParts image 0 pattern) + 1) (letterC ∷ fourHex (sum16 image)) [] (sum (sum16 image)) (sum-judged (sum16 image) (mod-lt _ (omega arith))) refl
+      ∙ read-one (knownWith q lists) (form.partsEnd lines-at (lineParts image 0 pattern) + 1) (letterC ∷ fourHex (sum16 image)) [] (sum (sum16 image)) (sum-judged (sum16 image) (mod-lt _ (omega arith))) refl
 
   concluded : Concluded fuses (assembled [] parts (lf ∷ []) (fourHex its-sum) []) image (etxAt [] parts (lf ∷ [])) its-sum gives
   unfolding gives q lists its-sum parts
@@ -276,7 +276,7 @@ module _ (fuses : ℕ) (pattern : List (List ℕ)) (image : List ℕ) (few : fus
             sym
             (image-given fuses image its (stateGiven 0 lists)
             (λ f l. lines-give lines-at image 0 pattern f (omega arith) (omega (arith, every-fuse))));
-        right-sum = λ c e. let same : record { at = form.endOf lines-at (lineParts image 0 pattern) + 1; value = sum16 image } ≡ c = cc in ap (λ (x : At). x .value) (sym same);
+        right-sum = λ c e. let same : record { at = form.partsEnd lines-at (lineParts image 0 pattern) + 1; value = sum16 image } ≡ c = cc in ap (λ (x : At). x .value) (sym same);
         right-transmission =
             inr
             (ap sum16

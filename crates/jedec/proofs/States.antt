@@ -17,7 +17,7 @@ use Rattle.image.specs.Image.{state}
 use Rattle.image.proofs.Bits.{bit-above, gathered-bit, gathered-small, tabulate-length, tabulate-at}
 use Rattle.jedec.specs.Characters.{isBlank, andThen, numberIn, sumIn, letterC, letterF, letterJ, letterL, letterN, letterP, letterQ, letterV, letterX}
 use Rattle.jedec.specs.Cut.{Field, holdsMark}
-use Rattle.jedec.specs.Judge.{Judged, orBad, startIn, unbroken, before, statesIn, statesFrom, listIn, afterQ, byLetters, judge}
+use Rattle.jedec.specs.Judge.{Judged, orBad, startIn, unbroken, withFirst, statesIn, statesFrom, listIn, afterQ, byLetters, judge}
 use Rattle.jedec.specs.Judge.Judged.{count, start, list, sum, skipped, bad}
 use Rattle.jedec.specs.Rules.{Listed, Known, nothingKnown, inOrder, after, Fields, allFields, endOf, misplaced, startState, stateGiven, within, imageWith, finished}
 use Rattle.jedec.specs.Rules.Fields.{known, badAt}
@@ -76,11 +76,11 @@ unfolding statesIn
 states-bits [] = λ i. omega arith
 states-bits (b ∷ bytes) = chosen ReadBits (isBlank b) (states-bits bytes) (digit (states-bits bytes) (eqb b 48 || eqb b 49) refl)
   where
-    before-bits : b - 48 < 2 → (o : Option (List ℕ)) → ReadBits o → ReadBits (andThen o (before (b - 48)))
+    before-bits : b - 48 < 2 → (o : Option (List ℕ)) → ReadBits o → ReadBits (andThen o (withFirst (b - 48)))
     before-bits h none bits = tt
     before-bits h (some states) bits = more-bits (b - 48) states h bits
 
-    digit : ReadBits (statesIn bytes) → (t : Bool) → (eqb b 48 || eqb b 49) ≡ t → ReadBits (cond t (andThen (statesIn bytes) (before (b - 48))) none)
+    digit : ReadBits (statesIn bytes) → (t : Bool) → (eqb b 48 || eqb b 49) ≡ t → ReadBits (cond t (andThen (statesIn bytes) (withFirst (b - 48))) none)
     digit bits true e =
         before-bits (either (eqb b 48) (eqb b 49) e (λ z. omega (arith, eqb-true b 48 z)) (λ z. omega (arith, eqb-true b 49 z))) (statesIn bytes) bits
     digit bits false e = tt

@@ -103,6 +103,10 @@ refusedTexts =
     ∷ is (stx ∷ chars "*F0*QF1") (refused 7 2)
     -- an F before the QF
     ∷ is (file "*F0*QF18144*" "0000") (refused 7 2)
+    -- an F, an L or a C, and no QF
+    ∷ is (file "*F0*" "0000") (refused 7 2)
+    ∷ is (file "*L0 1*" "0000") (refused 7 2)
+    ∷ is (file "*C0000*" "0000") (refused 7 2)
     -- a second QF
     ∷ is (file "*QF18144*QF18144*" "0000") (refused 7 10)
     -- QF with eight digits

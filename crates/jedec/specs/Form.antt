@@ -55,9 +55,9 @@ unfoldable pub fieldsOf : ℕ → List Part → List Field
 fieldsOf at [] = []
 fieldsOf at (p ∷ parts) = record { start = at + length (p .blanks); bytes = p .bytes } ∷ fieldsOf (next at p) parts
 
-unfoldable pub endOf : ℕ → List Part → ℕ
-endOf at [] = at
-endOf at (p ∷ parts) = endOf (next at p) parts
+unfoldable pub partsEnd : ℕ → List Part → ℕ
+partsEnd at [] = at
+partsEnd at (p ∷ parts) = partsEnd (next at p) parts
 
 -- from STX to ETX: STX, design text, `*`, fields, blanks, ETX; then four hex digits and blanks
 abbrev pub headOf : (design : List ℕ) → List Part → (gap : List ℕ) → List ℕ
@@ -80,7 +80,7 @@ abbrev pub firstAt : (design : List ℕ) → ℕ
 firstAt design = length (stx ∷ design) + 1
 
 abbrev pub etxAt : (design : List ℕ) → List Part → (gap : List ℕ) → ℕ
-etxAt design parts gap = endOf (firstAt design) parts + length gap
+etxAt design parts gap = partsEnd (firstAt design) parts + length gap
 
 -- QF gives the count
 pub record Counted (fuses : ℕ) (k : Known) : Type 0 where

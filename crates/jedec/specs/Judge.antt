@@ -41,15 +41,15 @@ unbroken [] = 0
 unbroken (b ∷ bytes) = cond (isBlank b) 0 (suc (unbroken bytes))
 
 -- a state before others
-abbrev pub before : ℕ → List ℕ → Option (List ℕ)
-before state states = some (state ∷ states)
+abbrev pub withFirst : ℕ → List ℕ → Option (List ℕ)
+withFirst state states = some (state ∷ states)
 
 -- the states that 0 and 1 write, blanks left out; none if there is any other byte
 unfoldable pub statesIn : List ℕ → Option (List ℕ)
 statesIn [] = some []
 statesIn (b ∷ bytes) =
     let after = statesIn bytes in
-    cond (isBlank b) after (cond (eqb b 48 || eqb b 49) (andThen after (before (b - 48))) none)
+    cond (isBlank b) after (cond (eqb b 48 || eqb b 49) (andThen after (withFirst (b - 48))) none)
 
 abbrev pub listFrom : ℕ → List ℕ → Judged
 listFrom first [] = bad

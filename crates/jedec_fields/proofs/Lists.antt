@@ -21,7 +21,7 @@ use Rattle.cells.specs.Cells.{cut, join}
 use Rattle.cells.proofs.Laws.{cut-length}
 use Rattle.jedec.specs.Characters.{isBlank, isMark, decimalValue, andThen, digitsRead, numberIn}
 use Rattle.jedec.specs.Cut.{holdsMark}
-use Rattle.jedec.specs.Judge.{Judged, unbroken, before, statesIn, statesFrom, listIn}
+use Rattle.jedec.specs.Judge.{Judged, unbroken, withFirst, statesIn, statesFrom, listIn}
 use mir.Syntax.{w8}
 use mir.Val.{Fits}
 use Rattle.jedec_runs.specs.Runs.{IsBlankAt, StatesAt}
@@ -120,11 +120,11 @@ module _ (bytes : List ℕ) (n i : ℕ) (c : Counts bytes n i) where
 
     pub counts-again : Counts bytes (n + count) (i + (count + z))
     counts-again =
-        let before = orEmpty (statesIn (take i bytes)) in
+        let withFirst = orEmpty (statesIn (take i bytes)) in
         let bits = join (replicate count 1) (drop i bytes) in
         let next = cut (replicate count 1) bits in
-        let all : statesIn (take (i + (count + z)) bytes) ≡ some (before ++ next) = ap statesIn (take-more i (count + z) bytes) ∙ states-append (take i bytes) (take (count + z) (drop i bytes)) before (counted .0) next (s .writes) in
-        let long : length (before ++ next) ≡ n + count = length-append before next ∙ rw (counted .1, cut-length (replicate count 1) bits, length-replicate {A = ℕ} count 1) in
+        let all : statesIn (take (i + (count + z)) bytes) ≡ some (withFirst ++ next) = ap statesIn (take-more i (count + z) bytes) ∙ states-append (take i bytes) (take (count + z) (drop i bytes)) withFirst (counted .0) next (s .writes) in
+        let long : length (withFirst ++ next) ≡ n + count = length-append withFirst next ∙ rw (counted .1, cut-length (replicate count 1) bits, length-replicate {A = ℕ} count 1) in
         record { upto = s .inside; few = omega (arith, c .few); so-far = ap statesCount all ∙ ap some long }
 
   pub counts-end : length bytes ≤ i → RunStands bytes (record { length = i; count = n })
@@ -229,7 +229,7 @@ states-plain (b ∷ bytes) states e = (plain b (no 42 refl refl) (no 2 refl refl
         let z : _≡_ {A = ℕ} 0 1 = cc in
         absurd (omega arith)
 
-    go : (t s : Bool) (o : Option (List ℕ)) → statesIn bytes ≡ o → cond t o (cond s (andThen o (before (b - 48))) none) ≡ some states
+    go : (t s : Bool) (o : Option (List ℕ)) → statesIn bytes ≡ o → cond t o (cond s (andThen o (withFirst (b - 48))) none) ≡ some states
         → ((xs : List ℕ) → statesIn bytes ≡ some xs → AllPlain bytes) → AllPlain bytes
     go true s o h f ih = ih states (h ∙ f)
     go false true none h f ih = let z : _≡_ {A = ℕ} 0 1 = cc in absurd (omega arith)

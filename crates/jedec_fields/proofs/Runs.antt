@@ -23,7 +23,7 @@ use Rattle.part.proofs.Facts.{and-iff}
 use Rattle.jedec.specs.Characters.{isBlank, isMark, between, decimalValue, hexValue, andThen, digitsRead}
 use Rattle.jedec.specs.Cut.{holdsMark, blanksBefore, Tail, tailFrom}
 use Rattle.jedec.specs.Cut.Tail.{given, wrong}
-use Rattle.jedec.specs.Judge.{unbroken, before, statesIn}
+use Rattle.jedec.specs.Judge.{unbroken, withFirst, statesIn}
 use Rattle.jedec_fields.specs.Fields.{valueOr, DigitsStand, orEmpty, untilStar}
 
 -- STX or ETX
@@ -241,7 +241,7 @@ states-few [] = omega arith
 states-few (b ∷ bytes) = go (isBlank b) (eqb b 48 || eqb b 49) (statesIn bytes) (states-few bytes)
   where
     go : (bl s : Bool) (o : Option (List ℕ)) → length (orEmpty o) ≤ length bytes
-        → length (orEmpty (cond bl o (cond s (andThen o (before (b - 48))) none))) ≤ suc (length bytes)
+        → length (orEmpty (cond bl o (cond s (andThen o (withFirst (b - 48))) none))) ≤ suc (length bytes)
     go true s o h = omega arith
     go false true none h = omega arith
     go false true (some states) h = omega arith

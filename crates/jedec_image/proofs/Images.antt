@@ -18,11 +18,12 @@ use lib.Seq.{ext-getD, getD-set-same, getD-set-other}
 use borrow.Author.Tests.{lt-ltb, le-ltb, le-leb, lt-leb, eq-eqb, ne-eqb}
 use Rattle.part.proofs.Facts.{compared}
 use Rattle.image.specs.Bits.{bitOf, putBit, withBit, gathered}
+use Rattle.image.specs.Image.{withFuse}
 use Rattle.image.proofs.Bits.{put-same, put-other, put-small, gathered-small, gathered-bit, gathered-same, gathered-own}
 use Rattle.jedec.specs.Rules.{Listed, endOf, misplaced, stateGiven, within, imageWith}
 use Rattle.jedec.proofs.States.{placed, image-length, image-at, within-small}
 use Rattle.jedec.specs.Form.{lastEnd}
-use Rattle.jedec_image.specs.States.{withState, withStates}
+use Rattle.jedec_image.specs.States.{withStates}
 
 -- two images are one where each byte is gathered from like bits
 image-is : (fuses : ℕ) (f : ℕ → ℕ) (bytes : List ℕ) → length bytes ≡ (fuses + 7) / 8
@@ -89,8 +90,8 @@ abbrev changed : (ℕ → ℕ) → (fuse state : ℕ) → ℕ → ℕ
 changed f fuse s k = cond (eqb k fuse) s (f k)
 
 module _ (fuses : ℕ) (f : ℕ → ℕ) (small : (k : ℕ) → f k < 2) where
-  put-state : (fuse s : ℕ) → fuse < fuses → s < 2 → withState (imageWith fuses f) fuse s ≡ imageWith fuses (changed f fuse s)
-  unfolding withState withBit
+  put-state : (fuse s : ℕ) → fuse < fuses → s < 2 → withFuse (imageWith fuses f) fuse s ≡ imageWith fuses (changed f fuse s)
+  unfolding withBit
   put-state fuse s l m =
       image-is fuses (changed f fuse s) _ (length-set (imageWith fuses f) (fuse / 8) _ ∙ image-length fuses f) (λ i h. byte i h (ℕ-discrete i (fuse / 8)))
     where

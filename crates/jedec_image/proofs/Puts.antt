@@ -21,11 +21,12 @@ use Rattle.part.proofs.Facts.{either}
 use Rattle.cells.specs.Cells.{cut, total}
 use Rattle.cells.proofs.Laws.{cut-append, cut-low, total-replicate}
 use Rattle.image.specs.Bits.{putBit, withBit}
+use Rattle.image.specs.Image.{withFuse}
 use Rattle.jedec.specs.Characters.{isBlank, andThen}
-use Rattle.jedec.specs.Judge.{before, statesIn}
+use Rattle.jedec.specs.Judge.{withFirst, statesIn}
 use Rattle.jedec_runs.proofs.Words.{states-append, states-none}
 use Rattle.jedec_fields.specs.Fields.{orEmpty, statesOf}
-use Rattle.jedec_image.specs.States.{withState, withStates}
+use Rattle.jedec_image.specs.States.{withStates}
 
 -- bytes that write states, all of them
 abbrev pub WritesStates : List ℕ → Type 0
@@ -47,8 +48,8 @@ unfolding statesOf statesIn
 states-solid b bytes w e = go (eqb b 48 || eqb b 49) refl (statesIn bytes) refl (rw e at w)
   where
     go : (s : Bool) → (eqb b 48 || eqb b 49) ≡ s → (o : Option (List ℕ)) → statesIn bytes ≡ o
-        → cond (eqb b 48 || eqb b 49) (andThen (statesIn bytes) (before (b - 48))) none
-        ≡ some (orEmpty (cond (eqb b 48 || eqb b 49) (andThen (statesIn bytes) (before (b - 48))) none)) → Solid b bytes w
+        → cond (eqb b 48 || eqb b 49) (andThen (statesIn bytes) (withFirst (b - 48))) none
+        ≡ some (orEmpty (cond (eqb b 48 || eqb b 49) (andThen (statesIn bytes) (withFirst (b - 48))) none)) → Solid b bytes w
     go true s none f h = let bad : none ≡ some _ = rw (s, f) at h in let z : _≡_ {A = ℕ} 0 1 = cc in absurd (omega arith)
     go false s o f h = let bad : none ≡ some _ = rw s at h in let z : _≡_ {A = ℕ} 0 1 = cc in absurd (omega arith)
     go true s (some states) f h =
@@ -87,8 +88,8 @@ put-low old l bit s h =
     rw (high (old / 2 ^ bit) bit h, low (old / 2 ^ bit) bit h, q, p) (regrouped (old / 2 ^ bit / 2) s (2 ^ bit) l)
 
 module _ (image : List ℕ) (index bit l s : ℕ) (inside : index < length image) (small : bit < 8) (under : l < 2 ^ bit) where
-  pub put-next : withState (pending image index bit l) (index * 8 + bit) s ≡ pending image index (bit + 1) (l + s * 2 ^ bit)
-  unfolding withState withBit pending
+  pub put-next : withFuse (pending image index bit l) (index * 8 + bit) s ≡ pending image index (bit + 1) (l + s * 2 ^ bit)
+  unfolding withBit pending
   put-next =
       let old = getD image index 0 in
       rw (digits-div index small, digits-mod index small, getD-set-same image index (old / 2 ^ bit * 2 ^ bit + l) 0 inside, set-set)

@@ -14,12 +14,13 @@ use lib.ListN.{length, drop, length-set}
 use borrow.Author.Tests.{lt-ltb, not-true}
 use Rattle.part.proofs.Facts.{compared, and-iff}
 use Rattle.image.specs.Bits.{withBit}
+use Rattle.image.specs.Image.{withFuse}
 use Rattle.jedec.specs.Rules.{Listed, Known, has, hasAny, inOrder, after, endOf, misplaced, startState, stateGiven}
 use Rattle.jedec_fields.specs.Fields.{statesOf, judgedAfter, ListFits, SaysFits}
 use Rattle.jedec_fields.specs.declared.FieldSays.{FieldSays}
 use Rattle.jedec_fields.specs.declared.FieldSays.the-variants as says
 use Rattle.jedec.specs.Form.{lastEnd}
-use Rattle.jedec_image.specs.States.{withState, withStates}
+use Rattle.jedec_image.specs.States.{withStates}
 use Rattle.jedec_image.proofs.Puts.{written-bits}
 use Rattle.jedec.proofs.States.{image-length}
 use Rattle.jedec_image.proofs.Images.{Holds, start-holds, put-listed, last-more, still-misplaced, now-misplaced}
@@ -134,10 +135,10 @@ module _ (fuses : ℕ) (p : Progress) (k : Known) (image rest : List ℕ) (at : 
 
 -- the image keeps its length
 put-states-length : (states image : List ℕ) (fuse : ℕ) → length (withStates image fuse states) ≡ length image
-unfolding withStates withState withBit
+unfolding withStates withBit
 put-states-length [] image fuse = refl
 put-states-length (s ∷ states) image fuse =
-    put-states-length states (withState image fuse s) (fuse + 1) ∙ length-set image (fuse / 8) _
+    put-states-length states (withFuse image fuse s) (fuse + 1) ∙ length-set image (fuse / 8) _
 
 pub put-length : (fuses : ℕ) (rest : List ℕ) (s : FieldSays) (m : Seen) (image : List ℕ) → length image ≡ (fuses + 7) / 8
     → length (putField fuses rest s m image) ≡ length image

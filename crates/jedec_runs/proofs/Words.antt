@@ -24,7 +24,7 @@ use Rattle.cells.proofs.Laws.{join-small, total-replicate}
 use Rattle.part.proofs.Facts.{either}
 use Rattle.part.proofs.Tables.{allBelow, below-all}
 use Rattle.jedec.specs.Characters.{isBlank, andThen}
-use Rattle.jedec.specs.Judge.{before, statesIn}
+use Rattle.jedec.specs.Judge.{withFirst, statesIn}
 use mir.Syntax.{w8}
 use mir.Val.{Fits}
 use Rattle.jedec_runs.specs.Runs.{AllStates, oneIfBlank, IsBlankAt, StatesAt}
@@ -175,9 +175,9 @@ states-both [] c = go (statesIn c)
     go : (o : Option (List ℕ)) → o ≡ both (some []) o
     go none = refl
     go (some ys) = refl
-states-both (b ∷ a) c = ap (λ (o : Option (List ℕ)). cond (isBlank b) o (cond (eqb b 48 || eqb b 49) (andThen o (before (b - 48))) none)) (states-both a c) ∙ go (isBlank b) (eqb b 48 || eqb b 49) (statesIn a) (statesIn c)
+states-both (b ∷ a) c = ap (λ (o : Option (List ℕ)). cond (isBlank b) o (cond (eqb b 48 || eqb b 49) (andThen o (withFirst (b - 48))) none)) (states-both a c) ∙ go (isBlank b) (eqb b 48 || eqb b 49) (statesIn a) (statesIn c)
   where
-    go : (t s : Bool) (o p : Option (List ℕ)) → cond t (both o p) (cond s (andThen (both o p) (before (b - 48))) none) ≡ both (cond t o (cond s (andThen o (before (b - 48))) none)) p
+    go : (t s : Bool) (o p : Option (List ℕ)) → cond t (both o p) (cond s (andThen (both o p) (withFirst (b - 48))) none) ≡ both (cond t o (cond s (andThen o (withFirst (b - 48))) none)) p
     go true s o p = refl
     go false true none p = refl
     go false true (some xs) none = refl

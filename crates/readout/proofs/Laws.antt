@@ -35,7 +35,7 @@ use Rattle.part.proofs.Readouts.{at-index, of-byte}
 use Rattle.part.proofs.Addresses.{again}
 use Rattle.part.proofs.Conversions.{fuse-of-address-iff, passed}
 use Rattle.image.specs.Bits.{bitOf, bitAt, putBit, withBit, gathered}
-use Rattle.image.specs.Image.{state, imageFrom}
+use Rattle.image.specs.Image.{state, withFuse, imageFrom}
 use Rattle.image.proofs.Bits.{put-same, put-other, put-small, with-same, with-other, gathered-small, gathered-bit, gathered-same, gathered-own, bit-above, tabulate-length, tabulate-at}
 use Rattle.image.proofs.Counts.{state-bit}
 use Rattle.readout.specs.Readout.{widthAt, fuseAt, readoutFrom, readoutOf, indexInReadout, bitInReadout, stateIn, imageOf, strayAt, firstStray, toImage}
@@ -235,9 +235,6 @@ accepted-iff d readout target = (
     not-refused k n e = compared k n (λ less. let z : _≡_ {A = ℕ} 0 1 = clash k (rw (lt-ltb k n less) at e) in absurd (omega arith)) (λ more. more)
 
 -- A change of one fuse: in the image, and of the bit at its address in the readout.
-abbrev pub withFuse : List ℕ → (fuse s : ℕ) → List ℕ
-withFuse image fuse s = withBit image (fuse / 8) (fuse % 8) s
-
 abbrev pub withFuseIn : Device → List ℕ → (fuse s : ℕ) → List ℕ
 withFuseIn d readout fuse s = withBit readout (indexInReadout d fuse) (bitInReadout d fuse) s
 
