@@ -2,10 +2,11 @@
 // Each function only calls its library function and packs the answer: specs/Packed.antt says how.
 ghost use mathlib.Core.Path.{_≡_};
 ghost use lib.ListN.{length};
-ghost use Rattle.part.specs.Answer.{refusalNumber, refusalValue, addressOutcome, fuseOutcome, numberOutcome};
+ghost use Rattle.part.specs.Answer.{refusalNumber, refusalValue, addressOutcome, fuseOutcome, numberOutcome, doneOutcome};
 ghost use Rattle.part.specs.Convert.{addressOfFuse, fuseOfAddress};
 ghost use Rattle.image.specs.Image.{fuseSum, zeroCount};
-ghost use Rattle.readout.specs.Readout.{doneOutcome, written, toReadout, readoutOf, toImage, imageOf};
+ghost use Rattle.part.specs.Outcome.{written};
+ghost use Rattle.readout.specs.Readout.{toReadout, readoutOf, toImage, imageOf};
 ghost use Rattle.settings.specs.Operations.{countOfSettings, settingOfNumber};
 ghost use Rattle.setting_places.specs.Answer.{bitOutcome};
 ghost use Rattle.setting_places.specs.Operations.{fuseOfBit, settingAtFuse};
@@ -16,12 +17,12 @@ ghost use Rattle.edit_by_number.specs.ByNumber.{readPattern, setPattern, withNu
 ghost use Rattle.capi.specs.Packed.{packed, refusalWord, device, addressAndBit, itself, noResult, orNone, settingAndBit, through};
 use part::AddressAnswer;
 use part::Device;
+use part::DoneAnswer;
 use part::DeviceAddress;
 use part::FuseAnswer;
 use part::FuseNumber;
 use part::NumberAnswer;
 use part::Refusal;
-use readout::DoneAnswer;
 use setting_places::BitAnswer;
 use setting_places::NamedAnswer;
 use settings::SettingAnswer;

@@ -6,7 +6,9 @@ use Prim.Native.Nat.{ℕ}
 use lib.ListN.{length}
 use Rattle.part.specs.Device.{imageBytes, readoutBytes}
 use Rattle.part.specs.declared.Device.{Device}
-use Rattle.readout.specs.Readout.{doneOutcome, Written, toReadout, readoutOf, toImage, imageOf}
+use Rattle.part.specs.Answer.{doneOutcome}
+use Rattle.part.specs.Outcome.{Written}
+use Rattle.readout.specs.Readout.{toReadout, readoutOf, toImage, imageOf}
 use Rattle.settings.specs.declared.Setting.{Setting}
 use Rattle.values.specs.declared.Value.{Value}
 use Rattle.setting_values.specs.Operations.{valueOutcome}

@@ -4,7 +4,7 @@ ghost use mathlib.Core.Path.{_≡_};
 ghost use lib.ListN.{length};
 ghost use Rattle.demand.specs.BothWays.{ReadInBoth, Begun, SetInBoth, BothConverted, BothWays, callsOf};
 use part::Device;
-use readout::DoneAnswer;
+use part::DoneAnswer;
 use setting_values::ValueAnswer;
 use settings::Setting;
 use values::Value;

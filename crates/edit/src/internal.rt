@@ -4,14 +4,15 @@ ghost use mathlib.Core.Path.{_≡_};
 ghost use mathlib.Core.Bool.{true};
 ghost use lib.ListN.{length};
 ghost use Rattle.part.specs.Device.{known};
-ghost use Rattle.readout.specs.Readout.{doneOutcome, Written};
+ghost use Rattle.part.specs.Answer.{doneOutcome};
+ghost use Rattle.part.specs.Outcome.{Written};
 ghost use Rattle.settings.specs.Settings.{hasSetting};
 ghost use Rattle.setting_values.specs.Operations.{valueOutcome};
 ghost use Rattle.setting_bits.specs.SettingBits.{bytesOf};
 ghost use Rattle.edit.specs.Edit.{strayIn, readIn, setIn, withValue};
 use part::Device;
+use part::DoneAnswer;
 use part::Refusal;
-use readout::DoneAnswer;
 use setting_values::ValueAnswer;
 use settings::Setting;
 use values::Value;
@@ -28,17 +29,6 @@ pub fn stray_in(d: Device, readout: bool, bytes: &[u8], s: Setting) -> usize
     bytes.len()
 }
 
-// The exact length of an image or a readout.
-pub fn bytes_of(d: Device, readout: bool) -> usize
-    requires { ⌜ known d ≡ true ⌝ }
-    ensures { λ r. ⌜ r ≡ bytesOf d readout ⌝ }
-{
-    if readout {
-        return part::internal::readout_bytes(d) as usize;
-    }
-    part::internal::image_bytes(d) as usize
-}
-
 // The value of a setting. Refused: 1, 2, 4, 6.
 pub fn read(d: Device, readout: bool, bytes: &[u8], s: Setting) -> ValueAnswer
     ensures { λ r. ⌜ valueOutcome r ≡ readIn d readout (now (bytes .entry)) s ⌝ }
@@ -46,7 +36,7 @@ pub fn read(d: Device, readout: bool, bytes: &[u8], s: Setting) -> ValueAnswer
     if !part::is_known(d) {
         return ValueAnswer::Refused(Refusal::UnknownDevice);
     }
-    if bytes.len() != bytes_of(d, readout) {
+    if bytes.len() != setting_bits::internal::bytes_of(d, readout) {
         return ValueAnswer::Refused(Refusal::WrongLength);
     }
     if !settings::internal::has_setting(d, s) {
@@ -69,7 +59,7 @@ pub fn set(d: Device, readout: bool, bytes: &mut [u8], s: Setting, v: Value) -> 
     if !part::is_known(d) {
         return DoneAnswer::Refused(Refusal::UnknownDevice);
     }
-    if bytes.len() != bytes_of(d, readout) {
+    if bytes.len() != setting_bits::internal::bytes_of(d, readout) {
         return DoneAnswer::Refused(Refusal::WrongLength);
     }
     if !settings::internal::has_setting(d, s) {

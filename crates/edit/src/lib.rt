@@ -1,12 +1,13 @@
 // Reading and setting a setting, in an image and in a readout, by name and value.
 // The definitions stand in specs/Edit.antt; demand 3 as one record in specs/Demand.antt.
 ghost use mathlib.Core.Path.{_≡_};
-ghost use Rattle.readout.specs.Readout.{doneOutcome, Written};
+ghost use Rattle.part.specs.Answer.{doneOutcome};
+ghost use Rattle.part.specs.Outcome.{Written};
 ghost use Rattle.setting_values.specs.Operations.{valueOutcome};
 ghost use Rattle.setting_bits.specs.SettingBits.{inImage, inReadout};
 ghost use Rattle.edit.specs.Edit.{readIn, setIn, withValue};
 use part::Device;
-use readout::DoneAnswer;
+use part::DoneAnswer;
 use setting_values::ValueAnswer;
 use settings::Setting;
 use values::Value;

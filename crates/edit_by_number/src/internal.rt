@@ -6,8 +6,8 @@ ghost use Prim.Native.Nat.{_<_};
 ghost use lib.Dec.{eqb, ltb};
 ghost use lib.ListN.{length};
 ghost use Rattle.part.specs.Device.{known};
-ghost use Rattle.part.specs.Answer.{numberOutcome};
-ghost use Rattle.readout.specs.Readout.{doneOutcome, Written};
+ghost use Rattle.part.specs.Answer.{numberOutcome, doneOutcome};
+ghost use Rattle.part.specs.Outcome.{Written};
 ghost use Rattle.settings.specs.Order.{start, settingOf};
 ghost use Rattle.settings.specs.Order.Group.{wireAnds};
 ghost use Rattle.setting_places.specs.Places.{fuseOf};
@@ -15,9 +15,9 @@ ghost use Rattle.setting_bits.specs.SettingBits.{bytesOf, byteOf, bitIn};
 ghost use Rattle.edit.specs.Edit.{strayIn};
 ghost use Rattle.edit_by_number.specs.ByNumber.{readPattern, setPattern, withNumbered};
 use part::Device;
+use part::DoneAnswer;
 use part::NumberAnswer;
 use part::Refusal;
-use readout::DoneAnswer;
 use settings::SettingNumber;
 
 // Where a literal stands, and whether its byte has a bit above its width: an image has no such bits.
@@ -52,7 +52,7 @@ pub fn is_literal(d: Device, readout: bool, length: usize, number: SettingNumber
     if !part::is_known(d) {
         return false;
     }
-    if length != edit::internal::bytes_of(d, readout) {
+    if length != setting_bits::internal::bytes_of(d, readout) {
         return false;
     }
     number.0 < settings::internal::start_of_wire_ands(d)
@@ -103,7 +103,7 @@ pub fn read_numbered(d: Device, readout: bool, bytes: &[u8], number: SettingNumb
     if !part::is_known(d) {
         return NumberAnswer::Refused(Refusal::UnknownDevice);
     }
-    if bytes.len() != edit::internal::bytes_of(d, readout) {
+    if bytes.len() != setting_bits::internal::bytes_of(d, readout) {
         return NumberAnswer::Refused(Refusal::WrongLength);
     }
     if settings::internal::count_of(d) <= number.0 {
@@ -137,7 +137,7 @@ pub fn set_numbered(
     if !part::is_known(d) {
         return DoneAnswer::Refused(Refusal::UnknownDevice);
     }
-    if bytes.len() != edit::internal::bytes_of(d, readout) {
+    if bytes.len() != setting_bits::internal::bytes_of(d, readout) {
         return DoneAnswer::Refused(Refusal::WrongLength);
     }
     if settings::internal::count_of(d) <= number.0 {

@@ -1,13 +1,13 @@
 // Reading and setting a setting, in an image and in a readout, by setting number and pattern.
 // The definitions stand in specs/ByNumber.antt.
 ghost use mathlib.Core.Path.{_≡_};
-ghost use Rattle.part.specs.Answer.{numberOutcome};
-ghost use Rattle.readout.specs.Readout.{doneOutcome, Written};
+ghost use Rattle.part.specs.Answer.{numberOutcome, doneOutcome};
+ghost use Rattle.part.specs.Outcome.{Written};
 ghost use Rattle.setting_bits.specs.SettingBits.{inImage, inReadout};
 ghost use Rattle.edit_by_number.specs.ByNumber.{readPattern, setPattern, withNumbered};
 use part::Device;
+use part::DoneAnswer;
 use part::NumberAnswer;
-use readout::DoneAnswer;
 use settings::SettingNumber;
 
 mod internal;

@@ -1,7 +1,7 @@
 // Prints what reading and setting one setting answer in an image and in a readout: document 01's case, then each device; then both ways at once.
 // The file stdout beside src/ is what the independent program prints.
 use part::Device;
-use readout::DoneAnswer;
+use part::DoneAnswer;
 use setting_values::ValueAnswer;
 use settings::MacrocellField;
 use settings::Setting;

@@ -3,4 +3,5 @@
 pub mod Bits
 pub mod Pairs
 pub mod Counts
-pub mod Checks
+pub mod Numbers
+pub mod Images

@@ -1,14 +1,12 @@
 -- Image: one bit a fuse; fuse f is bit f mod 8 (bit 0 lowest) of byte f div 8. The fuse sum and the zero count over it.
 -- Document 01, "Three pictures of one part" and "Reading and writing the text".
 use Prim.Native.Nat.{ℕ, zero, suc, _+_, _*_, _-_, _/_, _%_, _^_}
-use mathlib.Core.Bool.{cond}
 use mathlib.Core.List.{List, [], _∷_}
-use lib.Dec.{eqb}
 use lib.ListN.{length}
 use Rattle.part.specs.Outcome.{Outcome}
-use Rattle.part.specs.Outcome.Outcome.{accepted, refused}
+use Rattle.part.specs.Outcome.Outcome.{accepted}
 use Rattle.part.specs.Device.{fuseCount, imageBytes}
-use Rattle.part.specs.Convert.{ifKnown}
+use Rattle.part.specs.Convert.{ifKnown, ifLength}
 use Rattle.part.specs.declared.Device.{Device}
 use Rattle.image.specs.Bits.{bitAt, withBit, gathered, tabulate}
 
@@ -36,10 +34,6 @@ sum16 bytes = byteSum bytes % 2 ^ 16
 unfoldable pub zerosBelow : List ℕ → ℕ → ℕ
 zerosBelow image zero = 0
 zerosBelow image (suc fuse) = zerosBelow image fuse + (1 - state image fuse)
-
--- refusal 2 exactly where an image or a readout has not the exact length
-abbrev pub ifLength : {A : Type 0} → (bytes exact : ℕ) → Outcome A → Outcome A
-ifLength bytes exact answer = cond (eqb bytes exact) answer (refused 2 0)
 
 unfoldable pub fuseSum : Device → List ℕ → Outcome ℕ
 fuseSum d image = ifKnown d (ifLength (length image) (imageBytes d) (accepted (sum16 image)))

@@ -2,4 +2,3 @@
 -- Assumes nothing.
 pub mod Steps
 pub mod Ends
-pub mod Laws

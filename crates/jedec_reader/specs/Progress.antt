@@ -8,9 +8,8 @@ use mathlib.Core.Option.{Option}
 use mathlib.Core.Option.Option.{none, some}
 use lib.Dec.{ltb}
 use lib.ListN.{drop}
-use Rattle.part.specs.Outcome.{Outcome}
+use Rattle.part.specs.Outcome.{Outcome, written}
 use Rattle.part.specs.Outcome.Outcome.{accepted}
-use Rattle.readout.specs.Readout.{written}
 use Rattle.jedec.specs.Rules.{At, Known, has, hasAny, misplaced, startState, stateGiven, imageWith}
 use Rattle.jedec_fields.specs.Fields.{statesOf, ListFits}
 use Rattle.jedec_fields.specs.declared.FieldSays.{FieldSays}

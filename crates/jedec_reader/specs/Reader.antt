@@ -6,9 +6,8 @@ use lib.ListN.{length}
 use Rattle.part.specs.Outcome.{Outcome}
 use Rattle.part.specs.Outcome.Outcome.{accepted, refused}
 use Rattle.part.specs.Device.{fuseCount, imageBytes}
-use Rattle.part.specs.Convert.{ifKnown}
+use Rattle.part.specs.Convert.{ifKnown, ifLength}
 use Rattle.part.specs.declared.Device.{Device}
-use Rattle.image.specs.Image.{ifLength}
 use Rattle.jedec.specs.Meaning.{meaning}
 
 -- what is answered, without the image

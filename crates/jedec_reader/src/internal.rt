@@ -3,7 +3,7 @@
 ghost use mathlib.Core.Path.{_≡_};
 ghost use Prim.Native.Nat.{_+_, _/_, _<_, _≤_};
 ghost use lib.ListN.{length, drop};
-ghost use Rattle.readout.specs.Readout.{doneOutcome};
+ghost use Rattle.part.specs.Answer.{doneOutcome};
 ghost use mathlib.Core.List.{[]};
 ghost use Rattle.jedec.specs.Rules.{Known, has, wrongCount, stateGiven, imageWith};
 ghost use Rattle.jedec.specs.Meaning.{wrongSum, wrongTransmission, concluded, withEnd, ofCut, meaning};
@@ -13,8 +13,8 @@ ghost use Rattle.jedec_reader.specs.Progress.{notedOf, seenOf, mayStand,
 use jedec_fields::FieldSays;
 use jedec_fields::NextSays;
 use jedec_fields::TailSays;
+use part::DoneAnswer;
 use part::Refusal;
-use readout::DoneAnswer;
 
 // A number that a field gave, and where the field starts.
 pub enum Noted {

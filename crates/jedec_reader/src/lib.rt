@@ -1,10 +1,11 @@
 // Text to image: the JEDEC reader.
 // The definition stands in specs/Reader.antt, on top of what a text means in crate `jedec`.
-ghost use Rattle.readout.specs.Readout.{doneOutcome, Written};
+ghost use Rattle.part.specs.Answer.{doneOutcome};
+ghost use Rattle.part.specs.Outcome.{Written};
 ghost use Rattle.jedec_reader.specs.Reader.{toImageFromText, imageIn};
 use part::Device;
+use part::DoneAnswer;
 use part::Refusal;
-use readout::DoneAnswer;
 
 mod internal;
 

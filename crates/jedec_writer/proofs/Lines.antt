@@ -10,7 +10,7 @@ use lib.Seq.{sets, length-sets}
 use Rattle.cells.specs.Cells.{cut, total, repeat, number}
 use Rattle.cells.proofs.Laws.{sets-append}
 use Rattle.part.specs.Device.{lineBytes}
-use Rattle.readout.proofs.Sizes.{room}
+use Rattle.part.proofs.Facts.{room}
 use Rattle.jedec.specs.Characters.{letterL, digitsOf, decimalDigit, sevenDigits}
 use Rattle.jedec.specs.WrittenText.{lineEnd, statesText, columnsText, lineText, linesText, patternFuses}
 use Rattle.jedec_writer.specs.Tokens.{columnText, columnsOf, Wide, linesBytes, Stored}

@@ -11,15 +11,14 @@ use lib.Seq.{sets, sets-eq, take-at}
 use borrow.Author.Tests.{lt-ltb, le-ltb}
 use Rattle.cells.specs.Cells.{cut, number}
 use Rattle.cells.proofs.Laws.{sets-append}
-use Rattle.part.specs.Outcome.{Outcome}
+use Rattle.part.specs.Outcome.{Outcome, written, Written}
 use Rattle.part.specs.Outcome.Outcome.{accepted, refused}
 use Rattle.part.specs.Device.{known, fuseCount, imageBytes, textBytes, decimalDigits}
-use Rattle.part.specs.Convert.{ifKnown}
+use Rattle.part.specs.Convert.{ifKnown, ifLength}
 use Rattle.part.specs.declared.Device.{Device}
-use Rattle.image.specs.Image.{sum16, ifLength}
-use Rattle.image.proofs.Checks as checks
-use Rattle.readout.specs.Readout.{written, Written}
-use Rattle.readout.proofs.Targets.{says}
+use Rattle.image.specs.Image.{sum16}
+use Rattle.part.proofs.Checks as checks
+use Rattle.part.proofs.Targets.{says}
 use Rattle.jedec.specs.Characters.{stx, etx, letterC, letterF, letterL, letterQ, decimalDigit, hexDigit, sevenDigits, countDigits, fourHex}
 use Rattle.jedec.specs.WrittenText.{lineEnd, linesText, headText, footText, upToEtx, textWith}
 use Rattle.jedec_writer.specs.Pattern.{pattern, textOf, toText, withText}

@@ -11,7 +11,7 @@ use lib.Pow.{pow-pos, shr-shr, high, low}
 use lib.Seq.{sets, set-set, set-comm}
 use Rattle.cells.specs.Cells.{cut, join, total, number}
 use Rattle.cells.proofs.Laws.{cut-length, cut-low, total-replicate, sets-append, cut-sets, piece}
-use Rattle.readout.proofs.Passages.{number-bit}
+use Rattle.image.proofs.Numbers.{number-bit}
 use Rattle.jedec.specs.Characters.{space, decimalDigit}
 use Rattle.jedec.specs.WrittenText.{statesText, columnsText}
 use Rattle.jedec_writer.specs.Tokens.{bitsText, columnsOf, Stored}

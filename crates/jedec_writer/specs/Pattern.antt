@@ -9,10 +9,9 @@ use Rattle.cells.specs.Cells.{repeat}
 use Rattle.part.specs.Outcome.{Outcome}
 use Rattle.part.specs.Outcome.Outcome.{accepted, refused}
 use Rattle.part.specs.Device.{blocksOf, mainRows, mainWidth, wireAndRows, wireAndWidth, fuseCount, imageBytes, textBytes}
-use Rattle.part.specs.Convert.{ifKnown}
+use Rattle.part.specs.Convert.{ifKnown, ifLength}
 use Rattle.part.specs.declared.Device.{Device}
 use Rattle.image.specs.Bits.{tabulate}
-use Rattle.image.specs.Image.{ifLength}
 use Rattle.jedec.specs.WrittenText.{textWith}
 
 -- the widths of the columns of a line, from a column on

@@ -2,7 +2,7 @@
 // The definitions stand in specs/Pattern.antt, the laws about them in proofs/Laws.antt.
 ghost use lib.ListN.{length};
 ghost use Rattle.part.specs.Answer.{numberOutcome};
-ghost use Rattle.readout.specs.Readout.{Written};
+ghost use Rattle.part.specs.Outcome.{Written};
 ghost use Rattle.jedec_writer.specs.Pattern.{toText, withText};
 use part::Device;
 use part::NumberAnswer;

@@ -1,9 +1,11 @@
 -- Tests turned into facts and back, and a law over `cond` by its two cases.
 -- Assumes nothing.
-use mathlib.Core.Path.{_≡_, refl, sym}
+use mathlib.Core.Path.{_≡_, refl, sym, ap}
 use mathlib.Core.Logic.{_↔_}
 use mathlib.Core.Bool.{Bool, true, false, cond, _&&_, _||_, true≢false}
-use Prim.Native.Nat.{ℕ, _≤_, _<_}
+use Prim.Native.Nat.{ℕ, suc, _+_, _*_, _-_, _≤_, _<_}
+use native.Mathlib.Omega.{arith}
+use native.Mathlib.Nat.{suc-mul}
 use lib.Dec.{ltb, eqb}
 use borrow.Author.Tests.{ltb-true, ltb-false, lt-ltb, le-ltb, eqb-true, eq-eqb}
 
@@ -35,3 +37,10 @@ by-cases P x y less more = compared x y (λ l. rw (lt-ltb x y l) (less l)) (λ g
 pub either : (a b : Bool) {P : Type 0} → (a || b) ≡ true → (a ≡ true → P) → (b ≡ true → P) → P
 either true b h l r = l refl
 either false b h l r = r h
+
+-- what one turn and the turns that are left take
+pub room : (left each here end : ℕ) → 0 < left → here + left * each ≤ end → (here + each ≤ end) × (here + each + (left - 1) * each ≤ end)
+room left each here end h g =
+    let more : left ≡ suc (left - 1) = omega arith in
+    let product : left * each ≡ (left - 1) * each + each = ap (λ (k : ℕ). k * each) more ∙ suc-mul (left - 1) each in
+    omega arith

@@ -8,5 +8,7 @@ pub mod Fuses
 pub mod Addresses
 pub mod Devices
 pub mod Conversions
+pub mod Checks
+pub mod Targets
 pub mod Readouts
 pub mod Laws

@@ -12,6 +12,8 @@ use Rattle.part.specs.declared.AddressAnswer.{AddressAnswer}
 use Rattle.part.specs.declared.AddressAnswer.the-variants as address
 use Rattle.part.specs.declared.FuseAnswer.{FuseAnswer}
 use Rattle.part.specs.declared.FuseAnswer.the-variants as fuse
+use Rattle.part.specs.declared.DoneAnswer.{DoneAnswer}
+use Rattle.part.specs.declared.DoneAnswer.the-variants as done
 use Rattle.part.specs.declared.NumberAnswer.{NumberAnswer}
 use Rattle.part.specs.declared.NumberAnswer.the-variants as answer
 
@@ -62,3 +64,8 @@ fuseOutcome (fuse.Refused r) = refused (refusalNumber r) (refusalValue r)
 abbrev pub numberOutcome : NumberAnswer → Outcome ℕ
 numberOutcome (answer.Number x) = accepted x
 numberOutcome (answer.Refused r) = refused (refusalNumber r) (refusalValue r)
+
+-- what an answer without a result says
+abbrev pub doneOutcome : DoneAnswer → Outcome (Unit {0})
+doneOutcome done.Done = accepted tt
+doneOutcome (done.Refused r) = refused (refusalNumber r) (refusalValue r)

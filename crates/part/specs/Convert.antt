@@ -2,7 +2,7 @@
 -- 1 for an unknown device; 3 for a fuse at or over the count, an address that no byte has, a bit at or over its width.
 use Prim.Native.Nat.{ℕ}
 use mathlib.Core.Bool.{cond, _&&_}
-use lib.Dec.{ltb}
+use lib.Dec.{eqb, ltb}
 use Rattle.part.specs.Outcome.{Outcome}
 use Rattle.part.specs.Outcome.Outcome.{accepted, refused}
 use Rattle.part.specs.Device.{known, fuseCount, imageBytes, readoutBytes, textBytes}
@@ -13,6 +13,10 @@ use Rattle.part.specs.declared.Sizes.{Sizes}
 -- refusal 1 exactly for an unknown device
 abbrev pub ifKnown : {A : Type 0} → Device → Outcome A → Outcome A
 ifKnown d answer = cond (known d) answer (refused 1 0)
+
+-- refusal 2 exactly where an image or a readout has not the exact length
+abbrev pub ifLength : {A : Type 0} → (bytes exact : ℕ) → Outcome A → Outcome A
+ifLength bytes exact answer = cond (eqb bytes exact) answer (refused 2 0)
 
 -- the sizes of a device
 unfoldable pub sizesOf : Device → Outcome Sizes

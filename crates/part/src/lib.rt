@@ -92,6 +92,12 @@ pub enum FuseAnswer {
     Refused(Refusal),
 }
 
+// A call that has no result.
+pub enum DoneAnswer {
+    Done,
+    Refused(Refusal),
+}
+
 // A plain number: a sum, a count.
 pub enum NumberAnswer {
     Number(u32),

@@ -7,7 +7,8 @@
 --   accepted-iff         a readout is accepted exactly if no byte has a bit above its width
 --   readout-accepted     an image's readout is always accepted
 --   change-agrees        the readout of an image with one fuse changed is the readout with the bit at its address changed
---   image-changed, image-others, readout-changed, readout-others   the fuse has the new state, every other fuse stands
+--   readout-changed, readout-others   the fuse has the new state, every other fuse stands; in an image `image-changed`, `image-others` of
+--                        crate `image`
 use mathlib.Core.Path.{_≡_, sym, _∙_, ap, ap₂, subst₂}
 use mathlib.Core.Logic.{_≢_, _↔_}
 use mathlib.Core.Bool.{true, cond}
@@ -36,6 +37,7 @@ use Rattle.part.proofs.Addresses.{again}
 use Rattle.part.proofs.Conversions.{fuse-of-address-iff, passed}
 use Rattle.image.specs.Bits.{bitOf, bitAt, putBit, withBit, gathered}
 use Rattle.image.specs.Image.{state, withFuse, imageFrom}
+use Rattle.image.proofs.Images.{image-from, same-image, image-own, image-changed, image-others}
 use Rattle.image.proofs.Bits.{put-same, put-other, put-small, with-same, with-other, gathered-small, gathered-bit, gathered-same, gathered-own, bit-above, tabulate-length, tabulate-at}
 use Rattle.image.proofs.Counts.{state-bit}
 use Rattle.readout.specs.Readout.{widthAt, fuseAt, readoutFrom, readoutOf, indexInReadout, bitInReadout, stateIn, imageOf, strayAt, firstStray, toImage}
@@ -79,15 +81,8 @@ lies-there d index bit h hb =
     let e : placeOfFuse d (fuseAt d index bit) ≡ p = of-place d p (place-at d index bit h hb) .1 in
     (ap (λ (q : Place). indexOfByte d (q .byte)) e ∙ at-index d index h .1, ap (λ (q : Place). q .bit) e)
 
--- what is made from states has those states
+-- a readout that is made from states has those states
 module _ (d : Device) (states : ℕ → ℕ) (small : (fuse : ℕ) → states fuse < 2) where
-  pub image-from : known d ≡ true → (fuse : ℕ) → fuse < fuseCount d → state (imageFrom d states) fuse ≡ states fuse
-  unfolding state bitAt imageFrom
-  image-from k fuse h =
-      let e : fuse / 8 * 8 + fuse % 8 ≡ fuse = omega arith in
-      rw (tabulate-at (imageBytes d) (λ index. gathered (λ bit. states (index * 8 + bit)) 8) (fuse / 8) (omega (arith, image-whole d k)))
-      (gathered-bit (λ bit. states (fuse / 8 * 8 + bit)) (λ bit. small _) 8 (fuse % 8) (omega arith) ∙ ap states e)
-
   readout-byte : (index : ℕ) → index < readoutBytes d → getD (readoutFrom d states) index 0 ≡ gathered (λ bit. states (fuseAt d index bit)) (widthAt d index)
   unfolding readoutFrom
   readout-byte index h = tabulate-at (readoutBytes d) _ index h
@@ -106,19 +101,8 @@ module _ (d : Device) (states : ℕ → ℕ) (small : (fuse : ℕ) → states fu
       let l = lying d fuse h in
       readout-from (indexInReadout d fuse) (bitInReadout d fuse) (l .index-below) (l .bit-below) ∙ ap states (l .its-own)
 
--- the same states make the same image and the same readout
+-- the same states make the same readout
 module _ (d : Device) (f g : ℕ → ℕ) (same : (fuse : ℕ) → fuse < fuseCount d → f fuse ≡ g fuse) where
-  pub same-image : known d ≡ true → imageFrom d f ≡ imageFrom d g
-  unfolding imageFrom
-  same-image k =
-      let n = imageBytes d in
-      ext-getD 0 (imageFrom d f) (imageFrom d g) (tabulate-length n _ ∙ sym (tabulate-length n _))
-      (λ index h.
-      let below : index < n = rw (tabulate-length n (λ i. gathered (λ bit. f (i * 8 + bit)) 8)) at h in
-      tabulate-at n _ index below
-      ∙ gathered-same (λ bit. f (index * 8 + bit)) (λ bit. g (index * 8 + bit)) 8 (λ bit hb. same (index * 8 + bit) (omega (arith, image-whole d k)))
-      ∙ sym (tabulate-at n _ index below))
-
   pub same-readout : readoutFrom d f ≡ readoutFrom d g
   unfolding readoutFrom
   same-readout =
@@ -130,23 +114,7 @@ module _ (d : Device) (f g : ℕ → ℕ) (same : (fuse : ℕ) → fuse < fuseCo
       ∙ gathered-same (λ bit. f (fuseAt d index bit)) (λ bit. g (fuseAt d index bit)) (widthAt d index) (λ bit hb. same (fuseAt d index bit) (fuse-below d index bit below hb))
       ∙ sym (tabulate-at n _ index below))
 
--- an image and a readout are made from their own states
-pub image-own : (d : Device) (image : List ℕ) → length image ≡ imageBytes d → ((i : ℕ) → getD image i 0 < 2 ^ 8) → imageFrom d (state image) ≡ image
-unfolding imageFrom state bitAt
-image-own d image e small =
-    let n = imageBytes d in
-    ext-getD 0 (imageFrom d (state image)) image (tabulate-length n _ ∙ sym e)
-    (λ index h.
-    let below : index < n = rw (tabulate-length n (λ i. gathered (λ bit. state image (i * 8 + bit)) 8)) at h in
-    tabulate-at n _ index below
-    ∙ gathered-same (λ bit. state image (index * 8 + bit)) (bitOf (getD image index 0)) 8
-    (λ bit hb.
-    let q : (index * 8 + bit) / 8 ≡ index = omega arith in
-    let r : (index * 8 + bit) % 8 ≡ bit = omega arith in
-    rw (q, r))
-    ∙ gathered-own (getD image index 0) 8
-    ∙ mod-eq-of-lt (small index))
-
+-- a readout is made from its own states
 pub readout-own : (d : Device) (readout : List ℕ) → length readout ≡ readoutBytes d → ((i : ℕ) → i < readoutBytes d → getD readout i 0 < 2 ^ widthAt d i)
     → readoutFrom d (stateIn d readout) ≡ readout
 unfolding readoutFrom stateIn bitAt
@@ -237,16 +205,6 @@ accepted-iff d readout target = (
 -- A change of one fuse: in the image, and of the bit at its address in the readout.
 abbrev pub withFuseIn : Device → List ℕ → (fuse s : ℕ) → List ℕ
 withFuseIn d readout fuse s = withBit readout (indexInReadout d fuse) (bitInReadout d fuse) s
-
--- in the image: the fuse has the new state, every other fuse stands
-module _ (image : List ℕ) (fuse s : ℕ) (there : fuse < length image * 8) (bit : s < 2) where
-  pub image-changed : state (withFuse image fuse s) fuse ≡ s
-  unfolding state
-  image-changed = with-same image (fuse / 8) (fuse % 8) s (omega arith) bit
-
-  pub image-others : (other : ℕ) → other ≢ fuse → state (withFuse image fuse s) other ≡ state image other
-  unfolding state
-  image-others other ne = with-other image (fuse / 8) (fuse % 8) s (omega arith) bit (other / 8) (other % 8) (λ e. ne (omega arith))
 
 -- in the readout, whatever its other bytes hold
 module _ (d : Device) (readout : List ℕ) (fuse s : ℕ) (l : length readout ≡ readoutBytes d) (h : fuse < fuseCount d) (bit : s < 2) where

@@ -4,7 +4,6 @@ pub mod Sizes
 pub mod RowsOut
 pub mod Widths
 pub mod Passages
-pub mod Targets
 pub mod Fields
 pub mod RowsIn
 pub mod Strays

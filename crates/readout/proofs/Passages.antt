@@ -22,28 +22,12 @@ use Rattle.part.proofs.Fuses.{at-fuse, of-place}
 use Rattle.part.proofs.Readouts.{at-index, of-byte}
 use Rattle.image.specs.Bits.{bitOf, bitAt}
 use Rattle.image.specs.Image.{state, imageFrom}
-use Rattle.image.proofs.Bits.{bit-low, bit-high, gathered-same, gathered-own, tabulate-length, tabulate-at}
+use Rattle.image.proofs.Numbers.{joined-bit, number-bit}
+use Rattle.image.proofs.Bits.{bit-high, gathered-same, gathered-own, tabulate-length, tabulate-at}
 use Rattle.readout.specs.Readout.{widthAt, fuseAt, readoutFrom, readoutOf, stateIn, imageOf}
 use Rattle.readout.specs.Widths.{blockWidths, widths, wholeBytes, bytesIn}
 use Rattle.readout.proofs.Sizes.{device-size}
-use Rattle.readout.proofs.Widths.{At, at-replicate, widths-at, widths-length}
-
--- a bit of a cell is a bit of the number that the cells join to
-pub joined-bit : (ws cells : List ℕ) (k w before b : ℕ) → k < length ws → At ws k w before → b < w
-    → bitOf (join ws cells) (before + b) ≡ bitOf (getD cells k 0) b
-joined-bit ws cells k w before b h at hb =
-    let x = join ws cells in
-    let cell : x / 2 ^ before % 2 ^ w ≡ getD cells k 0 % 2 ^ w = rw (at .0, at .1) at (sym (cut-at ws x k h) ∙ cut-join ws cells k h) in
-    bit-high x before b ∙ sym (bit-low (x / 2 ^ before) w b hb) ∙ ap (λ (y : ℕ). bitOf y b) cell ∙ bit-low (getD cells k 0) w b hb
-
--- the state of a fuse is a bit of the image's number
-pub number-bit : (image : List ℕ) (fuse : ℕ) → fuse < length image * 8 → bitOf (number image) fuse ≡ state image fuse
-unfolding number state bitAt
-number-bit image fuse h =
-    let n = length image in
-    let e : fuse / 8 * 8 + fuse % 8 ≡ fuse = omega arith in
-    subst (λ (f : ℕ). bitOf (join (replicate n 8) image) f ≡ bitOf (getD image (fuse / 8) 0) (fuse % 8)) e
-    (joined-bit (replicate n 8) image (fuse / 8) 8 (fuse / 8 * 8) (fuse % 8) (rw (length-replicate {A = ℕ} n 8) (omega arith)) (at-replicate n 8 (fuse / 8) (omega arith)) (omega arith))
+use Rattle.readout.proofs.Widths.{widths-at, widths-length}
 
 -- a place of the byte at an index, and its fuse
 pub place-at : (d : Device) (index bit : ℕ) → index < readoutBytes d → bit < widthAt d index

@@ -17,7 +17,8 @@ use Rattle.cells.proofs.Laws.{cut-append, cut-low, cut-sets, cut-length, regrou
 use Rattle.part.specs.Device.{known, imageBytes, readoutBytes}
 use Rattle.part.specs.declared.Device.{Device}
 use Rattle.readout.proofs.Fields.{narrow, packed-at}
-use Rattle.readout.proofs.Sizes.{room, pairs-of-block, main-total, main-length, main-whole, device-size, device-whole}
+use Rattle.part.proofs.Facts.{room}
+use Rattle.readout.proofs.Sizes.{pairs-of-block, main-total, main-length, main-whole, device-size, device-whole}
 use Rattle.readout.specs.Widths.{rowWidths, pairWidths, blockWidths, widths, wholeBytes, bytesIn}
 
 -- what the code shifts is what it means

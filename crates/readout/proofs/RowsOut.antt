@@ -14,7 +14,8 @@ use Rattle.cells.proofs.Laws.{cut-sets, piece}
 use Rattle.part.specs.Device.{known, imageBytes, readoutBytes}
 use Rattle.part.specs.declared.Device.{Device}
 use Rattle.readout.specs.Widths.{rowWidths, pairWidths, blockWidths, widths, wholeBytes}
-use Rattle.readout.proofs.Sizes.{room, pairs-of-block, main-total, main-length, device-size, device-whole}
+use Rattle.part.proofs.Facts.{room}
+use Rattle.readout.proofs.Sizes.{pairs-of-block, main-total, main-length, device-size, device-whole}
 
 -- cells of a word of eight bytes, behind some bits of it, where they lie `past` bits behind a start
 from-bit : (image ws : List ℕ) (start past p skip w : ℕ) → p + 8 ≤ length image → skip + total ws ≤ 64 → p * 8 + skip ≡ start + past

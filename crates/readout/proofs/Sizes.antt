@@ -14,13 +14,6 @@ use Rattle.part.specs.declared.Device.{Device}
 use Rattle.part.proofs.Devices.{image-whole}
 use Rattle.readout.specs.Widths.{rowWidths, pairWidths, blockWidths, wholeBytes}
 
--- what one turn and the turns that are left take
-pub room : (left each here end : ℕ) → 0 < left → here + left * each ≤ end → (here + each ≤ end) × (here + each + (left - 1) * each ≤ end)
-room left each here end h g =
-    let more : left ≡ suc (left - 1) = omega arith in
-    let product : left * each ≡ (left - 1) * each + each = ap (λ (k : ℕ). k * each) more ∙ suc-mul (left - 1) each in
-    omega arith
-
 -- the fuses and the bytes of each kind of row
 pub main-size : (main : Bool) → main ≡ true → (total (rowWidths main) ≡ 108) × (length (rowWidths main) ≡ 15)
 unfolding total rowWidths

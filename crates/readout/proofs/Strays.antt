@@ -16,13 +16,13 @@ use borrow.Author.Tests.{eq-eqb, ne-eqb, eqb-true, eqb-false, lt-ltb, le-ltb, lt
 use lib.Bits.{bitAnd, and-block, and-high}
 use lib.Pow.{pow-pos, pow-sub-lt, shr-mod, split}
 use Rattle.cells.specs.Cells.{join, repeat}
-use Rattle.part.proofs.Facts.{compared}
+use Rattle.part.proofs.Facts.{compared, room}
 use Rattle.readout.specs.Readout.{widthAt, strayAt, lowest}
 use Rattle.readout.specs.Widths.{rowWidths, blockWidths, widths, fine, strayMask}
 use Rattle.cells.proofs.Laws.{length-repeat, join-append, join-few, total-replicate}
 use Rattle.part.specs.Device.{known, readoutBytes}
 use Rattle.part.specs.declared.Device.{Device}
-use Rattle.readout.proofs.Sizes.{room, main-size, device-size}
+use Rattle.readout.proofs.Sizes.{main-size, device-size}
 use Rattle.readout.proofs.Widths.{widths-at, widths-length}
 
 -- the two cases of a cell

@@ -16,12 +16,9 @@ use Rattle.part.specs.Place.{widthOf, firstFuse, byteOfIndex, byteInBlock}
 use Rattle.part.specs.declared.Device.{Device}
 use Rattle.part.specs.declared.BytePlace.{BytePlace}
 use Rattle.part.proofs.Facts.{compared, by-cases}
+use Rattle.image.proofs.Numbers.{At, at-replicate}
 use Rattle.readout.specs.Widths.{rowWidths, blockWidths, widths}
 use Rattle.readout.proofs.Sizes.{main-size, wire-and-size, block-size, device-size}
-
--- an index of a list of widths: the width there, and the bits before it
-abbrev pub At : List ℕ → (index width before : ℕ) → Type 0
-At ws index width before = (getD ws index 0 ≡ width) × (total (take index ws) ≡ before)
 
 at-left : (ws vs : List ℕ) (i w b : ℕ) → i < length ws → At ws i w b → At (ws ++ vs) i w b
 at-left ws vs i w b h a =
@@ -30,14 +27,6 @@ at-left ws vs i w b h a =
 at-right : (ws vs : List ℕ) (j w b : ℕ) → At vs j w b → At (ws ++ vs) (length ws + j) w (total ws + b)
 at-right ws vs j w b a =
     (getD-append-add ws vs j 0 ∙ a .0, ap total (take-append-add ws vs j) ∙ total-append ws (take j vs) ∙ ap (λ (x : ℕ). total ws + x) (a .1))
-
-pub at-replicate : (n a i : ℕ) → i < n → At (replicate n a) i a (i * a)
-unfolding total
-at-replicate zero a i h = absurd (not-suc-le-zero h)
-at-replicate (suc n) a zero h = (refl, sym (zero-mul a))
-at-replicate (suc n) a (suc i) h =
-    let r = at-replicate n a i (le-of-suc-le-suc h) in
-    (r .0, ap (λ (x : ℕ). a + x) (r .1) ∙ add-comm a (i * a) ∙ sym (suc-mul i a))
 
 at-repeat : (m : ℕ) (ws : List ℕ) (q r w b : ℕ) → q < m → r < length ws → At ws r w b
     → At (repeat m ws) (q * length ws + r) w (q * total ws + b)

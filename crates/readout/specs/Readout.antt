@@ -1,22 +1,18 @@
 -- Readout: one byte for each valid address, in ascending address order, value in the low bits, bits above the byte's width 0.
 -- The two passages between image and readout, refusals and target bytes included. Document 01, "Three pictures of one part".
 use Prim.Native.Nat.{ℕ, zero, suc, _^_}
-use mathlib.Core.Path.{_≡_}
 use mathlib.Core.Bool.{Bool, cond}
 use mathlib.Core.List.{List}
 use lib.Dec.{ltb, leb}
 use lib.ListN.{length, getD}
 use Rattle.part.specs.Outcome.{Outcome}
 use Rattle.part.specs.Outcome.Outcome.{accepted, refused}
-use Rattle.part.specs.Answer.{refusalNumber, refusalValue}
 use Rattle.part.specs.Device.{imageBytes, readoutBytes}
 use Rattle.part.specs.Place.{widthOf, fuseOfPlace, placeOfFuse, indexOfByte, byteOfIndex}
-use Rattle.part.specs.Convert.{ifKnown}
+use Rattle.part.specs.Convert.{ifKnown, ifLength}
 use Rattle.part.specs.declared.Device.{Device}
 use Rattle.image.specs.Bits.{bitAt, gathered, tabulate}
-use Rattle.image.specs.Image.{state, imageFrom, ifLength}
-use Rattle.readout.specs.declared.DoneAnswer.{DoneAnswer}
-use Rattle.readout.specs.declared.DoneAnswer.the-variants as answer
+use Rattle.image.specs.Image.{state, imageFrom}
 
 -- the width of the byte at an index, and the fuse of one of its bits
 abbrev pub widthAt : Device → ℕ → ℕ
@@ -69,18 +65,3 @@ toImage d readout target =
     (ifLength (length readout) (readoutBytes d)
     (ifLength (length target) (imageBytes d)
     (cond (ltb (firstStray d readout) (readoutBytes d)) (refused 6 (firstStray d readout)) (accepted tt))))
-
--- what a target holds after a call: the result where it is accepted, and else what it held
-abbrev pub written : {A : Type 0} → Outcome A → (result before : List ℕ) → List ℕ
-written (accepted x) result before = result
-written (refused number value) result before = before
-
--- what a call answers, and what its target then holds
-pub record Written {A : Type 0} (o answer : Outcome A) (result before after : List ℕ) : Type 0 where
-  pub answers : answer ≡ o
-  pub holds : after ≡ written o result before
-
--- what an answer without a result says
-abbrev pub doneOutcome : DoneAnswer → Outcome (Unit {0})
-doneOutcome answer.Done = accepted tt
-doneOutcome (answer.Refused r) = refused (refusalNumber r) (refusalValue r)

@@ -1,15 +1,13 @@
 // The passages between an image and a device readout.
 // The definitions stand in specs/Readout.antt.
-ghost use Rattle.readout.specs.Readout.{doneOutcome, Written, toReadout, readoutOf, toImage, imageOf};
+ghost use Rattle.part.specs.Answer.{doneOutcome};
+ghost use Rattle.part.specs.Outcome.{Written};
+ghost use Rattle.readout.specs.Readout.{toReadout, readoutOf, toImage, imageOf};
 use part::Device;
+use part::DoneAnswer;
 use part::Refusal;
 
 pub mod internal;
-
-pub enum DoneAnswer {
-    Done,
-    Refused(Refusal),
-}
 
 // The readout of an image, put into `readout`. Refused: 1, 2.
 pub fn image_to_readout(d: Device, image: &[u8], readout: &mut [u8]) -> DoneAnswer

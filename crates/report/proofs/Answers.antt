@@ -12,9 +12,9 @@ use lib.Dec.{eqb, ltb}
 use lib.ListN.{length, take, drop, length-append}
 use lib.Seq.{length-sets, length-take-le, take-at}
 use borrow.Author.Tests.{lt-ltb, le-ltb, ltb-false}
-use Rattle.part.specs.Outcome.{Outcome}
+use Rattle.part.specs.Outcome.{Outcome, Written}
 use Rattle.part.specs.Outcome.Outcome.{accepted, refused}
-use Rattle.part.specs.Answer.{refusalNumber, refusalValue, numberOutcome}
+use Rattle.part.specs.Answer.{refusalNumber, refusalValue, numberOutcome, doneOutcome}
 use Rattle.part.specs.Device.{known, blocksOf, fuseCount, imageBytes, decimalDigits}
 use Rattle.part.proofs.Devices.{digits-small}
 use Rattle.part.specs.declared.Device.{Device}
@@ -22,11 +22,10 @@ use Rattle.part.specs.declared.NumberAnswer.{NumberAnswer}
 use Rattle.part.specs.declared.NumberAnswer.the-variants as number-answer
 use Rattle.part.specs.declared.Refusal.{Refusal}
 use Rattle.image.specs.Image.{sum16, zerosBelow}
-use Rattle.image.proofs.Checks.{the-device, the-length}
-use Rattle.readout.specs.Readout.{doneOutcome, Written}
-use Rattle.readout.proofs.Targets.{says}
-use Rattle.readout.specs.declared.DoneAnswer.{DoneAnswer}
-use Rattle.readout.specs.declared.DoneAnswer.the-variants as answer
+use Rattle.part.proofs.Checks.{the-device, the-length}
+use Rattle.part.proofs.Targets.{says}
+use Rattle.part.specs.declared.DoneAnswer.{DoneAnswer}
+use Rattle.part.specs.declared.DoneAnswer.the-variants as answer
 use Rattle.jedec.specs.Characters.{lf, decimalDigit, hexDigit, countDigits, fourHex}
 use Rattle.jedec.specs.Cut.{pieces}
 use Rattle.jedec.specs.Meaning.{meaning}

@@ -10,7 +10,7 @@ ghost use lib.Seq.{sets};
 ghost use Rattle.part.specs.Answer.{numberOutcome};
 ghost use Rattle.part.specs.Device.{known, fuseCount, imageBytes};
 ghost use Rattle.image.specs.Image.{zerosBelow};
-ghost use Rattle.readout.specs.Readout.{Written};
+ghost use Rattle.part.specs.Outcome.{Written};
 ghost use Rattle.jedec.specs.Characters.{decimalDigit, digitsOf, countDigits, fourHex};
 ghost use Rattle.jedec.specs.Judge.{judge};
 ghost use Rattle.jedec.specs.Meaning.{meaning};
@@ -21,9 +21,9 @@ use jedec_fields::Digits;
 use jedec_fields::FieldSays;
 use jedec_fields::Next;
 use part::Device;
+use part::DoneAnswer;
 use part::NumberAnswer;
 use part::Refusal;
-use readout::DoneAnswer;
 
 // The part whose fuse count tells four blocks from two.
 const FOUR: Device = Device {

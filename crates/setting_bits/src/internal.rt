@@ -22,6 +22,17 @@ pub struct Spot {
     pub bit: u32,
 }
 
+// The exact length of an image or a readout.
+pub fn bytes_of(d: Device, readout: bool) -> usize
+    requires { ⌜ known d ≡ true ⌝ }
+    ensures { λ r. ⌜ r ≡ bytesOf d readout ⌝ }
+{
+    if readout {
+        return part::internal::readout_bytes(d) as usize;
+    }
+    part::internal::image_bytes(d) as usize
+}
+
 // Where the fuse at a place stands.
 pub fn spot_at(d: Device, readout: bool, place: Place) -> Spot
     requires { ⌜ (known d ≡ true) × (hasPlace d place ≡ true) ⌝ }

@@ -5,11 +5,12 @@ use mathlib.Core.List.{List}
 use Prim.Native.Nat.{ℕ}
 use native.Mathlib.Omega.{arith}
 use lib.ListN.{length}
-use Rattle.part.specs.Outcome.{Outcome}
+use Rattle.part.specs.Outcome.{Outcome, Written, written}
 use Rattle.part.specs.Outcome.Outcome.{accepted}
 use Rattle.part.specs.Device.{imageBytes}
 use Rattle.part.specs.declared.Device.{Device}
-use Rattle.readout.specs.Readout.{doneOutcome, Written, written, toReadout, readoutOf, toImage, imageOf}
+use Rattle.part.specs.Answer.{doneOutcome}
+use Rattle.readout.specs.Readout.{toReadout, readoutOf, toImage, imageOf}
 use Rattle.settings.specs.declared.Setting.{Setting}
 use Rattle.values.specs.declared.Value.{Value}
 use Rattle.setting_bits.specs.SettingBits.{inImage, inReadout}

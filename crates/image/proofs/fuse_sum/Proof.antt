@@ -4,7 +4,7 @@ use mathlib.Core.Path.{sym, _∙_, ap}
 use Rattle.part.specs.Outcome.Outcome.{accepted}
 use Rattle.part.proofs.Devices.{is-known, is-unknown}
 use Rattle.image.specs.Image.{fuseSum}
-use Rattle.image.proofs.Checks.{no-device, the-device, other-length, the-length}
+use Rattle.part.proofs.Checks.{no-device, the-device, other-length, the-length}
 use borrow.Author.Needs.{needs}
 use Rattle.image.proofs.fuse_sum.Statement.{statement}
 use Rattle.image.proofs.fuse_sum.Tie as tie

@@ -14,7 +14,7 @@ use Rattle.part.specs.declared.Device.{Device}
 use Rattle.part.proofs.Devices.{is-known, is-unknown, image-whole, fuses-small}
 use Rattle.image.specs.Bits.{onesIn}
 use Rattle.image.specs.Image.{zeroCount, zerosBelow}
-use Rattle.image.proofs.Checks.{no-device, the-device, other-length, the-length}
+use Rattle.part.proofs.Checks.{no-device, the-device, other-length, the-length}
 use Rattle.image.proofs.Counts.{onesIn-le, zeros-and-ones}
 use borrow.Author.Needs.{needs}
 use Rattle.image.proofs.zero_count.Statement.{statement}

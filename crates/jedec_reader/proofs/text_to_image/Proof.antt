@@ -7,14 +7,13 @@ use Prim.Native.Nat.{ℕ, _+_, _/_, _≤_}
 use native.Mathlib.Omega.{arith}
 use lib.ListN.{length, take}
 use lib.Seq.{length-take-le}
-use Rattle.part.specs.Outcome.{Outcome}
+use Rattle.part.specs.Outcome.{Outcome, written, Written}
 use Rattle.part.specs.Outcome.Outcome.{refused}
 use Rattle.part.specs.Device.{known, fuseCount, imageBytes}
 use Rattle.part.specs.declared.Device.{Device}
 use Rattle.part.proofs.Devices.{is-known, is-unknown, fuses-small}
-use Rattle.image.proofs.Checks.{no-device, the-device, other-length, the-length}
-use Rattle.readout.specs.Readout.{written, Written}
-use Rattle.readout.proofs.Targets.{says}
+use Rattle.part.proofs.Checks.{no-device, the-device, other-length, the-length}
+use Rattle.part.proofs.Targets.{says}
 use Rattle.jedec.specs.Meaning.{meaning}
 use Rattle.jedec_reader.specs.Reader.{verdict, toImageFromText, imageIn}
 use Rattle.jedec_reader.specs.Progress.{ReadInto}

@@ -9,15 +9,15 @@ use native.Mathlib.Omega.{arith}
 use lib.ListN.{length}
 use lib.Seq.{sets}
 use Rattle.cells.specs.Cells.{cut, number}
-use Rattle.part.specs.Outcome.{Outcome}
+use Rattle.part.specs.Outcome.{Outcome, written, Written}
 use Rattle.part.specs.Outcome.Outcome.{accepted, refused}
 use Rattle.part.specs.Device.{known, imageBytes, readoutBytes}
 use Rattle.part.specs.declared.Device.{Device}
 use Rattle.part.proofs.Devices.{is-known, is-unknown}
-use Rattle.readout.specs.Readout.{written, Written, toReadout, readoutOf}
+use Rattle.readout.specs.Readout.{toReadout, readoutOf}
 use Rattle.readout.specs.Widths.{widths}
 use Rattle.readout.proofs.Passages.{readout-cut, sets-whole, readout-length}
-use Rattle.readout.proofs.Targets.{unknown, wrong-first, wrong-second, right}
+use Rattle.part.proofs.Targets.{unknown, wrong-first, wrong-second, right}
 use borrow.Author.Needs.{needs}
 use Rattle.readout.proofs.image_to_readout.Statement.{statement}
 use Rattle.readout.proofs.image_to_readout.Tie as tie

@@ -10,16 +10,16 @@ use lib.Dec.{ltb}
 use lib.ListN.{length, drop}
 use lib.Seq.{sets}
 use borrow.Author.Tests.{lt-ltb, le-ltb}
-use Rattle.part.specs.Outcome.{Outcome}
+use Rattle.part.specs.Outcome.{Outcome, written, Written}
 use Rattle.part.specs.Outcome.Outcome.{accepted, refused}
 use Rattle.part.specs.Device.{known, imageBytes, readoutBytes}
 use Rattle.part.specs.declared.Device.{Device}
 use Rattle.part.proofs.Devices.{is-known, is-unknown}
-use Rattle.readout.specs.Readout.{written, Written, toImage, imageOf, firstStray}
+use Rattle.readout.specs.Readout.{toImage, imageOf, firstStray}
 use Rattle.readout.specs.Widths.{widths, bytesIn, fine}
 use Rattle.readout.proofs.Passages.{image-bytes-in, image-length, sets-whole}
 use Rattle.readout.proofs.Strays.{first-stray}
-use Rattle.readout.proofs.Targets.{unknown, wrong-first, wrong-second, right}
+use Rattle.part.proofs.Targets.{unknown, wrong-first, wrong-second, right}
 use borrow.Author.Needs.{needs}
 use Rattle.readout.proofs.readout_to_image.Statement.{statement}
 use Rattle.readout.proofs.readout_to_image.Tie as tie

@@ -13,7 +13,7 @@ use Rattle.part.specs.declared.NumberAnswer.{NumberAnswer}
 use Rattle.part.specs.declared.NumberAnswer.the-variants as answer
 use Rattle.part.specs.declared.Refusal.{Refusal}
 use Rattle.image.specs.Image.{zerosBelow, zeroCount}
-use Rattle.image.proofs.Checks.{the-device, the-length}
+use Rattle.part.proofs.Checks.{the-device, the-length}
 use borrow.Author.Needs.{needs}
 use Rattle.report.proofs.zeros_in.Statement.{statement}
 use Rattle.report.proofs.zeros_in.Tie as tie

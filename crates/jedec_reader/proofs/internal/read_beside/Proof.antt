@@ -5,11 +5,10 @@ use mathlib.Core.List.{List}
 use Prim.Native.Nat.{ℕ}
 use Rattle.part.specs.Outcome.{Outcome}
 use Rattle.part.specs.Outcome.Outcome.{accepted, refused}
-use Rattle.part.specs.Answer.{refusalNumber, refusalValue}
+use Rattle.part.specs.Answer.{refusalNumber, refusalValue, doneOutcome}
 use Rattle.part.specs.declared.Refusal.{Refusal}
-use Rattle.readout.specs.Readout.{doneOutcome}
-use Rattle.readout.specs.declared.DoneAnswer.{DoneAnswer}
-use Rattle.readout.specs.declared.DoneAnswer.the-variants as answer
+use Rattle.part.specs.declared.DoneAnswer.{DoneAnswer}
+use Rattle.part.specs.declared.DoneAnswer.the-variants as answer
 use Rattle.jedec_reader.specs.Progress.{TextRead, ReadInto}
 use borrow.Author.Needs.{needs}
 use Rattle.jedec_reader.proofs.internal.read_beside.Statement.{statement}

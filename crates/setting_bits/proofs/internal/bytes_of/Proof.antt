@@ -1,8 +1,8 @@
 -- `bytes_of` meets its contract: by what the bytes are.
 -- Assumes nothing.
 use borrow.Author.Needs.{needs}
-use Rattle.edit.proofs.internal.bytes_of.Statement.{statement}
-use Rattle.edit.proofs.internal.bytes_of.Tie as tie
+use Rattle.setting_bits.proofs.internal.bytes_of.Statement.{statement}
+use Rattle.setting_bits.proofs.internal.bytes_of.Tie as tie
 
 readout-bytes-requires : tie.Need-readout-bytes-requires
 readout-bytes-requires c κs = search needs

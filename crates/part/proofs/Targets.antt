@@ -4,14 +4,12 @@ use mathlib.Core.Path.{_≡_, sym, _∙_, ap}
 use mathlib.Core.Bool.{true, false}
 use mathlib.Core.List.{List}
 use Prim.Native.Nat.{ℕ}
-use Rattle.part.specs.Outcome.{Outcome}
+use Rattle.part.specs.Outcome.{Outcome, written, Written}
 use Rattle.part.specs.Outcome.Outcome.{refused}
 use Rattle.part.specs.Device.{known}
-use Rattle.part.specs.Convert.{ifKnown}
+use Rattle.part.specs.Convert.{ifKnown, ifLength}
 use Rattle.part.specs.declared.Device.{Device}
-use Rattle.image.specs.Image.{ifLength}
-use Rattle.image.proofs.Checks.{no-device, the-device, other-length, the-length}
-use Rattle.readout.specs.Readout.{written, Written}
+use Rattle.part.proofs.Checks.{no-device, the-device, other-length, the-length}
 
 -- an outcome after the tests of a device and of two lengths
 abbrev pub tested : {A : Type 0} → Device → (l x m y : ℕ) → Outcome A → Outcome A

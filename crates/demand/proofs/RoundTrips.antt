@@ -1,6 +1,5 @@
--- Laws of text to image:
---   text-again   for every known device and every image of it, reading what the writer wrote is accepted and gives that image; stated of the
---                definitions that the contracts of `image_to_text` and `text_to_image` cite
+-- Text and image turn into each other without loss, stated of the definitions that the contracts of `image_to_text` and `text_to_image` cite.
+-- It stands here, where reader and writer may both be named.
 use mathlib.Core.Path.{_≡_}
 use mathlib.Core.Bool.{true}
 use mathlib.Core.List.{List}

@@ -4,12 +4,11 @@ use mathlib.Core.Path.{_≡_, sym, _∙_}
 use mathlib.Core.Bool.{true, false}
 use Prim.Native.Nat.{ℕ}
 use borrow.Author.Tests.{eq-eqb, ne-eqb}
 use Rattle.part.specs.Outcome.{Outcome}
 use Rattle.part.specs.Outcome.Outcome.{refused}
 use Rattle.part.specs.Device.{known}
-use Rattle.part.specs.Convert.{ifKnown}
+use Rattle.part.specs.Convert.{ifKnown, ifLength}
 use Rattle.part.specs.declared.Device.{Device}
-use Rattle.image.specs.Image.{ifLength}
 
 module _ {A : Type 0} (d : Device) (o : Outcome A) where
   pub no-device : known d ≡ false → refused 1 0 ≡ ifKnown d o
