@@ -33,7 +33,9 @@ use Rattle.setting_places.specs.Places.{bitsOf, fuseOf}
 use Rattle.setting_places.specs.Back.{settingAt}
 use Rattle.setting_places.specs.Operations.{fuseOfBit, settingAtFuse}
 use Rattle.setting_places.proofs.Laws.{sound}
-use Rattle.setting_bits.specs.SettingBits.{inReadout, bytesOf, stateOf, patternAt}
+use Rattle.setting_bits.specs.declared.Layout.{Layout}
+use Rattle.setting_bits.specs.declared.Layout.the-variants.{Readout}
+use Rattle.setting_bits.specs.SettingBits.{bytesOf, stateOf, patternAt}
 use Rattle.setting_bits.proofs.Steps.{bytes-between, bits-few, state-small}
 use Rattle.setting_bits.proofs.Edits.{fuse-below}
 use Rattle.jedec.specs.Meaning.{meaning}
@@ -110,7 +112,7 @@ module _ (d : Device) where
       (λ e.
       chosen (WordFits noResult) (eqb (length target) (imageBytes d)) (omega arith, omega arith)
       (λ f.
-      by-cases (WordFits noResult) (firstStray d readout) (readoutBytes d) (λ l. (omega arith, omega (arith, bytes-between d inReadout k))) (λ g. omega arith))))
+      by-cases (WordFits noResult) (firstStray d readout) (readoutBytes d) (λ l. (omega arith, omega (arith, bytes-between d Readout k))) (λ g. omega arith))))
 
   text-small : known d ≡ true → textBytes d < 2 ^ 56
   text-small k = omega (arith, text-few d k)
@@ -167,34 +169,34 @@ module _ (d : Device) where
       (λ k. by-cases (WordFitsOrNone (settingAndBit d)) fuse (fuseCount d) (λ l. named k fuse (settingAt d fuse) refl) (λ g. (omega arith, omega arith)))
 
   -- by number: refusals 1, 2, 4, and then 6 with an index below the length
-  module _ (form : Bool) (bytes : List ℕ) (setting : ℕ) where
-    pattern-small : setting < countOf d → patternAt d form bytes (settingOf d setting) < 2 ^ 56
+  module _ (layout : Layout) (bytes : List ℕ) (setting : ℕ) where
+    pattern-small : setting < countOf d → patternAt d layout bytes (settingOf d setting) < 2 ^ 56
     unfolding patternAt
     pattern-small l =
         let s = settingOf d setting in
-        lt-of-lt-of-le (gathered-small (λ b. stateOf d form bytes (fuseOf d s b)) (λ b. state-small d form bytes (fuseOf d s b)) (bitsOf s)) (pow-mono {j = 56} (omega (arith, bits-few d s (number-again d setting l .0))))
+        lt-of-lt-of-le (gathered-small (λ b. stateOf d layout bytes (fuseOf d s b)) (λ b. state-small d layout bytes (fuseOf d s b)) (bitsOf s)) (pow-mono {j = 56} (omega (arith, bits-few d s (number-again d setting l .0))))
 
-    if-clean : {A : Type 0} (result : A → ℕ) (answer : Outcome A) → known d ≡ true → WordFits result answer → WordFits result (ifClean d form bytes (settingOf d setting) answer)
+    if-clean : {A : Type 0} (result : A → ℕ) (answer : Outcome A) → known d ≡ true → WordFits result answer → WordFits result (ifClean d layout bytes (settingOf d setting) answer)
     if-clean result answer k fits =
-        by-cases (WordFits result) (strayIn d form bytes (settingOf d setting)) (bytesOf d form) (λ l. (omega arith, omega (arith, bytes-between d form k))) (λ g. fits)
+        by-cases (WordFits result) (strayIn d layout bytes (settingOf d setting)) (bytesOf d layout) (λ l. (omega arith, omega (arith, bytes-between d layout k))) (λ g. fits)
 
-    read : WordFits itself (readPattern d form bytes setting)
+    read : WordFits itself (readPattern d layout bytes setting)
     unfolding readPattern
     read =
         chosen (WordFits itself) (known d) (omega arith, omega arith)
         (λ k.
-        chosen (WordFits itself) (eqb (length bytes) (bytesOf d form)) (omega arith, omega arith)
+        chosen (WordFits itself) (eqb (length bytes) (bytesOf d layout)) (omega arith, omega arith)
         (λ e.
         by-cases (WordFits itself) setting (countOf d)
-        (λ l. if-clean itself (accepted (patternAt d form bytes (settingOf d setting))) k (pattern-small l))
+        (λ l. if-clean itself (accepted (patternAt d layout bytes (settingOf d setting))) k (pattern-small l))
         (λ g. (omega arith, omega arith))))
 
-    set : (pattern : ℕ) → WordFits noResult (setPattern d form bytes setting pattern)
+    set : (pattern : ℕ) → WordFits noResult (setPattern d layout bytes setting pattern)
     unfolding setPattern
     set pattern =
         chosen (WordFits noResult) (known d) (omega arith, omega arith)
         (λ k.
-        chosen (WordFits noResult) (eqb (length bytes) (bytesOf d form)) (omega arith, omega arith)
+        chosen (WordFits noResult) (eqb (length bytes) (bytesOf d layout)) (omega arith, omega arith)
         (λ e.
         by-cases (WordFits noResult) setting (countOf d)
         (λ l. by-cases (WordFits noResult) pattern (2 ^ bitsOf (settingOf d setting)) (λ m. if-clean noResult (accepted tt) k (omega arith)) (λ g. (omega arith, omega arith)))

@@ -13,6 +13,7 @@ use Rattle.jedec_writer.specs.Pattern.{toText}
 use Rattle.jedec_reader.specs.Reader.{toImageFromText}
 use Rattle.edit_by_number.specs.ByNumber.{readPattern, setPattern}
 use Rattle.capi.specs.Packed.{addressAndBit, itself, noResult, settingAndBit, through, WordFits, WordFitsOrNone}
+use Rattle.setting_bits.specs.declared.Layout.{Layout}
 
 pub record EachFits : Type 0 where
   pub address-of-fuse : (d : Device) (fuse : ℕ) → WordFits addressAndBit (addressOfFuse d fuse)
@@ -26,5 +27,5 @@ pub record EachFits : Type 0 where
   pub setting-count : (d : Device) → WordFits itself (countOfSettings d)
   pub setting-fuse : (d : Device) (setting bit : ℕ) → WordFitsOrNone itself (through (settingOfNumber d setting) (λ s. fuseOfBit d s bit))
   pub setting-at-fuse : (d : Device) (fuse : ℕ) → WordFitsOrNone (settingAndBit d) (settingAtFuse d fuse)
-  pub read : (d : Device) (form : Bool) (bytes : List ℕ) (setting : ℕ) → WordFits itself (readPattern d form bytes setting)
-  pub set : (d : Device) (form : Bool) (bytes : List ℕ) (setting pattern : ℕ) → WordFits noResult (setPattern d form bytes setting pattern)
+  pub read : (d : Device) (layout : Layout) (bytes : List ℕ) (setting : ℕ) → WordFits itself (readPattern d layout bytes setting)
+  pub set : (d : Device) (layout : Layout) (bytes : List ℕ) (setting pattern : ℕ) → WordFits noResult (setPattern d layout bytes setting pattern)

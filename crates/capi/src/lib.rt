@@ -12,7 +12,7 @@ ghost use Rattle.setting_places.specs.Answer.{bitOutcome};
 ghost use Rattle.setting_places.specs.Operations.{fuseOfBit, settingAtFuse};
 ghost use Rattle.jedec_writer.specs.Pattern.{toText, withText};
 ghost use Rattle.jedec_reader.specs.Reader.{toImageFromText, imageIn};
-ghost use Rattle.setting_bits.specs.SettingBits.{inImage, inReadout};
+ghost use Rattle.setting_bits.specs.declared.Layout.the-variants.{Image, Readout};
 ghost use Rattle.edit_by_number.specs.ByNumber.{readPattern, setPattern, withNumbered};
 ghost use Rattle.capi.specs.Packed.{packed, refusalWord, device, addressAndBit, itself, noResult, orNone, settingAndBit, through};
 use part::AddressAnswer;
@@ -215,7 +215,7 @@ pub extern "C" fn xc9500_setting_at_fuse(blocks: u32, class: u32, fuse: u32) -> 
 // The pattern of a setting in an image, by setting number.
 #[no_mangle]
 pub extern "C" fn xc9500_read_in_image(blocks: u32, class: u32, image: &[u8], setting: u32) -> u64
-    ensures { λ w. ⌜ w ≡ packed itself (readPattern (device blocks class) inImage (now (image .entry)) setting) ⌝ }
+    ensures { λ w. ⌜ w ≡ packed itself (readPattern (device blocks class) Image (now (image .entry)) setting) ⌝ }
 {
     number_word(edit_by_number::read_pattern_in_image(
         Device { blocks, class },
@@ -233,8 +233,8 @@ pub extern "C" fn xc9500_set_in_image(
     setting: u32,
     pattern: u32,
 ) -> u64
-    ensures { λ w. ⌜ w ≡ packed noResult (setPattern (device blocks class) inImage (now (image .entry)) setting pattern) ⌝ }
-    ensures { λ _. ⌜ now (image .exit) ≡ written (setPattern (device blocks class) inImage (now (image .entry)) setting pattern) (withNumbered (device blocks class) inImage (now (image .entry)) setting pattern) (now (image .entry)) ⌝ }
+    ensures { λ w. ⌜ w ≡ packed noResult (setPattern (device blocks class) Image (now (image .entry)) setting pattern) ⌝ }
+    ensures { λ _. ⌜ now (image .exit) ≡ written (setPattern (device blocks class) Image (now (image .entry)) setting pattern) (withNumbered (device blocks class) Image (now (image .entry)) setting pattern) (now (image .entry)) ⌝ }
 {
     let d = Device { blocks, class };
     done_word(edit_by_number::set_pattern_in_image(d, image, SettingNumber(setting), pattern))
@@ -248,7 +248,7 @@ pub extern "C" fn xc9500_read_in_readout(
     readout: &[u8],
     setting: u32,
 ) -> u64
-    ensures { λ w. ⌜ w ≡ packed itself (readPattern (device blocks class) inReadout (now (readout .entry)) setting) ⌝ }
+    ensures { λ w. ⌜ w ≡ packed itself (readPattern (device blocks class) Readout (now (readout .entry)) setting) ⌝ }
 {
     number_word(edit_by_number::read_pattern_in_readout(
         Device { blocks, class },
@@ -266,8 +266,8 @@ pub extern "C" fn xc9500_set_in_readout(
     setting: u32,
     pattern: u32,
 ) -> u64
-    ensures { λ w. ⌜ w ≡ packed noResult (setPattern (device blocks class) inReadout (now (readout .entry)) setting pattern) ⌝ }
-    ensures { λ _. ⌜ now (readout .exit) ≡ written (setPattern (device blocks class) inReadout (now (readout .entry)) setting pattern) (withNumbered (device blocks class) inReadout (now (readout .entry)) setting pattern) (now (readout .entry)) ⌝ }
+    ensures { λ w. ⌜ w ≡ packed noResult (setPattern (device blocks class) Readout (now (readout .entry)) setting pattern) ⌝ }
+    ensures { λ _. ⌜ now (readout .exit) ≡ written (setPattern (device blocks class) Readout (now (readout .entry)) setting pattern) (withNumbered (device blocks class) Readout (now (readout .entry)) setting pattern) (now (readout .entry)) ⌝ }
 {
     let d = Device { blocks, class };
     done_word(edit_by_number::set_pattern_in_readout(d, readout, SettingNumber(setting), pattern))

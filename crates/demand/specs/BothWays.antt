@@ -12,7 +12,7 @@ use Rattle.readout.specs.Readout.{toReadout, readoutOf, toImage, imageOf}
 use Rattle.settings.specs.declared.Setting.{Setting}
 use Rattle.values.specs.declared.Value.{Value}
 use Rattle.setting_values.specs.Operations.{valueOutcome}
-use Rattle.setting_bits.specs.SettingBits.{inImage, inReadout}
+use Rattle.setting_bits.specs.declared.Layout.the-variants.{Image, Readout}
 use Rattle.edit.specs.Edit.{readIn, setIn, withValue}
 use Rattle.edit.specs.Demand.{Taken, Calls, DemandByName, Made}
 use Rattle.demand.specs.declared.BothRead.{BothRead}
@@ -22,8 +22,8 @@ use Rattle.demand.specs.declared.BothAnswer.{BothAnswer}
 
 -- What the steps of `both_ways` give: a setting read in an image and in a readout ..
 pub record ReadInBoth (d : Device) (image readout : List ℕ) (s : Setting) (r : BothRead) : Type 0 where
-  pub in-image : valueOutcome (r .image) ≡ readIn d inImage image s
-  pub in-readout : valueOutcome (r .readout) ≡ readIn d inReadout readout s
+  pub in-image : valueOutcome (r .image) ≡ readIn d Image image s
+  pub in-readout : valueOutcome (r .readout) ≡ readIn d Readout readout s
 
 -- .. an image converted, the readout copied to a slice of its length, and a setting read in both ..
 pub record Begun (d : Device) (image readout readout' kept kept' : List ℕ) (t : Setting) (r : BeforeAnswer) : Type 0 where
@@ -33,8 +33,8 @@ pub record Begun (d : Device) (image readout readout' kept kept' : List ℕ) (t 
 
 -- .. a setting set in both ..
 pub record SetInBoth (d : Device) (image image' readout readout' : List ℕ) (s : Setting) (v : Value) (r : BothDone) : Type 0 where
-  pub in-image : Written (setIn d inImage image s v) (doneOutcome (r .image)) (withValue d inImage image s v) image image'
-  pub in-readout : Written (setIn d inReadout readout s v) (doneOutcome (r .readout)) (withValue d inReadout readout s v) readout readout'
+  pub in-image : Written (setIn d Image image s v) (doneOutcome (r .image)) (withValue d Image image s v) image image'
+  pub in-readout : Written (setIn d Readout readout s v) (doneOutcome (r .readout)) (withValue d Readout readout s v) readout readout'
 
 -- .. and both converted
 pub record BothConverted (d : Device) (image readout its-readout its-readout' its-image its-image' : List ℕ) (r : BothDone) : Type 0 where

@@ -14,7 +14,7 @@ use Rattle.settings.specs.declared.Setting.{Setting}
 use Rattle.settings.specs.declared.Setting.the-variants.{Literal, Macrocell}
 use Rattle.values.specs.declared.OeMux.the-variants as oeMux
 use Rattle.values.specs.declared.Value.the-variants as value
-use Rattle.setting_bits.specs.SettingBits.{inImage, inReadout}
+use Rattle.setting_bits.specs.declared.Layout.the-variants.{Image, Readout}
 use Rattle.edit.specs.Edit.{readIn, setIn, withValue}
 
 abbrev pub image : List ℕ
@@ -24,13 +24,13 @@ abbrev pub oeMuxOf0 : Setting
 oeMuxOf0 = Macrocell 0 0 OeMux
 
 abbrev pub changed : List ℕ
-changed = withValue twoSmall inImage image oeMuxOf0 (value.OeMux oeMux.Foe2)
+changed = withValue twoSmall Image image oeMuxOf0 (value.OeMux oeMux.Foe2)
 
 -- it reads PT; set to FOE2 it clears 3138 and 3246 and keeps 3354
 abbrev pub OeMuxCase : Type 0
 OeMuxCase =
-    (readIn twoSmall inImage image oeMuxOf0 ≡ accepted (value.OeMux oeMux.Pt))
-    × (setIn twoSmall inImage image oeMuxOf0 (value.OeMux oeMux.Foe2) ≡ accepted tt)
+    (readIn twoSmall Image image oeMuxOf0 ≡ accepted (value.OeMux oeMux.Pt))
+    × (setIn twoSmall Image image oeMuxOf0 (value.OeMux oeMux.Foe2) ≡ accepted tt)
     × (state changed 3138 ≡ 0)
     × (state changed 3246 ≡ 0)
     × (state changed 3354 ≡ 1)
@@ -48,9 +48,9 @@ inNarrowByte = Literal 0 2 0 0 P
 -- the lowest of 1, 2, 4, 5 and 6; a setting in bytes of 8 bits is set, whatever the other bytes hold
 abbrev pub Order : Type 0
 Order =
-    (setIn (record { blocks = 3; class = 0 }) inReadout image noSetting (value.OeMux oeMux.Pt) ≡ refused 1 0)
-    × (setIn twoSmall inReadout image noSetting (value.OeMux oeMux.Pt) ≡ refused 2 0)
-    × (setIn twoSmall inReadout readout noSetting (value.OeMux oeMux.Pt) ≡ refused 4 0)
-    × (setIn twoSmall inReadout readout inNarrowByte (value.OeMux oeMux.Pt) ≡ refused 5 0)
-    × (setIn twoSmall inReadout readout inNarrowByte (value.Flag true) ≡ refused 6 25)
-    × (setIn twoSmall inReadout readout oeMuxOf0 (value.OeMux oeMux.Foe2) ≡ accepted tt)
+    (setIn (record { blocks = 3; class = 0 }) Readout image noSetting (value.OeMux oeMux.Pt) ≡ refused 1 0)
+    × (setIn twoSmall Readout image noSetting (value.OeMux oeMux.Pt) ≡ refused 2 0)
+    × (setIn twoSmall Readout readout noSetting (value.OeMux oeMux.Pt) ≡ refused 4 0)
+    × (setIn twoSmall Readout readout inNarrowByte (value.OeMux oeMux.Pt) ≡ refused 5 0)
+    × (setIn twoSmall Readout readout inNarrowByte (value.Flag true) ≡ refused 6 25)
+    × (setIn twoSmall Readout readout oeMuxOf0 (value.OeMux oeMux.Foe2) ≡ accepted tt)

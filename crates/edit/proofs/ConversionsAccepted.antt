@@ -13,7 +13,7 @@ use Rattle.readout.specs.Readout.{toReadout, readoutOf, toImage, imageOf}
 use Rattle.readout.proofs.Laws.{readout-accepted, accepted-iff, Within}
 use Rattle.settings.specs.declared.Setting.{Setting}
 use Rattle.values.specs.declared.Value.{Value}
-use Rattle.setting_bits.specs.SettingBits.{inImage, inReadout}
+use Rattle.setting_bits.specs.declared.Layout.the-variants.{Image, Readout}
 use Rattle.edit.specs.Edit.{withValue}
 use Rattle.edit.specs.Demand.{Taken}
 use Rattle.edit.proofs.NotRefused.{its-length}
@@ -35,12 +35,12 @@ passes-back d image readout target k same size =
 
 module _ (d : Device) (image : List ℕ) (s : Setting) (v : Value) (pattern : ℕ) (taken : Taken d image s v pattern) where
   pub conversions-accepted : (toReadout d image (readoutOf d image) ≡ accepted tt)
-      × (toReadout d (withValue d inImage image s v) (readoutOf d (withValue d inImage image s v)) ≡ accepted tt)
-      × (toImage d (withValue d inReadout (readoutOf d image) s v) (imageOf d (withValue d inReadout (readoutOf d image) s v)) ≡ accepted tt)
+      × (toReadout d (withValue d Image image s v) (readoutOf d (withValue d Image image s v)) ≡ accepted tt)
+      × (toImage d (withValue d Readout (readoutOf d image) s v) (imageOf d (withValue d Readout (readoutOf d image) s v)) ≡ accepted tt)
   conversions-accepted =
       let after = changed d image s v pattern taken in (
         passes d image (readoutOf d image) (taken .device) (taken .size) (its-length d image),
-        passes d (withValue d inImage image s v) _ (taken .device) (after .size) (its-length d _),
-        passes-back d (withValue d inImage image s v) _ _ (taken .device) (same-readout d image s v pattern taken)
+        passes d (withValue d Image image s v) _ (taken .device) (after .size) (its-length d _),
+        passes-back d (withValue d Image image s v) _ _ (taken .device) (same-readout d image s v pattern taken)
             (ap length (same-image d image s v pattern taken) ∙ after .size),
       )

@@ -8,7 +8,7 @@ use Rattle.part.specs.declared.Device.{Device}
 use Rattle.readout.specs.Readout.{toReadout, readoutOf, toImage, imageOf}
 use Rattle.settings.specs.declared.Setting.{Setting}
 use Rattle.values.specs.declared.Value.{Value}
-use Rattle.setting_bits.specs.SettingBits.{inImage, inReadout}
+use Rattle.setting_bits.specs.declared.Layout.the-variants.{Image, Readout}
 use Rattle.edit.specs.Edit.{withValue, readIn, setIn}
 use Rattle.edit.specs.Demand.{Taken, Calls, callsByName, DemandByName, Made}
 use Rattle.edit.proofs.NotRefused.{not-refused}
@@ -63,16 +63,16 @@ module _ (d : Device) (image : List ℕ) (s : Setting) (v : Value) (t : Setting)
   before : c .readout-before ≡ readoutOf d image
   before = made .conversion .1
 
-  image-after : c .image ≡ withValue d inImage image s v
+  image-after : c .image ≡ withValue d Image image s v
   image-after = made .changes .0
 
-  readout-after : c .readout ≡ withValue d inReadout (readoutOf d image) s v
+  readout-after : c .readout ≡ withValue d Readout (readoutOf d image) s v
   readout-after = made .changes .1 ∙ rw before
 
-  its-readout : c .its-readout ≡ readoutOf d (withValue d inImage image s v)
+  its-readout : c .its-readout ≡ readoutOf d (withValue d Image image s v)
   its-readout = made .image-converted .1 ∙ rw image-after
 
-  its-image : c .its-image ≡ imageOf d (withValue d inReadout (readoutOf d image) s v)
+  its-image : c .its-image ≡ imageOf d (withValue d Readout (readoutOf d image) s v)
   its-image = made .readout-converted .1 ∙ rw readout-after
 
   same-calls : c ≡ callsByName d image s v t

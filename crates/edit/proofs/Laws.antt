@@ -23,7 +23,9 @@ use Rattle.setting_places.specs.Places.{bitsOf, fuseOf}
 use Rattle.values.specs.Patterns.{patternIn}
 use Rattle.values.specs.declared.Value.{Value}
 use Rattle.setting_values.specs.Kinds.{kindOf}
-use Rattle.setting_bits.specs.SettingBits.{inImage, inReadout, bytesOf, byteOf, bitIn, withPattern}
+use Rattle.setting_bits.specs.declared.Layout.{Layout}
+use Rattle.setting_bits.specs.declared.Layout.the-variants.{Image, Readout}
+use Rattle.setting_bits.specs.SettingBits.{bytesOf, byteOf, bitIn, withPattern}
 use Rattle.setting_bits.proofs.Edits.{set-length, set-others, set-reads, set-clean, clean-through}
 use Rattle.edit.specs.Edit.{withValue, readIn}
 use Rattle.edit.proofs.NotRefused.{Clean}
@@ -33,27 +35,27 @@ pub use Rattle.edit.proofs.NotRefused.{value-iff}
 pub use Rattle.edit.proofs.Demand.{holds, of-calls}
 
 module _ (d : Device) (k : known d ≡ true) (s : Setting) (h : hasSetting d s ≡ true) (v : Value) (pattern : ℕ) (p : patternIn (kindOf d s) v ≡ some pattern) where
-  reads-set : (form : Bool) (bytes : List ℕ) → length bytes ≡ bytesOf d form → Clean d form (withPattern d form bytes s pattern) s
-      → readIn d form (withValue d form bytes s v) s ≡ accepted v
+  reads-set : (layout : Layout) (bytes : List ℕ) → length bytes ≡ bytesOf d layout → Clean d layout (withPattern d layout bytes s pattern) s
+      → readIn d layout (withValue d layout bytes s v) s ≡ accepted v
   unfolding withValue
-  reads-set form bytes e clean =
+  reads-set layout bytes e clean =
       rw p
-      (reads d form (withPattern d form bytes s pattern) s pattern v k (set-length d k form bytes e s h pattern ∙ e) h clean
-      (set-reads d k form bytes e s h pattern (value-iff d s v pattern h .0 p .0)) (value-iff d s v pattern h .0 p .1))
+      (reads d layout (withPattern d layout bytes s pattern) s pattern v k (set-length d k layout bytes e s h pattern ∙ e) h clean
+      (set-reads d k layout bytes e s h pattern (value-iff d s v pattern h .0 p .0)) (value-iff d s v pattern h .0 p .1))
 
-  pub read-after-set-image : (image : List ℕ) → length image ≡ imageBytes d → readIn d inImage (withValue d inImage image s v) s ≡ accepted v
-  read-after-set-image image e = reads-set inImage image e (image-clean d _ _)
+  pub read-after-set-image : (image : List ℕ) → length image ≡ imageBytes d → readIn d Image (withValue d Image image s v) s ≡ accepted v
+  read-after-set-image image e = reads-set Image image e (image-clean d _ _)
 
   -- in a readout whose bytes that hold the setting have no bit above their width; its other bytes may hold anything
   pub read-after-set : (readout : List ℕ) → length readout ≡ readoutBytes d
-      → ((b : ℕ) → b < bitsOf s → getD readout (byteOf d inReadout (fuseOf d s b)) 0 < 2 ^ widthAt d (byteOf d inReadout (fuseOf d s b)))
-      → readIn d inReadout (withValue d inReadout readout s v) s ≡ accepted v
+      → ((b : ℕ) → b < bitsOf s → getD readout (byteOf d Readout (fuseOf d s b)) 0 < 2 ^ widthAt d (byteOf d Readout (fuseOf d s b)))
+      → readIn d Readout (withValue d Readout readout s v) s ≡ accepted v
   read-after-set readout e clean =
-      reads-set inReadout readout e
-      (readout-clean d _ _ (clean-through d (withPattern d inReadout readout s pattern) s (bitsOf s) (λ b l. set-clean d k readout e s h pattern (byteOf d inReadout (fuseOf d s b)) (clean b l))))
+      reads-set Readout readout e
+      (readout-clean d _ _ (clean-through d (withPattern d Readout readout s pattern) s (bitsOf s) (λ b l. set-clean d k readout e s h pattern (byteOf d Readout (fuseOf d s b)) (clean b l))))
 
-  pub other-bits : (form : Bool) (bytes : List ℕ) → length bytes ≡ bytesOf d form → (i j : ℕ)
-      → ((b : ℕ) → b < bitsOf s → (i ≡ byteOf d form (fuseOf d s b)) × (j ≡ bitIn d form (fuseOf d s b)) → ⊥)
-      → bitAt (withValue d form bytes s v) i j ≡ bitAt bytes i j
+  pub other-bits : (layout : Layout) (bytes : List ℕ) → length bytes ≡ bytesOf d layout → (i j : ℕ)
+      → ((b : ℕ) → b < bitsOf s → (i ≡ byteOf d layout (fuseOf d s b)) × (j ≡ bitIn d layout (fuseOf d s b)) → ⊥)
+      → bitAt (withValue d layout bytes s v) i j ≡ bitAt bytes i j
   unfolding withValue
-  other-bits form bytes e i j apart = rw p (set-others d k form bytes e s h pattern i j apart)
+  other-bits layout bytes e i j apart = rw p (set-others d k layout bytes e s h pattern i j apart)

@@ -22,7 +22,9 @@ use Rattle.values.specs.declared.Value.{Value}
 use Rattle.values.proofs.Laws as values
 use Rattle.setting_values.specs.Kinds.{kindOf, valueOf}
 use Rattle.setting_values.proofs.Widths.{kind-bits}
-use Rattle.setting_bits.specs.SettingBits.{inImage, inReadout, bytesOf, byteOf, strayAmong}
+use Rattle.setting_bits.specs.declared.Layout.{Layout}
+use Rattle.setting_bits.specs.declared.Layout.the-variants.{Image, Readout}
+use Rattle.setting_bits.specs.SettingBits.{bytesOf, byteOf, strayAmong}
 use Rattle.setting_bits.proofs.Edits.{inside, fuse-below, clean-through}
 use Rattle.edit.specs.Edit.{strayIn, setIn}
 use Rattle.edit.specs.Demand.{Taken}
@@ -36,15 +38,15 @@ pub its-pattern : {d : Device} {image : List ℕ} {s : Setting} {v : Value} {pat
 its-pattern {d} {image} {s} {v} {pattern} taken = value-iff d s v pattern (taken .setting) .1 (taken .fits, taken .value)
 
 -- no byte that holds the setting has a bit above its width
-abbrev pub Clean : Device → Bool → List ℕ → Setting → Type 0
-Clean d form bytes t = strayIn d form bytes t ≡ bytesOf d form
+abbrev pub Clean : Device → Layout → List ℕ → Setting → Type 0
+Clean d layout bytes t = strayIn d layout bytes t ≡ bytesOf d layout
 
 -- setting is not refused where the device, the length, the setting and the value are right and no byte has such a bit
-sets : (d : Device) (form : Bool) (bytes : List ℕ) (t : Setting) (v : Value) (pattern : ℕ) → known d ≡ true → length bytes ≡ bytesOf d form
-    → hasSetting d t ≡ true → patternIn (kindOf d t) v ≡ some pattern → Clean d form bytes t → setIn d form bytes t v ≡ accepted tt
+sets : (d : Device) (layout : Layout) (bytes : List ℕ) (t : Setting) (v : Value) (pattern : ℕ) → known d ≡ true → length bytes ≡ bytesOf d layout
+    → hasSetting d t ≡ true → patternIn (kindOf d t) v ≡ some pattern → Clean d layout bytes t → setIn d layout bytes t v ≡ accepted tt
 unfolding setIn
-sets d form bytes t v pattern k e h p clean =
-    rw (k, eq-eqb (length bytes) (bytesOf d form) e, h, p, clean, le-ltb (bytesOf d form) (bytesOf d form) (omega arith))
+sets d layout bytes t v pattern k e h p clean =
+    rw (k, eq-eqb (length bytes) (bytesOf d layout) e, h, p, clean, le-ltb (bytesOf d layout) (bytesOf d layout) (omega arith))
 
 -- the readout of an image: its length, and no byte of it has such a bit
 pub its-length : (d : Device) (image : List ℕ) → length (readoutOf d image) ≡ readoutBytes d
@@ -54,13 +56,13 @@ its-length d image = from-length d _
 pub its-bits : (d : Device) (image : List ℕ) (t : Setting) → known d ≡ true → hasSetting d t ≡ true → strayAmong d (readoutOf d image) t (bitsOf t) ≡ readoutBytes d
 its-bits d image t k h =
     clean-through d (readoutOf d image) t (bitsOf t)
-    (λ b l. readout-accepted d image (byteOf d inReadout (fuseOf d t b)) (inside d inReadout (fuseOf d t b) k (fuse-below d k t h b l)))
+    (λ b l. readout-accepted d image (byteOf d Readout (fuseOf d t b)) (inside d Readout (fuseOf d t b) k (fuse-below d k t h b l)))
 
 pub not-refused : (d : Device) (image : List ℕ) (s : Setting) (v : Value) (pattern : ℕ) → Taken d image s v pattern
-    → (setIn d inImage image s v ≡ accepted tt) × (setIn d inReadout (readoutOf d image) s v ≡ accepted tt)
+    → (setIn d Image image s v ≡ accepted tt) × (setIn d Readout (readoutOf d image) s v ≡ accepted tt)
 unfolding strayIn
 not-refused d image s v pattern taken = (
-  sets d inImage image s v pattern (taken .device) (taken .size) (taken .setting) (its-pattern taken) refl,
-  sets d inReadout (readoutOf d image) s v pattern (taken .device) (its-length d image) (taken .setting) (its-pattern taken)
+  sets d Image image s v pattern (taken .device) (taken .size) (taken .setting) (its-pattern taken) refl,
+  sets d Readout (readoutOf d image) s v pattern (taken .device) (its-length d image) (taken .setting) (its-pattern taken)
       (its-bits d image s (taken .device) (taken .setting)),
 )

@@ -10,7 +10,8 @@ use Rattle.readout.specs.Readout.{readoutOf}
 use Rattle.settings.specs.declared.Setting.{Setting}
 use Rattle.setting_places.specs.Places.{bitsOf, fuseOf}
 use Rattle.values.specs.declared.Value.{Value}
-use Rattle.setting_bits.specs.SettingBits.{inImage, inReadout, stateOf}
+use Rattle.setting_bits.specs.declared.Layout.the-variants.{Image, Readout}
+use Rattle.setting_bits.specs.SettingBits.{stateOf}
 use Rattle.setting_bits.proofs.Edits.{set-other-fuses, same-state}
 use Rattle.edit.specs.Edit.{withValue}
 use Rattle.edit.specs.Demand.{Taken}
@@ -19,12 +20,12 @@ use Rattle.edit.proofs.SameReadout.{start, same-readout}
 
 module _ (d : Device) (image : List ℕ) (s : Setting) (v : Value) (pattern : ℕ) (taken : Taken d image s v pattern)
     (f : ℕ) (l : f < fuseCount d) (apart : (b : ℕ) → b < bitsOf s → fuseOf d s b ≢ f) where
-  in-image : stateOf d inImage (withValue d inImage image s v) f ≡ stateOf d inImage image f
+  in-image : stateOf d Image (withValue d Image image s v) f ≡ stateOf d Image image f
   unfolding withValue
-  in-image = rw (its-pattern taken) (set-other-fuses d (taken .device) inImage _ (start d image s v pattern taken .size) s (taken .setting) _ f l apart)
+  in-image = rw (its-pattern taken) (set-other-fuses d (taken .device) Image _ (start d image s v pattern taken .size) s (taken .setting) _ f l apart)
 
-  pub other-fuses : (stateOf d inImage (withValue d inImage image s v) f ≡ stateOf d inImage image f)
-      × (stateOf d inReadout (withValue d inReadout (readoutOf d image) s v) f ≡ stateOf d inReadout (readoutOf d image) f)
+  pub other-fuses : (stateOf d Image (withValue d Image image s v) f ≡ stateOf d Image image f)
+      × (stateOf d Readout (withValue d Readout (readoutOf d image) s v) f ≡ stateOf d Readout (readoutOf d image) f)
   other-fuses = (
     in-image,
     rw (same-readout d image s v pattern taken) (same-state d _ f l ∙ in-image ∙ sym (same-state d image f l)),

@@ -14,7 +14,8 @@ use Rattle.readout.specs.Readout.{readoutOf}
 use Rattle.settings.specs.Settings.{hasSetting}
 use Rattle.settings.specs.declared.Setting.{Setting}
 use Rattle.values.specs.declared.Value.{Value}
-use Rattle.setting_bits.specs.SettingBits.{inImage, inReadout, patternAt}
+use Rattle.setting_bits.specs.declared.Layout.the-variants.{Image, Readout}
+use Rattle.setting_bits.specs.SettingBits.{patternAt}
 use Rattle.setting_bits.proofs.Edits.{set-others-read}
 use Rattle.edit.specs.Edit.{readIn, withValue}
 use Rattle.edit.specs.Demand.{Taken}
@@ -25,18 +26,18 @@ use Rattle.edit.proofs.ReadsAsSet.{image-clean, same-reading}
 
 module _ (d : Device) (image : List ℕ) (s : Setting) (v : Value) (pattern : ℕ) (taken : Taken d image s v pattern)
     (t : Setting) (h : hasSetting d t ≡ true) (ne : t ≢ s) where
-  stands : patternAt d inImage (withValue d inImage image s v) t ≡ patternAt d inImage image t
+  stands : patternAt d Image (withValue d Image image s v) t ≡ patternAt d Image image t
   unfolding withValue
-  stands = rw (its-pattern taken) (set-others-read d (taken .device) inImage _ (start d image s v pattern taken .size) s (taken .setting) _ t h ne)
+  stands = rw (its-pattern taken) (set-others-read d (taken .device) Image _ (start d image s v pattern taken .size) s (taken .setting) _ t h ne)
 
-  in-image : readIn d inImage (withValue d inImage image s v) t ≡ readIn d inImage image t
+  in-image : readIn d Image (withValue d Image image s v) t ≡ readIn d Image image t
   unfolding readIn
   in-image =
-      let after = withValue d inImage image s v in
+      let after = withValue d Image image s v in
       rw (taken .device, eq-eqb (length after) (imageBytes d) (changed d image s v pattern taken .size), eq-eqb (length image) (imageBytes d) (taken .size), h, image-clean d after t, image-clean d image t, le-ltb (imageBytes d) (imageBytes d) (omega arith), stands)
 
-  pub others-as-before : (readIn d inImage (withValue d inImage image s v) t ≡ readIn d inImage image t)
-      × (readIn d inReadout (withValue d inReadout (readoutOf d image) s v) t ≡ readIn d inReadout (readoutOf d image) t)
+  pub others-as-before : (readIn d Image (withValue d Image image s v) t ≡ readIn d Image image t)
+      × (readIn d Readout (withValue d Readout (readoutOf d image) s v) t ≡ readIn d Readout (readoutOf d image) t)
   others-as-before = (
     in-image,
     rw (same-readout d image s v pattern taken)

@@ -9,7 +9,7 @@ use Rattle.part.specs.declared.Device.{Device}
 use Rattle.readout.specs.Readout.{readoutOf}
 use Rattle.settings.specs.declared.Setting.{Setting}
 use Rattle.values.specs.declared.Value.{Value}
-use Rattle.setting_bits.specs.SettingBits.{inImage, inReadout}
+use Rattle.setting_bits.specs.declared.Layout.the-variants.{Image, Readout}
 use Rattle.setting_bits.proofs.Edits.{agrees}
 use Rattle.edit.specs.Edit.{withValue}
 use Rattle.edit.specs.Demand.{Taken}
@@ -25,6 +25,6 @@ module _ (d : Device) (image : List ℕ) (s : Setting) (v : Value) (pattern : �
   pub start : IsImage d image
   start = record { size = taken .size; bytes = taken .bytes }
 
-  pub same-readout : withValue d inReadout (readoutOf d image) s v ≡ readoutOf d (withValue d inImage image s v)
+  pub same-readout : withValue d Readout (readoutOf d image) s v ≡ readoutOf d (withValue d Image image s v)
   unfolding withValue
   same-readout = rw (its-pattern taken) (sym (agrees d (taken .device) _ (start .size) s (taken .setting) _))

@@ -17,7 +17,8 @@ use Rattle.settings.specs.declared.Setting.{Setting}
 use Rattle.setting_places.specs.Places.{bitsOf, fuseOf}
 use Rattle.values.specs.declared.Value.{Value}
 use Rattle.setting_values.specs.Kinds.{valueOf}
-use Rattle.setting_bits.specs.SettingBits.{inImage, inReadout, stateOf}
+use Rattle.setting_bits.specs.declared.Layout.the-variants.{Image, Readout}
+use Rattle.setting_bits.specs.SettingBits.{stateOf}
 use Rattle.edit.specs.Edit.{readIn, setIn, withValue}
 
 -- "take any known device, any image of it, the readout of that image, any setting of that device and any value of that setting": what 003's
@@ -58,20 +59,20 @@ abbrev pub callsBy : {S A : Type 0} → Device → (set : Bool → List ℕ → 
 callsBy d set changed read image s t = record {
   converted = toReadout d image (readoutOf d image);
   readout-before = readoutOf d image;
-  set-image = set inImage image;
-  set-readout = set inReadout (readoutOf d image);
-  image = changed inImage image;
-  readout = changed inReadout (readoutOf d image);
-  converted-image = toReadout d (changed inImage image) (readoutOf d (changed inImage image));
-  its-readout = readoutOf d (changed inImage image);
-  converted-readout = toImage d (changed inReadout (readoutOf d image)) (imageOf d (changed inReadout (readoutOf d image)));
-  its-image = imageOf d (changed inReadout (readoutOf d image));
-  read-image = read inImage (changed inImage image) s;
-  read-readout = read inReadout (changed inReadout (readoutOf d image)) s;
-  other-image-before = read inImage image t;
-  other-readout-before = read inReadout (readoutOf d image) t;
-  other-image = read inImage (changed inImage image) t;
-  other-readout = read inReadout (changed inReadout (readoutOf d image)) t;
+  set-image = set Image image;
+  set-readout = set Readout (readoutOf d image);
+  image = changed Image image;
+  readout = changed Readout (readoutOf d image);
+  converted-image = toReadout d (changed Image image) (readoutOf d (changed Image image));
+  its-readout = readoutOf d (changed Image image);
+  converted-readout = toImage d (changed Readout (readoutOf d image)) (imageOf d (changed Readout (readoutOf d image)));
+  its-image = imageOf d (changed Readout (readoutOf d image));
+  read-image = read Image (changed Image image) s;
+  read-readout = read Readout (changed Readout (readoutOf d image)) s;
+  other-image-before = read Image image t;
+  other-readout-before = read Readout (readoutOf d image) t;
+  other-image = read Image (changed Image image) t;
+  other-readout = read Readout (changed Readout (readoutOf d image)) t;
 }
 
 -- The demand of some calls. A setting is called `s`: by its name and fields, or by its number; `has` says which of these the device has,
@@ -91,16 +92,16 @@ pub record Demand3 {S A : Type 0} (d : Device) (has : S → Type 0) (read : Bool
   pub others-as-before : (has t → t ≢ s
       → (c .other-image ≡ c .other-image-before) × (c .other-readout ≡ c .other-readout-before))
       × ((u : S) → has u → u ≢ s
-      → (read inImage (c .image) u ≡ read inImage image u)
-      × (read inReadout (c .readout) u ≡ read inReadout (c .readout-before) u))
+      → (read Image (c .image) u ≡ read Image image u)
+      × (read Readout (c .readout) u ≡ read Readout (c .readout-before) u))
   -- "Each fuse listed for the setting stands as the value needs it."
   pub listed-fuses : (b : ℕ) → b < bits
-      → (stateOf d inImage (c .image) (fuse b) ≡ bitOf pattern b)
-      × (stateOf d inReadout (c .readout) (fuse b) ≡ bitOf pattern b)
+      → (stateOf d Image (c .image) (fuse b) ≡ bitOf pattern b)
+      × (stateOf d Readout (c .readout) (fuse b) ≡ bitOf pattern b)
   -- "Every other fuse of the part, named or not, stands as before."
   pub other-fuses : (f : ℕ) → f < fuseCount d → ((b : ℕ) → b < bits → fuse b ≢ f)
-      → (stateOf d inImage (c .image) f ≡ stateOf d inImage image f)
-      × (stateOf d inReadout (c .readout) f ≡ stateOf d inReadout (c .readout-before) f)
+      → (stateOf d Image (c .image) f ≡ stateOf d Image image f)
+      × (stateOf d Readout (c .readout) f ≡ stateOf d Readout (c .readout-before) f)
   -- none of the three conversions was refused
   pub conversions-accepted :
       (c .converted ≡ accepted tt) × (c .converted-image ≡ accepted tt) × (c .converted-readout ≡ accepted tt)
@@ -108,7 +109,7 @@ pub record Demand3 {S A : Type 0} (d : Device) (has : S → Type 0) (read : Bool
 -- The operations by setting and value: what the definitions give, and the demand of some calls of them.
 abbrev pub callsByName : Device → (image : List ℕ) → Setting → Value → (t : Setting) → Calls Value
 callsByName d image s v t =
-    callsBy d (λ form bytes. setIn d form bytes s v) (λ form bytes. withValue d form bytes s v) (readIn d) image s t
+    callsBy d (λ layout bytes. setIn d layout bytes s v) (λ layout bytes. withValue d layout bytes s v) (readIn d) image s t
 
 abbrev pub DemandByName : Device → (image : List ℕ) → Setting → Value → (pattern : ℕ) → (t : Setting) → Calls Value → Type 0
 DemandByName d image s v pattern t c =
@@ -117,11 +118,11 @@ DemandByName d image s v pattern t c =
 -- The calls are those that their names say: each answer, and the bytes that each call left, are the definitions'.
 pub record Made (d : Device) (image : List ℕ) (s : Setting) (v : Value) (t : Setting) (c : Calls Value) : Type 0 where
   pub conversion : (c .converted ≡ toReadout d image (c .readout-before)) × (c .readout-before ≡ readoutOf d image)
-  pub answers : (c .set-image ≡ setIn d inImage image s v) × (c .set-readout ≡ setIn d inReadout (c .readout-before) s v)
-  pub changes : (c .image ≡ withValue d inImage image s v) × (c .readout ≡ withValue d inReadout (c .readout-before) s v)
+  pub answers : (c .set-image ≡ setIn d Image image s v) × (c .set-readout ≡ setIn d Readout (c .readout-before) s v)
+  pub changes : (c .image ≡ withValue d Image image s v) × (c .readout ≡ withValue d Readout (c .readout-before) s v)
   pub image-converted : (c .converted-image ≡ toReadout d (c .image) (c .its-readout)) × (c .its-readout ≡ readoutOf d (c .image))
   pub readout-converted : (c .converted-readout ≡ toImage d (c .readout) (c .its-image)) × (c .its-image ≡ imageOf d (c .readout))
-  pub readings : (c .read-image ≡ readIn d inImage (c .image) s) × (c .read-readout ≡ readIn d inReadout (c .readout) s)
-  pub others-before : (c .other-image-before ≡ readIn d inImage image t)
-      × (c .other-readout-before ≡ readIn d inReadout (c .readout-before) t)
-  pub others-after : (c .other-image ≡ readIn d inImage (c .image) t) × (c .other-readout ≡ readIn d inReadout (c .readout) t)
+  pub readings : (c .read-image ≡ readIn d Image (c .image) s) × (c .read-readout ≡ readIn d Readout (c .readout) s)
+  pub others-before : (c .other-image-before ≡ readIn d Image image t)
+      × (c .other-readout-before ≡ readIn d Readout (c .readout-before) t)
+  pub others-after : (c .other-image ≡ readIn d Image (c .image) t) × (c .other-readout ≡ readIn d Readout (c .readout) t)

@@ -20,6 +20,7 @@ use Rattle.settings.specs.Order.{countOf, settingOf}
 use Rattle.settings.specs.declared.Setting.{Setting}
 use Rattle.settings.proofs.Numbers.{number-again}
 use Rattle.setting_places.specs.Places.{bitsOf}
+use Rattle.setting_bits.specs.declared.Layout.{Layout}
 use Rattle.setting_bits.specs.SettingBits.{bytesOf, patternAt, withPattern}
 use Rattle.setting_bits.proofs.Steps.{bytes-between}
 use Rattle.edit.specs.Edit.{strayIn}
@@ -31,52 +32,52 @@ below d x count e l = omega arith
 pub there : (d : Device) (x count : ℕ) (s : Setting) → count ≡ countOf d → x < count → s ≡ settingOf d x → hasSetting d s ≡ true
 there d x count s e l f = rw f (number-again d x (below d x count e l) .0)
 
-module _ (d : Device) (form : Bool) (bytes : List ℕ) (size : ℕ) (e : size ≡ bytesOf d form) (n : length bytes ≡ size) where
-  pub its-size : length bytes ≡ bytesOf d form
+module _ (d : Device) (layout : Layout) (bytes : List ℕ) (size : ℕ) (e : size ≡ bytesOf d layout) (n : length bytes ≡ size) where
+  pub its-size : length bytes ≡ bytesOf d layout
   its-size = n ∙ e
 
   pub stray-fits : (stray : ℕ) → known d ≡ true → stray < length bytes → Fits w32 stray
-  stray-fits stray k l = record { fits = omega (arith, its-size, bytes-between d form k) }
+  stray-fits stray k l = record { fits = omega (arith, its-size, bytes-between d layout k) }
 
 -- what setting must give: the outcome's answer, and the bytes that go with it
-abbrev pub PatternGives : Device → Bool → List ℕ → (x pattern : ℕ) → Outcome (Unit {0}) → List ℕ → Type 0
-PatternGives d form bytes x pattern answer after = Written (setPattern d form bytes x pattern) answer (withNumbered d form bytes x pattern) bytes after
+abbrev pub PatternGives : Device → Layout → List ℕ → (x pattern : ℕ) → Outcome (Unit {0}) → List ℕ → Type 0
+PatternGives d layout bytes x pattern answer after = Written (setPattern d layout bytes x pattern) answer (withNumbered d layout bytes x pattern) bytes after
 
-pub refusal : (d : Device) (form : Bool) (bytes : List ℕ) (x pattern n v : ℕ) → refused n v ≡ setPattern d form bytes x pattern
-    → PatternGives d form bytes x pattern (refused n v) bytes
-refusal d form bytes x pattern n v e = says (setPattern d form bytes x pattern) (refused n v) (withNumbered d form bytes x pattern) bytes e
+pub refusal : (d : Device) (layout : Layout) (bytes : List ℕ) (x pattern n v : ℕ) → refused n v ≡ setPattern d layout bytes x pattern
+    → PatternGives d layout bytes x pattern (refused n v) bytes
+refusal d layout bytes x pattern n v e = says (setPattern d layout bytes x pattern) (refused n v) (withNumbered d layout bytes x pattern) bytes e
 
 -- for a device, a length and a number that there are
-module _ (d : Device) (form : Bool) (bytes : List ℕ) (x : ℕ) (k : known d ≡ true) (n : length bytes ≡ bytesOf d form) (l : x < countOf d)
+module _ (d : Device) (layout : Layout) (bytes : List ℕ) (x : ℕ) (k : known d ≡ true) (n : length bytes ≡ bytesOf d layout) (l : x < countOf d)
     (s : Setting) (g : s ≡ settingOf d x) where
-  module _ (stray : ℕ) (q : strayIn d form bytes s ≡ stray) where
-    pub reads-stray : stray < length bytes → refused 6 stray ≡ readPattern d form bytes x
+  module _ (stray : ℕ) (q : strayIn d layout bytes s ≡ stray) where
+    pub reads-stray : stray < length bytes → refused 6 stray ≡ readPattern d layout bytes x
     unfolding readPattern
     reads-stray m =
-        rw (k, eq-eqb (length bytes) (bytesOf d form) n, lt-ltb x (countOf d) l, ← g, q, lt-ltb stray (bytesOf d form) (omega (arith, n)))
+        rw (k, eq-eqb (length bytes) (bytesOf d layout) n, lt-ltb x (countOf d) l, ← g, q, lt-ltb stray (bytesOf d layout) (omega (arith, n)))
 
-    pub reads-clean : (p : ℕ) → length bytes ≤ stray → p ≡ patternAt d form bytes s → accepted p ≡ readPattern d form bytes x
+    pub reads-clean : (p : ℕ) → length bytes ≤ stray → p ≡ patternAt d layout bytes s → accepted p ≡ readPattern d layout bytes x
     unfolding readPattern
     reads-clean p m w =
-        rw (k, eq-eqb (length bytes) (bytesOf d form) n, lt-ltb x (countOf d) l, ← g, q, le-ltb stray (bytesOf d form) (omega (arith, n)), w)
+        rw (k, eq-eqb (length bytes) (bytesOf d layout) n, lt-ltb x (countOf d) l, ← g, q, le-ltb stray (bytesOf d layout) (omega (arith, n)), w)
 
   module _ (pattern : ℕ) where
-    pub sets-none : ltb pattern (2 ^ bitsOf s) ≡ false → PatternGives d form bytes x pattern (refused 5 0) bytes
+    pub sets-none : ltb pattern (2 ^ bitsOf s) ≡ false → PatternGives d layout bytes x pattern (refused 5 0) bytes
     unfolding setPattern
     sets-none t =
-        refusal d form bytes x pattern 5 0
-        (rw (k, eq-eqb (length bytes) (bytesOf d form) n, lt-ltb x (countOf d) l, ← g, t))
+        refusal d layout bytes x pattern 5 0
+        (rw (k, eq-eqb (length bytes) (bytesOf d layout) n, lt-ltb x (countOf d) l, ← g, t))
 
-    module _ (t : ltb pattern (2 ^ bitsOf s) ≡ true) (stray : ℕ) (q : strayIn d form bytes s ≡ stray) where
-      pub sets-stray : stray < length bytes → PatternGives d form bytes x pattern (refused 6 stray) bytes
+    module _ (t : ltb pattern (2 ^ bitsOf s) ≡ true) (stray : ℕ) (q : strayIn d layout bytes s ≡ stray) where
+      pub sets-stray : stray < length bytes → PatternGives d layout bytes x pattern (refused 6 stray) bytes
       unfolding setPattern
       sets-stray m =
-          refusal d form bytes x pattern 6 stray
-          (rw (k, eq-eqb (length bytes) (bytesOf d form) n, lt-ltb x (countOf d) l, ← g, t, q, lt-ltb stray (bytesOf d form) (omega (arith, n))))
+          refusal d layout bytes x pattern 6 stray
+          (rw (k, eq-eqb (length bytes) (bytesOf d layout) n, lt-ltb x (countOf d) l, ← g, t, q, lt-ltb stray (bytesOf d layout) (omega (arith, n))))
 
-      pub sets-clean : (after : List ℕ) → length bytes ≤ stray → after ≡ withPattern d form bytes s pattern → PatternGives d form bytes x pattern (accepted tt) after
+      pub sets-clean : (after : List ℕ) → length bytes ≤ stray → after ≡ withPattern d layout bytes s pattern → PatternGives d layout bytes x pattern (accepted tt) after
       unfolding setPattern withNumbered
       sets-clean after m z =
-          let same : accepted tt ≡ setPattern d form bytes x pattern =
-          rw (k, eq-eqb (length bytes) (bytesOf d form) n, lt-ltb x (countOf d) l, ← g, t, q, le-ltb stray (bytesOf d form) (omega (arith, n))) in
+          let same : accepted tt ≡ setPattern d layout bytes x pattern =
+          rw (k, eq-eqb (length bytes) (bytesOf d layout) n, lt-ltb x (countOf d) l, ← g, t, q, le-ltb stray (bytesOf d layout) (omega (arith, n))) in
           record { answers = same; holds = rw (← same, ← g) z }

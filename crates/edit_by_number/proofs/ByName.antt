@@ -21,6 +21,7 @@ use Rattle.values.specs.Patterns.{patternIn}
 use Rattle.values.proofs.Laws as values
 use Rattle.setting_values.specs.Kinds.{kindOf, valueOf}
 use Rattle.setting_values.proofs.Widths.{kind-bits}
+use Rattle.setting_bits.specs.declared.Layout.{Layout}
 use Rattle.setting_bits.specs.SettingBits.{bytesOf}
 use Rattle.edit.specs.Edit.{withValue, strayIn, readIn, setIn}
 use Rattle.edit_by_number.specs.ByNumber.{readPattern, setPattern, withNumbered}
@@ -34,7 +35,7 @@ mapped-cond : {A B : Type 0} (f : A → B) (t : Bool) (x y : Outcome A) → mapp
 mapped-cond f true x y = refl
 mapped-cond f false x y = refl
 
-module _ (d : Device) (k : known d ≡ true) (form : Bool) (bytes : List ℕ) (number : ℕ) (below : number < countOf d) where
+module _ (d : Device) (k : known d ≡ true) (layout : Layout) (bytes : List ℕ) (number : ℕ) (below : number < countOf d) where
   s : Setting
   s = settingOf d number
 
@@ -42,15 +43,15 @@ module _ (d : Device) (k : known d ≡ true) (form : Bool) (bytes : List ℕ) (n
   unfolding s
   there = number-again d number below .0
 
-  pub reads-numbered : readIn d form bytes (settingOf d number) ≡ mapped (valueOf d (settingOf d number)) (readPattern d form bytes number)
+  pub reads-numbered : readIn d layout bytes (settingOf d number) ≡ mapped (valueOf d (settingOf d number)) (readPattern d layout bytes number)
   unfolding readPattern readIn s
   reads-numbered =
       let value = valueOf d (settingOf d number) in
-      rw (lt-ltb number (countOf d) below, there, mapped-cond value (known d) _ _, mapped-cond value (eqb (length bytes) (bytesOf d form)) _ _, mapped-cond value (ltb (strayIn d form bytes (settingOf d number)) (bytesOf d form)) _ _)
+      rw (lt-ltb number (countOf d) below, there, mapped-cond value (known d) _ _, mapped-cond value (eqb (length bytes) (bytesOf d layout)) _ _, mapped-cond value (ltb (strayIn d layout bytes (settingOf d number)) (bytesOf d layout)) _ _)
 
   pub sets-numbered : (pattern : ℕ) → pattern < 2 ^ bitsOf (settingOf d number)
-      → (setPattern d form bytes number pattern ≡ setIn d form bytes (settingOf d number) (valueOf d (settingOf d number) pattern))
-      × (withNumbered d form bytes number pattern ≡ withValue d form bytes (settingOf d number) (valueOf d (settingOf d number) pattern))
+      → (setPattern d layout bytes number pattern ≡ setIn d layout bytes (settingOf d number) (valueOf d (settingOf d number) pattern))
+      × (withNumbered d layout bytes number pattern ≡ withValue d layout bytes (settingOf d number) (valueOf d (settingOf d number) pattern))
   unfolding setPattern setIn withNumbered withValue s
   sets-numbered pattern fits =
       let value : patternIn (kindOf d (settingOf d number)) (valueOf d (settingOf d number) pattern) ≡ some pattern =

@@ -17,7 +17,9 @@ use Rattle.settings.specs.declared.Setting.{Setting}
 use Rattle.settings.proofs.Numbers.{number-again}
 use Rattle.values.specs.declared.Value.{Value}
 use Rattle.setting_values.specs.Kinds.{valueOf}
-use Rattle.setting_bits.specs.SettingBits.{inImage, inReadout, bytesOf, patternAt, withPattern}
+use Rattle.setting_bits.specs.declared.Layout.{Layout}
+use Rattle.setting_bits.specs.declared.Layout.the-variants.{Image, Readout}
+use Rattle.setting_bits.specs.SettingBits.{bytesOf, patternAt, withPattern}
 use Rattle.setting_bits.proofs.Edits.{set-length, set-reads, set-others-read, same-pattern}
 use Rattle.edit.specs.Edit.{setIn, withValue}
 use Rattle.edit.specs.Demand.{Taken, callsByName, DemandByName}
@@ -30,19 +32,19 @@ use Rattle.edit_by_number.proofs.Asked.{reads-clean}
 use Rattle.edit_by_number.proofs.ByName.{sets-numbered}
 
 -- what a number reads as in bytes of the right length without a bit above a width ..
-reads : (d : Device) (form : Bool) (bytes : List ℕ) (x : ℕ) → known d ≡ true → length bytes ≡ bytesOf d form → x < countOf d
-    → Clean d form bytes (settingOf d x) → readPattern d form bytes x ≡ accepted (patternAt d form bytes (settingOf d x))
-reads d form bytes x k n l clean = sym (reads-clean d form bytes x k n l _ refl _ clean _ (omega (arith, n)) refl)
+reads : (d : Device) (layout : Layout) (bytes : List ℕ) (x : ℕ) → known d ≡ true → length bytes ≡ bytesOf d layout → x < countOf d
+    → Clean d layout bytes (settingOf d x) → readPattern d layout bytes x ≡ accepted (patternAt d layout bytes (settingOf d x))
+reads d layout bytes x k n l clean = sym (reads-clean d layout bytes x k n l _ refl _ clean _ (omega (arith, n)) refl)
 
 -- .. in an image and in its readout
 module _ (d : Device) (k : known d ≡ true) (image : List ℕ) (e : length image ≡ imageBytes d) (x : ℕ) (l : x < countOf d) where
-  in-image : readPattern d inImage image x ≡ accepted (patternAt d inImage image (settingOf d x))
-  in-image = reads d inImage image x k e l (image-clean d image _)
+  in-image : readPattern d Image image x ≡ accepted (patternAt d Image image (settingOf d x))
+  in-image = reads d Image image x k e l (image-clean d image _)
 
-  in-readout : readPattern d inReadout (readoutOf d image) x ≡ accepted (patternAt d inImage image (settingOf d x))
+  in-readout : readPattern d Readout (readoutOf d image) x ≡ accepted (patternAt d Image image (settingOf d x))
   in-readout =
       let there = number-again d x l .0 in
-      reads d inReadout (readoutOf d image) x k (its-length d image) l (readout-clean d (readoutOf d image) _ (its-bits d image _ k there))
+      reads d Readout (readoutOf d image) x k (its-length d image) l (readout-clean d (readoutOf d image) _ (its-bits d image _ k there))
       ∙ ap accepted (same-pattern d image k (settingOf d x) there)
 
 module _ (d : Device) (image : List ℕ) (x pattern : ℕ) (taken : NumberTaken d image x pattern) where
@@ -69,43 +71,43 @@ module _ (d : Device) (image : List ℕ) (x pattern : ℕ) (taken : NumberTaken 
 
   -- the changed image, and the changed readout, which is its readout
   after : List ℕ
-  after = withNumbered d inImage image x pattern
+  after = withNumbered d Image image x pattern
 
   its-size : length after ≡ imageBytes d
   unfolding after withNumbered s
-  its-size = set-length d (taken .device) inImage image (taken .size) s there pattern ∙ taken .size
+  its-size = set-length d (taken .device) Image image (taken .size) s there pattern ∙ taken .size
 
-  after-by-name : (form : Bool) (bytes : List ℕ) → withNumbered d form bytes x pattern ≡ withValue d form bytes s v
+  after-by-name : (layout : Layout) (bytes : List ℕ) → withNumbered d layout bytes x pattern ≡ withValue d layout bytes s v
   unfolding s v
-  after-by-name form bytes = sets-numbered d (taken .device) form bytes x (taken .setting) pattern (taken .fits) .1
+  after-by-name layout bytes = sets-numbered d (taken .device) layout bytes x (taken .setting) pattern (taken .fits) .1
 
-  sets : (form : Bool) (bytes : List ℕ) → setPattern d form bytes x pattern ≡ setIn d form bytes s v
+  sets : (layout : Layout) (bytes : List ℕ) → setPattern d layout bytes x pattern ≡ setIn d layout bytes s v
   unfolding s v
-  sets form bytes = sets-numbered d (taken .device) form bytes x (taken .setting) pattern (taken .fits) .0
+  sets layout bytes = sets-numbered d (taken .device) layout bytes x (taken .setting) pattern (taken .fits) .0
 
-  same : withNumbered d inReadout (readoutOf d image) x pattern ≡ readoutOf d after
+  same : withNumbered d Readout (readoutOf d image) x pattern ≡ readoutOf d after
   unfolding after
   same =
-      after-by-name inReadout (readoutOf d image)
+      after-by-name Readout (readoutOf d image)
       ∙ holds d image s v pattern named s .same-readout
-      ∙ ap (readoutOf d) (sym (after-by-name inImage image))
+      ∙ ap (readoutOf d) (sym (after-by-name Image image))
 
-  as-set : patternAt d inImage after s ≡ pattern
+  as-set : patternAt d Image after s ≡ pattern
   unfolding after withNumbered s
-  as-set = set-reads d (taken .device) inImage image (taken .size) s there pattern (taken .fits)
+  as-set = set-reads d (taken .device) Image image (taken .size) s there pattern (taken .fits)
 
-  as-before : (u : ℕ) → u < countOf d → u ≢ x → patternAt d inImage after (settingOf d u) ≡ patternAt d inImage image (settingOf d u)
+  as-before : (u : ℕ) → u < countOf d → u ≢ x → patternAt d Image after (settingOf d u) ≡ patternAt d Image image (settingOf d u)
   unfolding after withNumbered s
   as-before u l ne =
-      set-others-read d (taken .device) inImage image (taken .size) s there pattern (settingOf d u) (number-again d u l .0)
+      set-others-read d (taken .device) Image image (taken .size) s there pattern (settingOf d u) (number-again d u l .0)
       (λ e. ne (sym (number-again d u l .1) ∙ ap (numberOf d) e ∙ number-again d x (taken .setting) .1))
 
   others : (u : ℕ) → u < countOf d → u ≢ x
-      → (readPattern d inImage after u ≡ readPattern d inImage image u)
-      × (readPattern d inReadout (readoutOf d after) u ≡ readPattern d inReadout (readoutOf d image) u)
+      → (readPattern d Image after u ≡ readPattern d Image image u)
+      × (readPattern d Readout (readoutOf d after) u ≡ readPattern d Readout (readoutOf d image) u)
   others u l ne =
       let k = taken .device in
-      let stands : accepted (patternAt d inImage after (settingOf d u)) ≡ accepted (patternAt d inImage image (settingOf d u)) =
+      let stands : accepted (patternAt d Image after (settingOf d u)) ≡ accepted (patternAt d Image image (settingOf d u)) =
       ap accepted (as-before u l ne) in (
         in-image d k after its-size u l ∙ stands ∙ sym (in-image d k image (taken .size) u l),
         in-readout d k after its-size u l ∙ stands ∙ sym (in-readout d k image (taken .size) u l),
@@ -116,10 +118,10 @@ module _ (d : Device) (image : List ℕ) (x pattern : ℕ) (taken : NumberTaken 
   holds-by-number other =
       let k = taken .device in
       let by-name = holds d image s v pattern named s in
-      let in-its-image = after-by-name inImage image in
-      let in-its-readout = after-by-name inReadout (readoutOf d image) in
+      let in-its-image = after-by-name Image image in
+      let in-its-readout = after-by-name Readout (readoutOf d image) in
       record {
-        not-refused = (sets inImage image ∙ by-name .not-refused .0, sets inReadout (readoutOf d image) ∙ by-name .not-refused .1);
+        not-refused = (sets Image image ∙ by-name .not-refused .0, sets Readout (readoutOf d image) ∙ by-name .not-refused .1);
         same-readout = same;
         same-image = rw (in-its-image, in-its-readout) (by-name .same-image);
         reads-as-set = (

@@ -24,6 +24,8 @@ use Rattle.settings.specs.declared.Setting.{Setting}
 use Rattle.settings.proofs.Numbers.{ends, in-its-group, number-again}
 use Rattle.setting_places.specs.Places.{placeOf, bitsOf, fuseOf}
 use Rattle.setting_places.proofs.Places.{has-place}
+use Rattle.setting_bits.specs.declared.Layout.{Layout}
+use Rattle.setting_bits.specs.declared.Layout.the-variants.{Image, Readout}
 use Rattle.setting_bits.specs.SettingBits.{bytesOf, byteOf, bitIn, patternAt, withBits, withPattern}
 use Rattle.setting_bits.proofs.Edits.{inside, fuse-below}
 use Rattle.setting_bits.proofs.Steps.{bytes-between, bit-small}
@@ -33,12 +35,12 @@ use Rattle.edit_by_number.specs.ByNumber.{readPattern}
 use Rattle.edit_by_number.proofs.Asked.{PatternGives, reads-stray, reads-clean, sets-none, sets-stray, sets-clean}
 
 -- a bit above the width of the byte of a setting of one bit, in a readout
-stray-of-one : (d : Device) (form : Bool) (bytes : List ℕ) (s : Setting) → known d ≡ true → hasSetting d s ≡ true → bitsOf s ≡ 1
-    → (p : Place) → p ≡ placeOf s 0 → (index w above : ℕ) → index ≡ byteOf d form (fuseOf d s 0) → w ≡ widthOf (p .byte)
-    → above ≡ getD bytes index 0 / 2 ^ w → strayIn d form bytes s ≡ cond (form && not (eqb above 0)) index (bytesOf d form)
+stray-of-one : (d : Device) (layout : Layout) (bytes : List ℕ) (s : Setting) → known d ≡ true → hasSetting d s ≡ true → bitsOf s ≡ 1
+    → (p : Place) → p ≡ placeOf s 0 → (index w above : ℕ) → index ≡ byteOf d layout (fuseOf d s 0) → w ≡ widthOf (p .byte)
+    → above ≡ getD bytes index 0 / 2 ^ w → strayIn d layout bytes s ≡ cond (layout && not (eqb above 0)) index (bytesOf d layout)
 unfolding strayIn
-stray-of-one d false bytes s k h one p e index w above i v a = refl
-stray-of-one d true bytes s k h one p e index w above i v a = one-stray d k s h one bytes p e index w above i v a
+stray-of-one d Image bytes s k h one p e index w above i v a = refl
+stray-of-one d Readout bytes s k h one p e index w above i v a = one-stray d k s h one bytes p e index w above i v a
 
 module _ (d : Device) (x : ℕ) (l : x < start d wireAnds) where
   number-there : x < countOf d
@@ -54,86 +56,86 @@ module _ (d : Device) (x : ℕ) (l : x < start d wireAnds) where
   bit-0 : 0 < bitsOf (settingOf d x)
   bit-0 = omega (arith, one-bit)
 
-  pub not-two : (form : Bool) (bytes : List ℕ) (pattern : ℕ) → known d ≡ true → length bytes ≡ bytesOf d form → 1 < pattern
-      → PatternGives d form bytes x pattern (refused 5 0) bytes
-  not-two form bytes pattern k n m =
+  pub not-two : (layout : Layout) (bytes : List ℕ) (pattern : ℕ) → known d ≡ true → length bytes ≡ bytesOf d layout → 1 < pattern
+      → PatternGives d layout bytes x pattern (refused 5 0) bytes
+  not-two layout bytes pattern k n m =
       let over : 2 ≤ pattern = omega arith in
-      sets-none d form bytes x k n number-there (settingOf d x) refl pattern (rw one-bit (le-ltb pattern 2 over))
+      sets-none d layout bytes x k n number-there (settingOf d x) refl pattern (rw one-bit (le-ltb pattern 2 over))
 
-  index-in : known d ≡ true → (form : Bool) (bytes : List ℕ) → length bytes ≡ bytesOf d form
-      → (index : ℕ) → index ≡ byteOf d form (fuseOf d (settingOf d x) 0) → index < length bytes
-  index-in k form bytes n index i = rw (n, i) (inside d form (fuseOf d (settingOf d x) 0) k (fuse-below d k (settingOf d x) its 0 bit-0))
+  index-in : known d ≡ true → (layout : Layout) (bytes : List ℕ) → length bytes ≡ bytesOf d layout
+      → (index : ℕ) → index ≡ byteOf d layout (fuseOf d (settingOf d x) 0) → index < length bytes
+  index-in k layout bytes n index i = rw (n, i) (inside d layout (fuseOf d (settingOf d x) 0) k (fuse-below d k (settingOf d x) its 0 bit-0))
 
   module _ (k : known d ≡ true) (p : Place) (e : p ≡ placeOf (settingOf d x) 0) where
     pub place-there : hasPlace d p ≡ true
     place-there = rw e (has-place d (settingOf d x) 0 k its bit-0)
 
-    module _ (form : Bool) (bytes : List ℕ) (n : length bytes ≡ bytesOf d form)
-        (index bit : ℕ) (i : index ≡ byteOf d form (fuseOfPlace d p)) (j : bit ≡ bitIn d form (fuseOfPlace d p)) where
-      pub at-index : index ≡ byteOf d form (fuseOf d (settingOf d x) 0)
+    module _ (layout : Layout) (bytes : List ℕ) (n : length bytes ≡ bytesOf d layout)
+        (index bit : ℕ) (i : index ≡ byteOf d layout (fuseOfPlace d p)) (j : bit ≡ bitIn d layout (fuseOfPlace d p)) where
+      pub at-index : index ≡ byteOf d layout (fuseOf d (settingOf d x) 0)
       unfolding fuseOf
       at-index = rw (← e) i
 
-      pub at-bit : bit ≡ bitIn d form (fuseOf d (settingOf d x) 0)
+      pub at-bit : bit ≡ bitIn d layout (fuseOf d (settingOf d x) 0)
       unfolding fuseOf
       at-bit = rw (← e) j
 
       pub spot-in : index < length bytes
-      spot-in = index-in k form bytes n index at-index
+      spot-in = index-in k layout bytes n index at-index
 
       pub found : (w above : ℕ) → w ≡ widthOf (p .byte) → above ≡ getD bytes index 0 / 2 ^ w
-          → strayIn d form bytes (settingOf d x) ≡ cond (form && not (eqb above 0)) index (bytesOf d form)
-      found w above v a = stray-of-one d form bytes (settingOf d x) k its one-bit p e index w above at-index v a
+          → strayIn d layout bytes (settingOf d x) ≡ cond (layout && not (eqb above 0)) index (bytesOf d layout)
+      found w above v a = stray-of-one d layout bytes (settingOf d x) k its one-bit p e index w above at-index v a
 
-module _ (d : Device) (x : ℕ) (l : x < start d wireAnds) (k : known d ≡ true) (form : Bool) (bytes : List ℕ) (n : length bytes ≡ bytesOf d form)
-    (index bit : ℕ) (t : Bool) (i : index ≡ byteOf d form (fuseOf d (settingOf d x) 0)) (j : bit ≡ bitIn d form (fuseOf d (settingOf d x) 0))
-    (q : strayIn d form bytes (settingOf d x) ≡ cond t index (bytesOf d form)) where
+module _ (d : Device) (x : ℕ) (l : x < start d wireAnds) (k : known d ≡ true) (layout : Layout) (bytes : List ℕ) (n : length bytes ≡ bytesOf d layout)
+    (index bit : ℕ) (t : Bool) (i : index ≡ byteOf d layout (fuseOf d (settingOf d x) 0)) (j : bit ≡ bitIn d layout (fuseOf d (settingOf d x) 0))
+    (q : strayIn d layout bytes (settingOf d x) ≡ cond t index (bytesOf d layout)) where
   pub bit-in : bit < 8
-  bit-in = rw j (bit-small d k (settingOf d x) (its d x l) 0 (bit-0 d x l) form)
+  bit-in = rw j (bit-small d k (settingOf d x) (its d x l) 0 (bit-0 d x l) layout)
 
   pub there : index < length bytes
-  there = index-in d x l k form bytes n index i
+  there = index-in d x l k layout bytes n index i
 
   pub index-fits : Fits w32 index
-  index-fits = record { fits = omega (arith, there, n, bytes-between d form k) }
+  index-fits = record { fits = omega (arith, there, n, bytes-between d layout k) }
 
-  its-pattern : (state : ℕ) → state ≡ bitAt bytes index bit → state ≡ patternAt d form bytes (settingOf d x)
+  its-pattern : (state : ℕ) → state ≡ bitAt bytes index bit → state ≡ patternAt d layout bytes (settingOf d x)
   unfolding patternAt gathered
   its-pattern state g = rw (one-bit d x l, ← i, ← j) (omega arith)
 
   its-bytes : (pattern : ℕ) (after : List ℕ) → pattern ≤ 1 → after ≡ withBit bytes index bit pattern
-      → after ≡ withPattern d form bytes (settingOf d x) pattern
+      → after ≡ withPattern d layout bytes (settingOf d x) pattern
   unfolding withPattern withBits
   its-bytes pattern after low g = let own : pattern / 2 ^ 0 % 2 ≡ pattern = omega arith in rw (one-bit d x l, ← i, ← j, own) g
 
-  stray-if : (b : Bool) → t ≡ b → strayIn d form bytes (settingOf d x) ≡ cond b index (bytesOf d form)
-  stray-if b s = q ∙ ap (λ (c : Bool). cond c index (bytesOf d form)) s
+  stray-if : (b : Bool) → t ≡ b → strayIn d layout bytes (settingOf d x) ≡ cond b index (bytesOf d layout)
+  stray-if b s = q ∙ ap (λ (c : Bool). cond c index (bytesOf d layout)) s
 
-  pub read-stray : t ≡ true → refused 6 index ≡ readPattern d form bytes x
-  read-stray s = reads-stray d form bytes x k n (number-there d x l) (settingOf d x) refl index (stray-if true s) there
+  pub read-stray : t ≡ true → refused 6 index ≡ readPattern d layout bytes x
+  read-stray s = reads-stray d layout bytes x k n (number-there d x l) (settingOf d x) refl index (stray-if true s) there
 
-  pub read-state : (state : ℕ) → t ≡ false → state ≡ bitAt bytes index bit → accepted state ≡ readPattern d form bytes x
+  pub read-state : (state : ℕ) → t ≡ false → state ≡ bitAt bytes index bit → accepted state ≡ readPattern d layout bytes x
   read-state state s g =
-      reads-clean d form bytes x k n (number-there d x l) (settingOf d x) refl (bytesOf d form) (stray-if false s)
+      reads-clean d layout bytes x k n (number-there d x l) (settingOf d x) refl (bytesOf d layout) (stray-if false s)
       state (omega (arith, n)) (its-pattern state g)
 
   module _ (pattern : ℕ) (low : pattern ≤ 1) where
     fits : ltb pattern (2 ^ bitsOf (settingOf d x)) ≡ true
     fits = rw (one-bit d x l) (lt-ltb pattern 2 (omega arith))
 
-    pub set-stray : t ≡ true → PatternGives d form bytes x pattern (refused 6 index) bytes
-    set-stray s = sets-stray d form bytes x k n (number-there d x l) (settingOf d x) refl pattern fits index (stray-if true s) there
+    pub set-stray : t ≡ true → PatternGives d layout bytes x pattern (refused 6 index) bytes
+    set-stray s = sets-stray d layout bytes x k n (number-there d x l) (settingOf d x) refl pattern fits index (stray-if true s) there
 
-    pub set-state : (after : List ℕ) → t ≡ false → after ≡ withBit bytes index bit pattern → PatternGives d form bytes x pattern (accepted tt) after
+    pub set-state : (after : List ℕ) → t ≡ false → after ≡ withBit bytes index bit pattern → PatternGives d layout bytes x pattern (accepted tt) after
     set-state after s g =
-        sets-clean d form bytes x k n (number-there d x l) (settingOf d x) refl pattern fits (bytesOf d form) (stray-if false s)
+        sets-clean d layout bytes x k n (number-there d x l) (settingOf d x) refl pattern fits (bytesOf d layout) (stray-if false s)
         after (omega (arith, n)) (its-bytes pattern after low g)
 
 -- what the operations ask first
-pub its-literal : (d : Device) (form : Bool) (size x : ℕ) (t : Bool) → t ≡ (known d && eqb size (bytesOf d form) && ltb x (start d wireAnds)) → t ≡ true
-    → (known d ≡ true) × (size ≡ bytesOf d form) × (x < start d wireAnds)
-its-literal d form size x t e h =
-    let all : (known d && eqb size (bytesOf d form) && ltb x (start d wireAnds)) ≡ true = sym e ∙ h in
+pub its-literal : (d : Device) (layout : Layout) (size x : ℕ) (t : Bool) → t ≡ (known d && eqb size (bytesOf d layout) && ltb x (start d wireAnds)) → t ≡ true
+    → (known d ≡ true) × (size ≡ bytesOf d layout) × (x < start d wireAnds)
+its-literal d layout size x t e h =
+    let all : (known d && eqb size (bytesOf d layout) && ltb x (start d wireAnds)) ≡ true = sym e ∙ h in
     let both = and-iff _ _ .0 all in
     let first = and-iff _ _ .0 (both .0) in
-    (first .0, eqb-true size (bytesOf d form) (first .1), ltb-true x (start d wireAnds) (both .1))
+    (first .0, eqb-true size (bytesOf d layout) (first .1), ltb-true x (start d wireAnds) (both .1))

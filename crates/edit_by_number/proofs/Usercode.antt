@@ -16,6 +16,8 @@ use Rattle.settings.specs.Order.{countOf, numberOf, settingOf}
 use Rattle.settings.specs.declared.GlobalField.the-variants as field
 use Rattle.settings.proofs.Numbers.{setting-again}
 use Rattle.setting_places.specs.Places.{bitsOf}
+use Rattle.setting_bits.specs.declared.Layout.{Layout}
+use Rattle.setting_bits.specs.declared.Layout.the-variants.{Image, Readout}
 use Rattle.setting_bits.specs.SettingBits.{bytesOf, patternAt, withPattern}
 use Rattle.setting_bits.proofs.Strays.{of-global, none-stray}
 use Rattle.setting_bits.proofs.Usercode.{usercode}
@@ -27,25 +29,25 @@ pub has-usercode : (d : Device) → hasSetting d usercode ≡ true
 unfolding hasSetting
 has-usercode d = lt-ltb (globalIndex (foes d) field.Usercode) (globalFields (foes d)) (omega arith)
 
-clean : (d : Device) (form : Bool) (bytes : List ℕ) → known d ≡ true → length bytes ≡ bytesOf d form → ((i : ℕ) → getD bytes i 0 < 2 ^ 8)
-    → strayIn d form bytes usercode ≡ bytesOf d form
+clean : (d : Device) (layout : Layout) (bytes : List ℕ) → known d ≡ true → length bytes ≡ bytesOf d layout → ((i : ℕ) → getD bytes i 0 < 2 ^ 8)
+    → strayIn d layout bytes usercode ≡ bytesOf d layout
 unfolding strayIn
-clean d false bytes k n small = refl
-clean d true bytes k n small =
+clean d Image bytes k n small = refl
+clean d Readout bytes k n small =
     sym (none-stray d k usercode (has-usercode d) bytes small n (of-global d k usercode (has-usercode d) field.Usercode refl)) ∙ n
 
-module _ (d : Device) (form : Bool) (bytes : List ℕ) (x count size last : ℕ) (k : known d ≡ true) (e : size ≡ bytesOf d form) (m : length bytes ≡ size)
+module _ (d : Device) (layout : Layout) (bytes : List ℕ) (x count size last : ℕ) (k : known d ≡ true) (e : size ≡ bytesOf d layout) (m : length bytes ≡ size)
     (f : count ≡ countOf d) (l : x < count) (g : last ≡ numberOf d usercode) (q : x ≡ last) (small : (i : ℕ) → getD bytes i 0 < 2 ^ 8) where
   its : usercode ≡ settingOf d x
   its = sym (ap (settingOf d) (q ∙ g) ∙ setting-again d usercode (has-usercode d))
 
-  pub reads-code : (p : ℕ) → p ≡ patternAt d form bytes usercode → accepted p ≡ readPattern d form bytes x
+  pub reads-code : (p : ℕ) → p ≡ patternAt d layout bytes usercode → accepted p ≡ readPattern d layout bytes x
   reads-code p w =
-      reads-clean d form bytes x k (m ∙ e) (omega arith) usercode its (bytesOf d form) (clean d form bytes k (m ∙ e) small) p (omega (arith, m)) w
+      reads-clean d layout bytes x k (m ∙ e) (omega arith) usercode its (bytesOf d layout) (clean d layout bytes k (m ∙ e) small) p (omega (arith, m)) w
 
-  pub sets-code : (pattern : ℕ) (after : List ℕ) → pattern < 2 ^ 32 → after ≡ withPattern d form bytes usercode pattern
-      → PatternGives d form bytes x pattern (accepted tt) after
+  pub sets-code : (pattern : ℕ) (after : List ℕ) → pattern < 2 ^ 32 → after ≡ withPattern d layout bytes usercode pattern
+      → PatternGives d layout bytes x pattern (accepted tt) after
   unfolding bitsOf
   sets-code pattern after fits w =
-      sets-clean d form bytes x k (m ∙ e) (omega arith) usercode its pattern (lt-ltb pattern (2 ^ 32) fits) (bytesOf d form)
-      (clean d form bytes k (m ∙ e) small) after (omega (arith, m)) w
+      sets-clean d layout bytes x k (m ∙ e) (omega arith) usercode its pattern (lt-ltb pattern (2 ^ 32) fits) (bytesOf d layout)
+      (clean d layout bytes k (m ∙ e) small) after (omega (arith, m)) w

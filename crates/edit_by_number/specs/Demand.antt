@@ -23,7 +23,7 @@ pub record NumberTaken (d : Device) (image : List ℕ) (number pattern : ℕ) : 
 -- what the definitions give, and the demand of it; `other` is the number of another setting that is read
 abbrev pub callsByNumber : Device → (image : List ℕ) → (number pattern other : ℕ) → Calls ℕ
 callsByNumber d image number pattern other =
-    callsBy d (λ form bytes. setPattern d form bytes number pattern) (λ form bytes. withNumbered d form bytes number pattern) (readPattern d) image number other
+    callsBy d (λ layout bytes. setPattern d layout bytes number pattern) (λ layout bytes. withNumbered d layout bytes number pattern) (readPattern d) image number other
 
 abbrev pub DemandByNumber : Device → (image : List ℕ) → (number pattern other : ℕ) → Calls ℕ → Type 0
 DemandByNumber d image number pattern other c =

@@ -18,6 +18,7 @@ use part::Device;
 use part::DoneAnswer;
 use part::NumberAnswer;
 use part::Refusal;
+use setting_bits::Layout;
 use settings::SettingNumber;
 
 // Where a literal stands, and whether its byte has a bit above its width: an image has no such bits.
@@ -27,12 +28,12 @@ struct LiteralSpot {
     stray: bool,
 }
 
-fn literal_spot(d: Device, readout: bool, bytes: &[u8], number: SettingNumber) -> LiteralSpot
-    requires { ⌜ (known d ≡ true) × (length (now bytes) ≡ bytesOf d readout) × (number .0 < start d wireAnds) ⌝ }
-    ensures { λ r. ⌜ (r .index ≡ byteOf d readout (fuseOf d (settingOf d (number .0)) 0)) × (r .bit ≡ bitIn d readout (fuseOf d (settingOf d (number .0)) 0)) × (strayIn d readout (now (bytes .entry)) (settingOf d (number .0)) ≡ cond (r .stray) (r .index) (bytesOf d readout)) ⌝ }
+fn literal_spot(d: Device, layout: Layout, bytes: &[u8], number: SettingNumber) -> LiteralSpot
+    requires { ⌜ (known d ≡ true) × (length (now bytes) ≡ bytesOf d layout) × (number .0 < start d wireAnds) ⌝ }
+    ensures { λ r. ⌜ (r .index ≡ byteOf d layout (fuseOf d (settingOf d (number .0)) 0)) × (r .bit ≡ bitIn d layout (fuseOf d (settingOf d (number .0)) 0)) × (strayIn d layout (now (bytes .entry)) (settingOf d (number .0)) ≡ cond (r .stray) (r .index) (bytesOf d layout)) ⌝ }
 {
     let place = setting_places::internal::place_of_literal(d, number);
-    let spot = setting_bits::internal::spot_at(d, readout, place);
+    let spot = setting_bits::internal::spot_at(d, layout, place);
     let index = spot.index;
     let byte = place.byte;
     let width = part::internal::width_of(byte);
@@ -40,30 +41,30 @@ fn literal_spot(d: Device, readout: bool, bytes: &[u8], number: SettingNumber) -
     LiteralSpot {
         index,
         bit: spot.bit,
-        stray: readout & (above != 0),
+        stray: setting_bits::internal::is_readout(layout) & (above != 0),
     }
 }
 
 // Whether the number is that of a literal of a known device, and the bytes have its length. Most settings are literals; the operations ask this first,
 // so that the way of a literal is compiled into each of them.
-pub fn is_literal(d: Device, readout: bool, length: usize, number: SettingNumber) -> bool
-    ensures { λ r. ⌜ r ≡ (known d && eqb length (bytesOf d readout) && ltb (number .0) (start d wireAnds)) ⌝ }
+pub fn is_literal(d: Device, layout: Layout, length: usize, number: SettingNumber) -> bool
+    ensures { λ r. ⌜ r ≡ (known d && eqb length (bytesOf d layout) && ltb (number .0) (start d wireAnds)) ⌝ }
 {
     if !part::is_known(d) {
         return false;
     }
-    if length != setting_bits::internal::bytes_of(d, readout) {
+    if length != setting_bits::internal::bytes_of(d, layout) {
         return false;
     }
     number.0 < settings::internal::start_of_wire_ands(d)
 }
 
 // The pattern of a literal, by its number. Refused: 6.
-pub fn read_literal(d: Device, readout: bool, bytes: &[u8], number: SettingNumber) -> NumberAnswer
-    requires { ⌜ (known d ≡ true) × (length (now bytes) ≡ bytesOf d readout) × (number .0 < start d wireAnds) ⌝ }
-    ensures { λ r. ⌜ numberOutcome r ≡ readPattern d readout (now (bytes .entry)) (number .0) ⌝ }
+pub fn read_literal(d: Device, layout: Layout, bytes: &[u8], number: SettingNumber) -> NumberAnswer
+    requires { ⌜ (known d ≡ true) × (length (now bytes) ≡ bytesOf d layout) × (number .0 < start d wireAnds) ⌝ }
+    ensures { λ r. ⌜ numberOutcome r ≡ readPattern d layout (now (bytes .entry)) (number .0) ⌝ }
 {
-    let spot = literal_spot(d, readout, bytes, number);
+    let spot = literal_spot(d, layout, bytes, number);
     let index = spot.index;
     if spot.stray {
         let stray = index as u32;
@@ -75,18 +76,18 @@ pub fn read_literal(d: Device, readout: bool, bytes: &[u8], number: SettingNumbe
 // A literal set to a pattern, by its number. Refused: 5, 6.
 pub fn set_literal(
     d: Device,
-    readout: bool,
+    layout: Layout,
     bytes: &mut [u8],
     number: SettingNumber,
     pattern: u32,
 ) -> DoneAnswer
-    requires { ⌜ (known d ≡ true) × (length (now bytes) ≡ bytesOf d readout) × (number .0 < start d wireAnds) ⌝ }
-    ensures { λ r. ⌜ Written (setPattern d readout (now (bytes .entry)) (number .0) pattern) (doneOutcome r) (withNumbered d readout (now (bytes .entry)) (number .0) pattern) (now (bytes .entry)) (now (bytes .exit)) ⌝ }
+    requires { ⌜ (known d ≡ true) × (length (now bytes) ≡ bytesOf d layout) × (number .0 < start d wireAnds) ⌝ }
+    ensures { λ r. ⌜ Written (setPattern d layout (now (bytes .entry)) (number .0) pattern) (doneOutcome r) (withNumbered d layout (now (bytes .entry)) (number .0) pattern) (now (bytes .entry)) (now (bytes .exit)) ⌝ }
 {
     if 1 < pattern {
         return DoneAnswer::Refused(Refusal::NoSuchValue);
     }
-    let spot = literal_spot(d, readout, bytes, number);
+    let spot = literal_spot(d, layout, bytes, number);
     let index = spot.index;
     if spot.stray {
         let stray = index as u32;
@@ -97,13 +98,13 @@ pub fn set_literal(
 }
 
 // The pattern of a setting, by its number. Refused: 1, 2, 4, 6.
-pub fn read_numbered(d: Device, readout: bool, bytes: &[u8], number: SettingNumber) -> NumberAnswer
-    ensures { λ r. ⌜ numberOutcome r ≡ readPattern d readout (now (bytes .entry)) (number .0) ⌝ }
+pub fn read_numbered(d: Device, layout: Layout, bytes: &[u8], number: SettingNumber) -> NumberAnswer
+    ensures { λ r. ⌜ numberOutcome r ≡ readPattern d layout (now (bytes .entry)) (number .0) ⌝ }
 {
     if !part::is_known(d) {
         return NumberAnswer::Refused(Refusal::UnknownDevice);
     }
-    if bytes.len() != setting_bits::internal::bytes_of(d, readout) {
+    if bytes.len() != setting_bits::internal::bytes_of(d, layout) {
         return NumberAnswer::Refused(Refusal::WrongLength);
     }
     if settings::internal::count_of(d) <= number.0 {
@@ -112,39 +113,39 @@ pub fn read_numbered(d: Device, readout: bool, bytes: &[u8], number: SettingNumb
     // copies are lent to what may be compiled apart: so the pointer and the length of `bytes` stay in registers
     if number.0 == settings::internal::number_of_usercode(d) {
         let its = bytes;
-        return NumberAnswer::Number(setting_bits::internal::usercode_at(d, readout, its));
+        return NumberAnswer::Number(setting_bits::internal::usercode_at(d, layout, its));
     }
     let again = bytes;
     let s = settings::internal::setting_of(d, number);
-    let stray = edit::internal::stray_in(d, readout, again, s);
+    let stray = edit::internal::stray_in(d, layout, again, s);
     if stray < again.len() {
         let index = stray as u32;
         return NumberAnswer::Refused(Refusal::StrayBit(index));
     }
-    NumberAnswer::Number(setting_bits::internal::pattern_at(d, readout, again, s))
+    NumberAnswer::Number(setting_bits::internal::pattern_at(d, layout, again, s))
 }
 
 // A setting set to a pattern, by its number. Refused: 1, 2, 4, 5, 6.
 pub fn set_numbered(
     d: Device,
-    readout: bool,
+    layout: Layout,
     bytes: &mut [u8],
     number: SettingNumber,
     pattern: u32,
 ) -> DoneAnswer
-    ensures { λ r. ⌜ Written (setPattern d readout (now (bytes .entry)) (number .0) pattern) (doneOutcome r) (withNumbered d readout (now (bytes .entry)) (number .0) pattern) (now (bytes .entry)) (now (bytes .exit)) ⌝ }
+    ensures { λ r. ⌜ Written (setPattern d layout (now (bytes .entry)) (number .0) pattern) (doneOutcome r) (withNumbered d layout (now (bytes .entry)) (number .0) pattern) (now (bytes .entry)) (now (bytes .exit)) ⌝ }
 {
     if !part::is_known(d) {
         return DoneAnswer::Refused(Refusal::UnknownDevice);
     }
-    if bytes.len() != setting_bits::internal::bytes_of(d, readout) {
+    if bytes.len() != setting_bits::internal::bytes_of(d, layout) {
         return DoneAnswer::Refused(Refusal::WrongLength);
     }
     if settings::internal::count_of(d) <= number.0 {
         return DoneAnswer::Refused(Refusal::NoSuchSetting);
     }
     if number.0 == settings::internal::number_of_usercode(d) {
-        setting_bits::internal::put_usercode(d, readout, bytes, pattern);
+        setting_bits::internal::put_usercode(d, layout, bytes, pattern);
         return DoneAnswer::Done;
     }
     let s = settings::internal::setting_of(d, number);
@@ -152,11 +153,11 @@ pub fn set_numbered(
     if !values::internal::fits(bits, pattern) {
         return DoneAnswer::Refused(Refusal::NoSuchValue);
     }
-    let stray = edit::internal::stray_in(d, readout, bytes, s);
+    let stray = edit::internal::stray_in(d, layout, bytes, s);
     if stray < bytes.len() {
         let index = stray as u32;
         return DoneAnswer::Refused(Refusal::StrayBit(index));
     }
-    setting_bits::internal::put_pattern(d, readout, bytes, s, pattern);
+    setting_bits::internal::put_pattern(d, layout, bytes, s, pattern);
     DoneAnswer::Done
 }

@@ -3,23 +3,24 @@
 ghost use mathlib.Core.Path.{_≡_};
 ghost use Rattle.part.specs.Answer.{numberOutcome, doneOutcome};
 ghost use Rattle.part.specs.Outcome.{Written};
-ghost use Rattle.setting_bits.specs.SettingBits.{inImage, inReadout};
+ghost use Rattle.setting_bits.specs.declared.Layout.the-variants.{Image, Readout};
 ghost use Rattle.edit_by_number.specs.ByNumber.{readPattern, setPattern, withNumbered};
 use part::Device;
 use part::DoneAnswer;
 use part::NumberAnswer;
+use setting_bits::Layout;
 use settings::SettingNumber;
 
 mod internal;
 
 // The pattern of a setting in an image, by its number. Refused: 1, 2, 4.
 pub fn read_pattern_in_image(d: Device, image: &[u8], number: SettingNumber) -> NumberAnswer
-    ensures { λ r. ⌜ numberOutcome r ≡ readPattern d inImage (now (image .entry)) (number .0) ⌝ }
+    ensures { λ r. ⌜ numberOutcome r ≡ readPattern d Image (now (image .entry)) (number .0) ⌝ }
 {
-    if internal::is_literal(d, false, image.len(), number) {
-        return internal::read_literal(d, false, image, number);
+    if internal::is_literal(d, Layout::Image, image.len(), number) {
+        return internal::read_literal(d, Layout::Image, image, number);
     }
-    internal::read_numbered(d, false, image, number)
+    internal::read_numbered(d, Layout::Image, image, number)
 }
 
 // A setting set to a pattern in an image, by its number. Refused: 1, 2, 4, 5.
@@ -29,22 +30,22 @@ pub fn set_pattern_in_image(
     number: SettingNumber,
     pattern: u32,
 ) -> DoneAnswer
-    ensures { λ r. ⌜ Written (setPattern d inImage (now (image .entry)) (number .0) pattern) (doneOutcome r) (withNumbered d inImage (now (image .entry)) (number .0) pattern) (now (image .entry)) (now (image .exit)) ⌝ }
+    ensures { λ r. ⌜ Written (setPattern d Image (now (image .entry)) (number .0) pattern) (doneOutcome r) (withNumbered d Image (now (image .entry)) (number .0) pattern) (now (image .entry)) (now (image .exit)) ⌝ }
 {
-    if internal::is_literal(d, false, image.len(), number) {
-        return internal::set_literal(d, false, image, number, pattern);
+    if internal::is_literal(d, Layout::Image, image.len(), number) {
+        return internal::set_literal(d, Layout::Image, image, number, pattern);
     }
-    internal::set_numbered(d, false, image, number, pattern)
+    internal::set_numbered(d, Layout::Image, image, number, pattern)
 }
 
 // The pattern of a setting in a readout, by its number. Refused: 1, 2, 4, 6.
 pub fn read_pattern_in_readout(d: Device, readout: &[u8], number: SettingNumber) -> NumberAnswer
-    ensures { λ r. ⌜ numberOutcome r ≡ readPattern d inReadout (now (readout .entry)) (number .0) ⌝ }
+    ensures { λ r. ⌜ numberOutcome r ≡ readPattern d Readout (now (readout .entry)) (number .0) ⌝ }
 {
-    if internal::is_literal(d, true, readout.len(), number) {
-        return internal::read_literal(d, true, readout, number);
+    if internal::is_literal(d, Layout::Readout, readout.len(), number) {
+        return internal::read_literal(d, Layout::Readout, readout, number);
     }
-    internal::read_numbered(d, true, readout, number)
+    internal::read_numbered(d, Layout::Readout, readout, number)
 }
 
 // A setting set to a pattern in a readout, by its number. Refused: 1, 2, 4, 5, 6.
@@ -54,10 +55,10 @@ pub fn set_pattern_in_readout(
     number: SettingNumber,
     pattern: u32,
 ) -> DoneAnswer
-    ensures { λ r. ⌜ Written (setPattern d inReadout (now (readout .entry)) (number .0) pattern) (doneOutcome r) (withNumbered d inReadout (now (readout .entry)) (number .0) pattern) (now (readout .entry)) (now (readout .exit)) ⌝ }
+    ensures { λ r. ⌜ Written (setPattern d Readout (now (readout .entry)) (number .0) pattern) (doneOutcome r) (withNumbered d Readout (now (readout .entry)) (number .0) pattern) (now (readout .entry)) (now (readout .exit)) ⌝ }
 {
-    if internal::is_literal(d, true, readout.len(), number) {
-        return internal::set_literal(d, true, readout, number, pattern);
+    if internal::is_literal(d, Layout::Readout, readout.len(), number) {
+        return internal::set_literal(d, Layout::Readout, readout, number, pattern);
     }
-    internal::set_numbered(d, true, readout, number, pattern)
+    internal::set_numbered(d, Layout::Readout, readout, number, pattern)
 }

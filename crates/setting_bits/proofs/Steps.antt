@@ -30,6 +30,8 @@ use Rattle.setting_places.proofs.Places.{has-place}
 use Rattle.setting_values.specs.Kinds.{kindOf}
 use Rattle.setting_values.proofs.Widths.{kind-bits}
 use Rattle.values.proofs.Laws as values
+use Rattle.setting_bits.specs.declared.Layout.{Layout}
+use Rattle.setting_bits.specs.declared.Layout.the-variants.{Image, Readout}
 use Rattle.setting_bits.specs.SettingBits.{bytesOf, byteOf, bitIn, stateOf, strayAmong}
 use Rattle.setting_bits.proofs.Edits.{fuse-below}
 
@@ -40,10 +42,10 @@ least d main subarea k =
     by-count (λ n. 2 ≤ n) (omega arith) (omega arith) (omega arith) (omega arith) (omega arith) (omega arith) (d .blocks) (known-count d k) in
     mul-le-mul two (omega (arith, mul-le-mul-right subarea two))
 
-pub bytes-between : (d : Device) (form : Bool) → known d ≡ true → (2268 ≤ bytesOf d form) × (bytesOf d form ≤ 40320)
+pub bytes-between : (d : Device) (layout : Layout) → known d ≡ true → (2268 ≤ bytesOf d layout) × (bytesOf d layout ≤ 40320)
 unfolding readoutBytes fuseCount
-bytes-between d false k = (omega (arith, least d 7776 648 k, image-whole d k), omega (arith, fuses-small d k, image-whole d k))
-bytes-between d true k = (omega (arith, least d 1080 90 k), in-device-small d 1080 90 k)
+bytes-between d Image k = (omega (arith, least d 7776 648 k, image-whole d k), omega (arith, fuses-small d k, image-whole d k))
+bytes-between d Readout k = (omega (arith, least d 1080 90 k), in-device-small d 1080 90 k)
 
 -- a setting has at most 32 bits
 pub bits-few : (d : Device) (s : Setting) → hasSetting d s ≡ true → bitsOf s ≤ 32
@@ -64,31 +66,31 @@ module _ (d : Device) (k : known d ≡ true) (s : Setting) (h : hasSetting d s �
   its-byte = and-iff _ _ .0 (has-place d s b k h l) .0
 
   -- the bit of a byte is below 8
-  pub bit-small : (form : Bool) → bitIn d form (fuseOf d s b) < 8
-  bit-small false = omega arith
-  bit-small true = omega (arith, lying d (fuseOf d s b) (fuse-below d k s h b l) .bit-below, width-small (byteOfIndex d (byteOf d true (fuseOf d s b))))
+  pub bit-small : (layout : Layout) → bitIn d layout (fuseOf d s b) < 8
+  bit-small Image = omega arith
+  bit-small Readout = omega (arith, lying d (fuseOf d s b) (fuse-below d k s h b l) .bit-below, width-small (byteOfIndex d (byteOf d Readout (fuseOf d s b))))
 
 -- one more bit read: a state is 0 or 1, and the bits so far are below 2^bit
-abbrev pub bitsRead : Device → Bool → List ℕ → Setting → ℕ → ℕ
-bitsRead d form bytes s w = gathered (λ b. stateOf d form bytes (fuseOf d s b)) w
+abbrev pub bitsRead : Device → Layout → List ℕ → Setting → ℕ → ℕ
+bitsRead d layout bytes s w = gathered (λ b. stateOf d layout bytes (fuseOf d s b)) w
 
-pub state-small : (d : Device) (form : Bool) (bytes : List ℕ) (f : ℕ) → stateOf d form bytes f < 2
+pub state-small : (d : Device) (layout : Layout) (bytes : List ℕ) (f : ℕ) → stateOf d layout bytes f < 2
 unfolding bitAt
-state-small d form bytes f = omega arith
+state-small d layout bytes f = omega arith
 
-pub read-more : (d : Device) (form : Bool) (bytes : List ℕ) (s : Setting) (pattern state bit : ℕ) → bit < 32
-    → pattern ≡ bitsRead d form bytes s bit → state ≡ stateOf d form bytes (fuseOf d s bit)
-    → (pattern + state * 2 ^ bit % 2 ^ 32 ≡ bitsRead d form bytes s (bit + 1)) × (pattern + state * 2 ^ bit % 2 ^ 32 < 2 ^ 32)
+pub read-more : (d : Device) (layout : Layout) (bytes : List ℕ) (s : Setting) (pattern state bit : ℕ) → bit < 32
+    → pattern ≡ bitsRead d layout bytes s bit → state ≡ stateOf d layout bytes (fuseOf d s bit)
+    → (pattern + state * 2 ^ bit % 2 ^ 32 ≡ bitsRead d layout bytes s (bit + 1)) × (pattern + state * 2 ^ bit % 2 ^ 32 < 2 ^ 32)
 unfolding gathered
-read-more d form bytes s pattern state bit l e g =
-    let small = gathered-small (λ b. stateOf d form bytes (fuseOf d s b)) (λ b. state-small d form bytes (fuseOf d s b)) in
-    let one : state < 2 ^ 1 = rw g (state-small d form bytes (fuseOf d s bit)) in
+read-more d layout bytes s pattern state bit l e g =
+    let small = gathered-small (λ b. stateOf d layout bytes (fuseOf d s b)) (λ b. state-small d layout bytes (fuseOf d s b)) in
+    let one : state < 2 ^ 1 = rw g (state-small d layout bytes (fuseOf d s bit)) in
     let exact : state * 2 ^ bit % 2 ^ 32 ≡ state * 2 ^ bit = shl-exact 1 bit 32 one (omega arith) in
     let next : bit + 1 ≡ suc bit = omega arith in
-    let sum : pattern + state * 2 ^ bit ≡ bitsRead d form bytes s (suc bit) = ap₂ (λ (x y : ℕ). x + y * 2 ^ bit) e g in
+    let sum : pattern + state * 2 ^ bit ≡ bitsRead d layout bytes s (suc bit) = ap₂ (λ (x y : ℕ). x + y * 2 ^ bit) e g in
     let up : suc bit ≤ 32 = omega arith in
     let most : 2 ^ suc bit ≤ 2 ^ 32 = pow-mono up in
-    let below : bitsRead d form bytes s (suc bit) < 2 ^ suc bit = small (suc bit) in
+    let below : bitsRead d layout bytes s (suc bit) < 2 ^ suc bit = small (suc bit) in
     rw (exact, next) (sum, rw sum (omega arith))
 
 -- one more byte looked at
@@ -100,7 +102,7 @@ above-iff x w = compared x (2 ^ w) (λ less. rw (div-eq-of-lt less, lt-leb (2 ^ 
 
 module _ (d : Device) (k : known d ≡ true) (readout : List ℕ) (s : Setting) (h : hasSetting d s ≡ true) (b : ℕ) (l : b < bitsOf s)
     (p : Place) (e : p ≡ placeOf s b) (index : ℕ) (g : index ≡ indexOfByte d (p .byte)) where
-  pub its-index : index ≡ byteOf d true (fuseOf d s b)
+  pub its-index : index ≡ byteOf d Readout (fuseOf d s b)
   its-index = g ∙ ap (λ (q : Place). indexOfByte d (q .byte)) (e ∙ sym (place-again d k s h b l))
 
   pub its-width : widthOf (p .byte) ≡ widthAt d index
@@ -111,7 +113,7 @@ module _ (d : Device) (k : known d ≡ true) (readout : List ℕ) (s : Setting) 
   -- the code's test of a byte is the definition's
   pub its-test : (above lowest w : ℕ) → w ≡ widthOf (p .byte) → above ≡ getD readout index 0 / 2 ^ w → lowest ≡ strayAmong d readout s b
       → (not (eqb above 0) && ltb index lowest)
-      ≡ (strayAt d readout (byteOf d true (fuseOf d s b)) && ltb (byteOf d true (fuseOf d s b)) (strayAmong d readout s b))
+      ≡ (strayAt d readout (byteOf d Readout (fuseOf d s b)) && ltb (byteOf d Readout (fuseOf d s b)) (strayAmong d readout s b))
   unfolding strayAt
   its-test above lowest w q r m =
       let width : w ≡ widthAt d index = q ∙ its-width in

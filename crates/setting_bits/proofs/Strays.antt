@@ -26,6 +26,7 @@ use Rattle.settings.specs.declared.Setting.the-variants.{Macrocell, Block, Glob
 use Rattle.setting_places.specs.Places.{main, blockPlace, globalPlace, placeOf, bitsOf, fuseOf}
 use Rattle.setting_places.proofs.Places.{has-place}
 use Rattle.setting_bits.specs.SettingBits.{byteOf, strayAmong, strayOf}
+use Rattle.setting_bits.specs.declared.Layout.the-variants.{Readout}
 use Rattle.setting_bits.proofs.Edits.{inside, fuse-below, clean-through}
 use Rattle.setting_bits.proofs.Steps.{place-again, its-index, its-width, its-test}
 
@@ -81,17 +82,17 @@ module _ (d : Device) (k : known d ≡ true) (s : Setting) (h : hasSetting d s �
       e
       ∙ sym (clean-through d readout s (bitsOf s) (λ b l.
       let index = indexOfByte d (placeOf s b .byte) in
-      let eight : widthAt d (byteOf d true (fuseOf d s b)) ≡ 8 =
+      let eight : widthAt d (byteOf d Readout (fuseOf d s b)) ≡ 8 =
       ap (widthAt d) (sym (its-index d k readout s h b l (placeOf s b) refl index refl)) ∙ sym (its-width d k readout s h b l (placeOf s b) refl index refl) ∙ wide b l in
-      rw eight (small (byteOf d true (fuseOf d s b)))))
+      rw eight (small (byteOf d Readout (fuseOf d s b)))))
 
   -- of a setting of one bit, its byte is looked at
-  pub one-stray : bitsOf s ≡ 1 → (readout : List ℕ) (p : Place) → p ≡ placeOf s 0 → (index w above : ℕ) → index ≡ byteOf d true (fuseOf d s 0)
+  pub one-stray : bitsOf s ≡ 1 → (readout : List ℕ) (p : Place) → p ≡ placeOf s 0 → (index w above : ℕ) → index ≡ byteOf d Readout (fuseOf d s 0)
       → w ≡ widthOf (p .byte) → above ≡ getD readout index 0 / 2 ^ w → strayOf d readout s ≡ cond (not (eqb above 0)) index (readoutBytes d)
   unfolding strayAmong
   one-stray one readout p e index w above i v a =
       let there : 0 < bitsOf s = omega arith in
       let at : index ≡ indexOfByte d (p .byte) = i ∙ ap (λ (q : Place). indexOfByte d (q .byte)) (place-again d k s h 0 there ∙ sym e) in
-      let below : index < readoutBytes d = rw i (inside d true (fuseOf d s 0) k (fuse-below d k s h 0 there)) in
+      let below : index < readoutBytes d = rw i (inside d Readout (fuseOf d s 0) k (fuse-below d k s h 0 there)) in
       let test = its-test d k readout s h 0 there p e index at above (readoutBytes d) w v a refl in
       rw (one, ← test, ← i, lt-ltb index (readoutBytes d) below, and-true (not (eqb above 0)))

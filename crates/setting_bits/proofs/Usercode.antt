@@ -25,6 +25,8 @@ use Rattle.settings.specs.declared.Setting.the-variants.{Literal, WireAnd, Macr
 use Rattle.settings.proofs.Numbers.{has-macrocell, macrocell-at}
 use Rattle.setting_places.specs.Places.{placeOf, rows, bitsOf, fuseOf}
 use Rattle.setting_places.proofs.Places.{rows-few}
+use Rattle.setting_bits.specs.declared.Layout.{Layout}
+use Rattle.setting_bits.specs.declared.Layout.the-variants.{Image, Readout}
 use Rattle.setting_bits.specs.SettingBits.{bytesOf, byteOf, bitIn, stateOf, withState, patternAt, withBits, withPattern}
 use Rattle.setting_bits.proofs.Edits.{inside, fuse-below}
 use Rattle.setting_bits.proofs.Steps.{place-again, bitsRead, state-small}
@@ -54,11 +56,11 @@ module _ (d : Device) where
     pub has-usercode : hasSetting d usercode ≡ true
     has-usercode = rw (the-usercode s h (sym e ∙ q)) at h
 
-    pub its-pattern : (form : Bool) (bytes : List ℕ) → patternAt d form bytes usercode ≡ patternAt d form bytes s
-    its-pattern form bytes = rw (the-usercode s h (sym e ∙ q))
+    pub its-pattern : (layout : Layout) (bytes : List ℕ) → patternAt d layout bytes usercode ≡ patternAt d layout bytes s
+    its-pattern layout bytes = rw (the-usercode s h (sym e ∙ q))
 
-    pub its-bytes : (form : Bool) (bytes : List ℕ) (pattern : ℕ) → withPattern d form bytes usercode pattern ≡ withPattern d form bytes s pattern
-    its-bytes form bytes pattern = rw (the-usercode s h (sym e ∙ q))
+    pub its-bytes : (layout : Layout) (bytes : List ℕ) (pattern : ℕ) → withPattern d layout bytes usercode pattern ≡ withPattern d layout bytes s pattern
+    its-bytes layout bytes pattern = rw (the-usercode s h (sym e ∙ q))
 
 -- the row and the column of a pair
 abbrev pub rowOf : ℕ → ℕ
@@ -77,14 +79,14 @@ unfolding bitsOf
 in-usercode b l = l
 
 -- the two fuses of a pair with the states that a pattern needs: a pair more in place
-abbrev pub bothStates : Device → Bool → List ℕ → (pattern pair : ℕ) → List ℕ
-bothStates d form bytes pattern pair =
-    withState d form (withState d form bytes (fuseOf d usercode (2 * pair)) (bitOf pattern (2 * pair))) (fuseOf d usercode (2 * pair + 1)) (bitOf pattern (2 * pair + 1))
+abbrev pub bothStates : Device → Layout → List ℕ → (pattern pair : ℕ) → List ℕ
+bothStates d layout bytes pattern pair =
+    withState d layout (withState d layout bytes (fuseOf d usercode (2 * pair)) (bitOf pattern (2 * pair))) (fuseOf d usercode (2 * pair + 1)) (bitOf pattern (2 * pair + 1))
 
-pub two-put : (d : Device) (form : Bool) (before bytes after : List ℕ) (pattern pair : ℕ) → bytes ≡ withBits d form before usercode pattern (2 * pair)
-    → after ≡ bothStates d form bytes pattern pair → after ≡ withBits d form before usercode pattern (2 * (pair + 1))
+pub two-put : (d : Device) (layout : Layout) (before bytes after : List ℕ) (pattern pair : ℕ) → bytes ≡ withBits d layout before usercode pattern (2 * pair)
+    → after ≡ bothStates d layout bytes pattern pair → after ≡ withBits d layout before usercode pattern (2 * (pair + 1))
 unfolding withBits
-two-put d form before bytes after pattern pair e g =
+two-put d layout before bytes after pattern pair e g =
     let one : 2 * pair + 1 ≡ suc (2 * pair) = omega arith in
     let next : 2 * (pair + 1) ≡ suc (suc (2 * pair)) = omega arith in
     rw (next, ← one, ← e) g
@@ -97,18 +99,18 @@ two-more f w =
     rw (double, add-mul (f w) (2 * f (suc w)) (2 ^ w), ← mul-assoc (f (suc w)) 2 (2 ^ w), mul-comm (f (suc w)) 2) (omega arith)
 
 module _ (d : Device) (k : known d ≡ true) (h : hasSetting d usercode ≡ true) where
-  its-index : (b : ℕ) → b < 32 → byteOf d true (fuseOf d usercode b) ≡ (7 - b / 16) * 15 + (7 - b % 16 / 2)
+  its-index : (b : ℕ) → b < 32 → byteOf d Readout (fuseOf d usercode b) ≡ (7 - b / 16) * 15 + (7 - b % 16 / 2)
   unfolding placeOf
   its-index b l = ap (λ (p : Place). indexOfByte d (p .byte)) (place-again d k usercode h b (in-usercode b l)) ∙ omega arith
 
-  its-bit : (b : ℕ) → b < 32 → bitIn d true (fuseOf d usercode b) ≡ 6 + b % 2
+  its-bit : (b : ℕ) → b < 32 → bitIn d Readout (fuseOf d usercode b) ≡ 6 + b % 2
   unfolding placeOf
   its-bit b l = ap (λ (p : Place). p .bit) (place-again d k usercode h b (in-usercode b l))
 
   module _ (pair : ℕ) (l : pair < 16) where
     -- the lower bit of a pair ..
-    pub in-readout : (rowOf pair * 15 + columnOf pair ≡ byteOf d true (fuseOf d usercode (2 * pair)))
-        × (6 ≡ bitIn d true (fuseOf d usercode (2 * pair)))
+    pub in-readout : (rowOf pair * 15 + columnOf pair ≡ byteOf d Readout (fuseOf d usercode (2 * pair)))
+        × (6 ≡ bitIn d Readout (fuseOf d usercode (2 * pair)))
     in-readout =
         let twice : 2 * pair < 32 = omega arith in
         (rw (its-index (2 * pair) twice) (omega arith), rw (its-bit (2 * pair) twice) (omega arith))
@@ -117,9 +119,9 @@ module _ (d : Device) (k : known d ≡ true) (h : hasSetting d usercode ≡ true
     in-image = rw (its-fuse d (2 * pair)) (omega arith)
 
     -- .. is not its byte's last ..
-    low : (form : Bool) → bitIn d form (fuseOf d usercode (2 * pair)) < 7
-    low false = rw (its-fuse d (2 * pair)) (omega arith)
-    low true = omega (arith, in-readout)
+    low : (layout : Layout) → bitIn d layout (fuseOf d usercode (2 * pair)) < 7
+    low Image = rw (its-fuse d (2 * pair)) (omega arith)
+    low Readout = omega (arith, in-readout)
 
     next-fuse : fuseOf d usercode (2 * pair + 1) ≡ fuseOf d usercode (2 * pair) + 1
     next-fuse =
@@ -128,51 +130,51 @@ module _ (d : Device) (k : known d ≡ true) (h : hasSetting d usercode ≡ true
         rw (its-fuse d (2 * pair), its-fuse d (2 * pair + 1), row, column) (omega arith)
 
     -- .. and the upper one is the next bit of the same byte
-    pub upper : (form : Bool)
-        → (byteOf d form (fuseOf d usercode (2 * pair + 1)) ≡ byteOf d form (fuseOf d usercode (2 * pair)))
-        × (bitIn d form (fuseOf d usercode (2 * pair + 1)) ≡ bitIn d form (fuseOf d usercode (2 * pair)) + 1)
-    upper false = rw next-fuse (omega (arith, low false), omega (arith, low false))
-    upper true =
+    pub upper : (layout : Layout)
+        → (byteOf d layout (fuseOf d usercode (2 * pair + 1)) ≡ byteOf d layout (fuseOf d usercode (2 * pair)))
+        × (bitIn d layout (fuseOf d usercode (2 * pair + 1)) ≡ bitIn d layout (fuseOf d usercode (2 * pair)) + 1)
+    upper Image = rw next-fuse (omega (arith, low Image), omega (arith, low Image))
+    upper Readout =
         let twice : 2 * pair < 32 = omega arith in
         let next : 2 * pair + 1 < 32 = omega arith in
         rw (its-index (2 * pair) twice, its-index (2 * pair + 1) next, its-bit (2 * pair) twice, its-bit (2 * pair + 1) next) (omega arith, omega arith)
 
     -- the byte is there
-    module _ (form : Bool) (index bit : ℕ) (x : index ≡ byteOf d form (fuseOf d usercode (2 * pair))) (y : bit ≡ bitIn d form (fuseOf d usercode (2 * pair))) where
-      pub spot-in : (bytes : List ℕ) → length bytes ≡ bytesOf d form → index < length bytes
-      spot-in bytes e = rw (e, x) (inside d form (fuseOf d usercode (2 * pair)) k (fuse-below d k usercode h (2 * pair) (in-usercode (2 * pair) (omega arith))))
+    module _ (layout : Layout) (index bit : ℕ) (x : index ≡ byteOf d layout (fuseOf d usercode (2 * pair))) (y : bit ≡ bitIn d layout (fuseOf d usercode (2 * pair))) where
+      pub spot-in : (bytes : List ℕ) → length bytes ≡ bytesOf d layout → index < length bytes
+      spot-in bytes e = rw (e, x) (inside d layout (fuseOf d usercode (2 * pair)) k (fuse-below d k usercode h (2 * pair) (in-usercode (2 * pair) (omega arith))))
 
       pub spot-low : bit < 7
-      spot-low = rw y (low form)
+      spot-low = rw y (low layout)
 
       -- a pair more read
-      pub pair-more : (bytes : List ℕ) (pattern states : ℕ) → pattern ≡ bitsRead d form bytes usercode (2 * pair)
+      pub pair-more : (bytes : List ℕ) (pattern states : ℕ) → pattern ≡ bitsRead d layout bytes usercode (2 * pair)
           → states ≡ bitAt bytes index bit + 2 * bitAt bytes index (bit + 1)
-          → (pattern + states * 2 ^ (2 * pair) % 2 ^ 32 ≡ bitsRead d form bytes usercode (2 * (pair + 1)))
+          → (pattern + states * 2 ^ (2 * pair) % 2 ^ 32 ≡ bitsRead d layout bytes usercode (2 * (pair + 1)))
           × (pattern + states * 2 ^ (2 * pair) % 2 ^ 32 < 2 ^ 32)
       pair-more bytes pattern states e g =
-          let state : ℕ → ℕ = λ b. stateOf d form bytes (fuseOf d usercode b) in
+          let state : ℕ → ℕ = λ b. stateOf d layout bytes (fuseOf d usercode b) in
           let one : 2 * pair + 1 ≡ suc (2 * pair) = omega arith in
           let next : 2 * (pair + 1) ≡ suc (suc (2 * pair)) = omega arith in
           let lower : bitAt bytes index bit ≡ state (2 * pair) = ap₂ (bitAt bytes) x y in
           let higher : bitAt bytes index (bit + 1) ≡ state (2 * pair + 1) =
-          ap₂ (bitAt bytes) (x ∙ sym (upper form .0)) (ap (λ (n : ℕ). n + 1) y ∙ sym (upper form .1)) in
+          ap₂ (bitAt bytes) (x ∙ sym (upper layout .0)) (ap (λ (n : ℕ). n + 1) y ∙ sym (upper layout .1)) in
           let both : states ≡ state (2 * pair) + 2 * state (suc (2 * pair)) = g ∙ ap₂ (λ (m n : ℕ). m + 2 * n) lower (higher ∙ ap state one) in
-          let small : (b : ℕ) → state b < 2 = λ b. state-small d form bytes (fuseOf d usercode b) in
+          let small : (b : ℕ) → state b < 2 = λ b. state-small d layout bytes (fuseOf d usercode b) in
           let few : states < 2 ^ 2 = omega (arith, small (2 * pair), small (suc (2 * pair))) in
           let exact : states * 2 ^ (2 * pair) % 2 ^ 32 ≡ states * 2 ^ (2 * pair) = shl-exact 2 (2 * pair) 32 few (omega arith) in
-          let sum : pattern + states * 2 ^ (2 * pair) ≡ bitsRead d form bytes usercode (suc (suc (2 * pair))) =
+          let sum : pattern + states * 2 ^ (2 * pair) ≡ bitsRead d layout bytes usercode (suc (suc (2 * pair))) =
           ap₂ (λ (m n : ℕ). m + n * 2 ^ (2 * pair)) e both ∙ sym (two-more state (2 * pair)) in
           let up : suc (suc (2 * pair)) ≤ 32 = omega arith in
           let most : 2 ^ suc (suc (2 * pair)) ≤ 2 ^ 32 = pow-mono up in
-          let below : bitsRead d form bytes usercode (suc (suc (2 * pair))) < 2 ^ suc (suc (2 * pair)) = gathered-small state small (suc (suc (2 * pair))) in
+          let below : bitsRead d layout bytes usercode (suc (suc (2 * pair))) < 2 ^ suc (suc (2 * pair)) = gathered-small state small (suc (suc (2 * pair))) in
           rw (exact, next) (sum, rw sum (omega arith))
 
       -- a pair put in place
       pub pair-put : (bytes after : List ℕ) (pattern : ℕ)
           → after ≡ withBit (withBit bytes index bit (pattern / 2 ^ (2 * pair) % 4 % 2)) index (bit + 1) (pattern / 2 ^ (2 * pair) % 4 / 2)
-          → after ≡ bothStates d form bytes pattern pair
+          → after ≡ bothStates d layout bytes pattern pair
       pair-put bytes after pattern g =
           let lower : pattern / 2 ^ (2 * pair) % 4 % 2 ≡ bitOf pattern (2 * pair) = omega arith in
           let higher : pattern / 2 ^ (2 * pair) % 4 / 2 ≡ bitOf pattern (2 * pair + 1) = rw (next-bit pattern (2 * pair)) (field (pattern / 2 ^ (2 * pair)) 1 1) in
-          rw (upper form .0, upper form .1, ← x, ← y, ← lower, ← higher) g
+          rw (upper layout .0, upper layout .1, ← x, ← y, ← lower, ← higher) g

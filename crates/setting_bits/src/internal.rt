@@ -11,10 +11,11 @@ ghost use Rattle.settings.specs.Settings.{hasSetting};
 ghost use Rattle.settings.specs.declared.GlobalField.the-variants.{Usercode};
 ghost use Rattle.settings.specs.declared.Setting.the-variants.{Global};
 ghost use Rattle.setting_places.specs.Places.{placeOf, bitsOf, fuseOf};
-ghost use Rattle.setting_bits.specs.SettingBits.{bytesOf, byteOf, bitIn, withState, patternAt, withPattern, strayOf};
+ghost use Rattle.setting_bits.specs.SettingBits.{bytesOf, isReadout, byteOf, bitIn, withState, patternAt, withPattern, strayOf};
 use part::Device;
 use part::Place;
 use settings::Setting;
+use super::Layout;
 
 // A byte of an image or a readout, and one of its bits.
 pub struct Spot {
@@ -23,74 +24,88 @@ pub struct Spot {
 }
 
 // The exact length of an image or a readout.
-pub fn bytes_of(d: Device, readout: bool) -> usize
+pub fn bytes_of(d: Device, layout: Layout) -> usize
     requires { ⌜ known d ≡ true ⌝ }
-    ensures { λ r. ⌜ r ≡ bytesOf d readout ⌝ }
+    ensures { λ r. ⌜ r ≡ bytesOf d layout ⌝ }
 {
-    if readout {
-        return part::internal::readout_bytes(d) as usize;
+    match layout {
+        Layout::Image => part::internal::image_bytes(d) as usize,
+        Layout::Readout => part::internal::readout_bytes(d) as usize,
     }
-    part::internal::image_bytes(d) as usize
+}
+
+// Whether bytes of a layout are a readout's, which may have bits above their width.
+pub fn is_readout(layout: Layout) -> bool
+    ensures { λ r. ⌜ r ≡ isReadout layout ⌝ }
+{
+    match layout {
+        Layout::Image => false,
+        Layout::Readout => true,
+    }
 }
 
 // Where the fuse at a place stands.
-pub fn spot_at(d: Device, readout: bool, place: Place) -> Spot
+pub fn spot_at(d: Device, layout: Layout, place: Place) -> Spot
     requires { ⌜ (known d ≡ true) × (hasPlace d place ≡ true) ⌝ }
-    ensures { λ r. ⌜ (r .index ≡ byteOf d readout (fuseOfPlace d place)) × (r .bit ≡ bitIn d readout (fuseOfPlace d place)) ⌝ }
+    ensures { λ r. ⌜ (r .index ≡ byteOf d layout (fuseOfPlace d place)) × (r .bit ≡ bitIn d layout (fuseOfPlace d place)) ⌝ }
 {
     let byte = place.byte;
-    if readout {
-        return Spot {
+    match layout {
+        Layout::Image => {
+            let first = part::internal::first_fuse(d, byte);
+            let fuse = first.0 + place.bit;
+            Spot {
+                index: (fuse / 8) as usize,
+                bit: fuse % 8,
+            }
+        }
+        Layout::Readout => Spot {
             index: part::internal::index_of_byte(d, byte) as usize,
             bit: place.bit,
-        };
-    }
-    let first = part::internal::first_fuse(d, byte);
-    let fuse = first.0 + place.bit;
-    Spot {
-        index: (fuse / 8) as usize,
-        bit: fuse % 8,
+        },
     }
 }
 
 // Where a bit of a setting stands.
-fn spot_of(d: Device, readout: bool, s: Setting, bit: u32) -> Spot
+fn spot_of(d: Device, layout: Layout, s: Setting, bit: u32) -> Spot
     requires { ⌜ (known d ≡ true) × (hasSetting d s ≡ true) × (bit < bitsOf s) ⌝ }
-    ensures { λ r. ⌜ (r .index ≡ byteOf d readout (fuseOf d s bit)) × (r .bit ≡ bitIn d readout (fuseOf d s bit)) ⌝ }
+    ensures { λ r. ⌜ (r .index ≡ byteOf d layout (fuseOf d s bit)) × (r .bit ≡ bitIn d layout (fuseOf d s bit)) ⌝ }
 {
     let place = setting_places::internal::place_of(d, s, bit);
-    spot_at(d, readout, place)
+    spot_at(d, layout, place)
 }
 
 // Where bits 2k and 2k+1 of USERCODE stand: bits 6 and 7 of a byte of block 0, rows 6 and 7. No device has that byte elsewhere.
-fn usercode_spot(d: Device, readout: bool, pair: u32) -> Spot
+fn usercode_spot(d: Device, layout: Layout, pair: u32) -> Spot
     requires { ⌜ (known d ≡ true) × (hasSetting d (Global Usercode) ≡ true) × (pair < 16) ⌝ }
-    ensures { λ r. ⌜ (r .index ≡ byteOf d readout (fuseOf d (Global Usercode) (2 * pair))) × (r .bit ≡ bitIn d readout (fuseOf d (Global Usercode) (2 * pair))) ⌝ }
+    ensures { λ r. ⌜ (r .index ≡ byteOf d layout (fuseOf d (Global Usercode) (2 * pair))) × (r .bit ≡ bitIn d layout (fuseOf d (Global Usercode) (2 * pair))) ⌝ }
 {
     let row = 7 - pair / 8;
     let column = 7 - pair % 8;
-    if readout {
-        return Spot {
+    match layout {
+        Layout::Image => {
+            let fuse = row * 108 + column * 8 + 6;
+            Spot {
+                index: (fuse / 8) as usize,
+                bit: fuse % 8,
+            }
+        }
+        Layout::Readout => Spot {
             index: (row * 15 + column) as usize,
             bit: 6,
-        };
-    }
-    let fuse = row * 108 + column * 8 + 6;
-    Spot {
-        index: (fuse / 8) as usize,
-        bit: fuse % 8,
+        },
     }
 }
 
 // The states of USERCODE's fuses, two at a time.
-pub fn usercode_at(d: Device, readout: bool, bytes: &[u8]) -> u32
-    requires { ⌜ (known d ≡ true) × (hasSetting d (Global Usercode) ≡ true) × (length (now bytes) ≡ bytesOf d readout) ⌝ }
-    ensures { λ r. ⌜ r ≡ patternAt d readout (now (bytes .entry)) (Global Usercode) ⌝ }
+pub fn usercode_at(d: Device, layout: Layout, bytes: &[u8]) -> u32
+    requires { ⌜ (known d ≡ true) × (hasSetting d (Global Usercode) ≡ true) × (length (now bytes) ≡ bytesOf d layout) ⌝ }
+    ensures { λ r. ⌜ r ≡ patternAt d layout (now (bytes .entry)) (Global Usercode) ⌝ }
 {
     let mut pattern: u32 = 0;
     let mut pair: u32 = 0;
     while pair < 16 {
-        let spot = usercode_spot(d, readout, pair);
+        let spot = usercode_spot(d, layout, pair);
         let states = image::internal::pair_of(bytes, spot.index, spot.bit);
         pattern += states << (2 * pair);
         pair += 1;
@@ -99,45 +114,45 @@ pub fn usercode_at(d: Device, readout: bool, bytes: &[u8]) -> u32
 }
 
 // Bits 2k and 2k+1 of USERCODE put in place.
-fn put_usercode_pair(d: Device, readout: bool, bytes: &mut [u8], pattern: u32, pair: u32)
-    requires { ⌜ (known d ≡ true) × (hasSetting d (Global Usercode) ≡ true) × (length (now bytes) ≡ bytesOf d readout) × (pair < 16) ⌝ }
-    ensures { λ _. ⌜ now (bytes .exit) ≡ withState d readout (withState d readout (now (bytes .entry)) (fuseOf d (Global Usercode) (2 * pair)) (bitOf pattern (2 * pair))) (fuseOf d (Global Usercode) (2 * pair + 1)) (bitOf pattern (2 * pair + 1)) ⌝ }
+fn put_usercode_pair(d: Device, layout: Layout, bytes: &mut [u8], pattern: u32, pair: u32)
+    requires { ⌜ (known d ≡ true) × (hasSetting d (Global Usercode) ≡ true) × (length (now bytes) ≡ bytesOf d layout) × (pair < 16) ⌝ }
+    ensures { λ _. ⌜ now (bytes .exit) ≡ withState d layout (withState d layout (now (bytes .entry)) (fuseOf d (Global Usercode) (2 * pair)) (bitOf pattern (2 * pair))) (fuseOf d (Global Usercode) (2 * pair + 1)) (bitOf pattern (2 * pair + 1)) ⌝ }
 {
-    let spot = usercode_spot(d, readout, pair);
+    let spot = usercode_spot(d, layout, pair);
     let states = (pattern >> (2 * pair)) % 4;
     image::internal::set_pair(bytes, spot.index, spot.bit, states);
 }
 
 // The states of USERCODE's fuses put in place: row 7, then row 6. In a loop of one row, the compiler has each byte and bit as constants.
-pub fn put_usercode(d: Device, readout: bool, bytes: &mut [u8], pattern: u32)
-    requires { ⌜ (known d ≡ true) × (hasSetting d (Global Usercode) ≡ true) × (length (now bytes) ≡ bytesOf d readout) ⌝ }
-    ensures { λ _. ⌜ now (bytes .exit) ≡ withPattern d readout (now (bytes .entry)) (Global Usercode) pattern ⌝ }
+pub fn put_usercode(d: Device, layout: Layout, bytes: &mut [u8], pattern: u32)
+    requires { ⌜ (known d ≡ true) × (hasSetting d (Global Usercode) ≡ true) × (length (now bytes) ≡ bytesOf d layout) ⌝ }
+    ensures { λ _. ⌜ now (bytes .exit) ≡ withPattern d layout (now (bytes .entry)) (Global Usercode) pattern ⌝ }
 {
     let mut pair: u32 = 0;
     while pair < 8 {
-        put_usercode_pair(d, readout, bytes, pattern, pair);
+        put_usercode_pair(d, layout, bytes, pattern, pair);
         pair += 1;
     }
     while pair < 16 {
-        put_usercode_pair(d, readout, bytes, pattern, pair);
+        put_usercode_pair(d, layout, bytes, pattern, pair);
         pair += 1;
     }
 }
 
 // The states of a setting's fuses, lowest bit first.
-pub fn pattern_at(d: Device, readout: bool, bytes: &[u8], s: Setting) -> u32
-    requires { ⌜ (known d ≡ true) × (hasSetting d s ≡ true) × (length (now bytes) ≡ bytesOf d readout) ⌝ }
-    ensures { λ r. ⌜ r ≡ patternAt d readout (now (bytes .entry)) s ⌝ }
+pub fn pattern_at(d: Device, layout: Layout, bytes: &[u8], s: Setting) -> u32
+    requires { ⌜ (known d ≡ true) × (hasSetting d s ≡ true) × (length (now bytes) ≡ bytesOf d layout) ⌝ }
+    ensures { λ r. ⌜ r ≡ patternAt d layout (now (bytes .entry)) s ⌝ }
 {
     let width = setting_places::internal::bits_of(d, s);
     // no other setting has so many bits
     if width == 32 {
-        return usercode_at(d, readout, bytes);
+        return usercode_at(d, layout, bytes);
     }
     let mut pattern: u32 = 0;
     let mut bit: u32 = 0;
     while bit < width {
-        let spot = spot_of(d, readout, s, bit);
+        let spot = spot_of(d, layout, s, bit);
         let state = image::internal::bit_of(bytes, spot.index, spot.bit);
         pattern += state << bit;
         bit += 1;
@@ -146,18 +161,18 @@ pub fn pattern_at(d: Device, readout: bool, bytes: &[u8], s: Setting) -> u32
 }
 
 // The states of a setting's fuses put in place.
-pub fn put_pattern(d: Device, readout: bool, bytes: &mut [u8], s: Setting, pattern: u32)
-    requires { ⌜ (known d ≡ true) × (hasSetting d s ≡ true) × (length (now bytes) ≡ bytesOf d readout) ⌝ }
-    ensures { λ _. ⌜ now (bytes .exit) ≡ withPattern d readout (now (bytes .entry)) s pattern ⌝ }
+pub fn put_pattern(d: Device, layout: Layout, bytes: &mut [u8], s: Setting, pattern: u32)
+    requires { ⌜ (known d ≡ true) × (hasSetting d s ≡ true) × (length (now bytes) ≡ bytesOf d layout) ⌝ }
+    ensures { λ _. ⌜ now (bytes .exit) ≡ withPattern d layout (now (bytes .entry)) s pattern ⌝ }
 {
     let last = setting_places::internal::bits_of(d, s);
     if last == 32 {
-        put_usercode(d, readout, bytes, pattern);
+        put_usercode(d, layout, bytes, pattern);
         return;
     }
     let mut bit: u32 = 0;
     while bit < last {
-        let spot = spot_of(d, readout, s, bit);
+        let spot = spot_of(d, layout, s, bit);
         let state = (pattern >> bit) % 2;
         image::internal::set_bit(bytes, spot.index, spot.bit, state);
         bit += 1;

@@ -13,7 +13,7 @@ use Rattle.part.specs.Answer.{doneOutcome}
 use Rattle.readout.specs.Readout.{toReadout, readoutOf, toImage, imageOf}
 use Rattle.settings.specs.declared.Setting.{Setting}
 use Rattle.values.specs.declared.Value.{Value}
-use Rattle.setting_bits.specs.SettingBits.{inImage, inReadout}
+use Rattle.setting_bits.specs.declared.Layout.the-variants.{Image, Readout}
 use Rattle.edit.specs.Edit.{withValue, readIn, setIn}
 use Rattle.edit.specs.Demand.{Taken, Made}
 use Rattle.edit.proofs.NotRefused.{not-refused, its-length}
@@ -56,13 +56,13 @@ module _ (d : Device) (image readout kept its-readout its-image : List ℕ) (s :
         ∙ sym (passes d image kept1 (taken .device) (taken .size) (ap length kept-own ∙ its-length d image))
 
     -- setting
-    changed-image : image2 ≡ withValue d inImage image s v
+    changed-image : image2 ≡ withValue d Image image s v
     changed-image = left (put .in-image) (not-refused d image s v pattern taken .0)
 
-    put-kept : Written (setIn d inReadout kept1 s v) (doneOutcome (r .set .readout)) (withValue d inReadout kept1 s v) kept1 readout2
+    put-kept : Written (setIn d Readout kept1 s v) (doneOutcome (r .set .readout)) (withValue d Readout kept1 s v) kept1 readout2
     put-kept = rw kept-before (put .in-readout)
 
-    changed-readout : readout2 ≡ withValue d inReadout kept1 s v
+    changed-readout : readout2 ≡ withValue d Readout kept1 s v
     changed-readout = left put-kept (rw kept-own (not-refused d image s v pattern taken .1))
 
     -- after the change
@@ -75,8 +75,8 @@ module _ (d : Device) (image readout kept its-readout its-image : List ℕ) (s :
     its-own-readout : its-readout1 ≡ readoutOf d image2
     its-own-readout = left (converted .of-image) image-passes
 
-    changed-own : readout2 ≡ withValue d inReadout (readoutOf d image) s v
-    changed-own = changed-readout ∙ ap (λ (x : List ℕ). withValue d inReadout x s v) kept-own
+    changed-own : readout2 ≡ withValue d Readout (readoutOf d image) s v
+    changed-own = changed-readout ∙ ap (λ (x : List ℕ). withValue d Readout x s v) kept-own
 
     same : readout2 ≡ readoutOf d image2
     same = changed-own ∙ same-readout d image s v pattern taken ∙ ap (readoutOf d) (sym changed-image)

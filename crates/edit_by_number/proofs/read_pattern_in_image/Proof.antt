@@ -1,7 +1,7 @@
 -- `read_pattern_in_image` meets its contract: a literal goes its own way, any other number through `read_numbered`.
 -- Assumes nothing.
 use Rattle.edit_by_number.proofs.Literals.{its-literal}
-use Rattle.setting_bits.specs.SettingBits.{inImage}
+use Rattle.setting_bits.specs.declared.Layout.the-variants.{Image}
 use borrow.Author.Needs.{needs}
 use Rattle.edit_by_number.proofs.read_pattern_in_image.Statement.{statement}
 use Rattle.edit_by_number.proofs.read_pattern_in_image.Tie as tie
@@ -10,7 +10,7 @@ is-literal-requires : tie.Need-is-literal-requires
 is-literal-requires c κs = search needs
 
 read-literal-requires : tie.Need-read-literal-requires
-read-literal-requires c κs = its-literal _ inImage _ _ _ (c .before .is-literal .ensures) (c .if1 .taken)
+read-literal-requires c κs = its-literal _ Image _ _ _ (c .before .is-literal .ensures) (c .if1 .taken)
 
 returns : tie.Need-returns
 returns c = search needs

@@ -1,7 +1,7 @@
 -- `set_pattern_in_image` meets its contract: a literal goes its own way, any other number through `set_numbered`.
 -- Assumes nothing.
 use Rattle.edit_by_number.proofs.Literals.{its-literal}
-use Rattle.setting_bits.specs.SettingBits.{inImage}
+use Rattle.setting_bits.specs.declared.Layout.the-variants.{Image}
 use borrow.Author.Needs.{needs}
 use Rattle.edit_by_number.proofs.set_pattern_in_image.Statement.{statement}
 use Rattle.edit_by_number.proofs.set_pattern_in_image.Tie as tie
@@ -10,7 +10,7 @@ is-literal-requires : tie.Need-is-literal-requires
 is-literal-requires c κs = search needs
 
 set-literal-requires : tie.Need-set-literal-requires
-set-literal-requires c κs = its-literal _ inImage _ _ _ (c .before .before .is-literal .ensures) (c .before .if1 .taken)
+set-literal-requires c κs = its-literal _ Image _ _ _ (c .before .before .is-literal .ensures) (c .before .if1 .taken)
 
 same-length : tie.Need-same-length
 same-length c = search needs

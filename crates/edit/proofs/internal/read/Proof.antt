@@ -20,6 +20,7 @@ use Rattle.values.specs.Values.{valueIn}
 use Rattle.values.specs.declared.Value.{Value}
 use Rattle.values.specs.declared.Kind.{Kind}
 use Rattle.setting_values.specs.Kinds.{kindOf}
+use Rattle.setting_bits.specs.declared.Layout.{Layout}
 use Rattle.setting_bits.specs.SettingBits.{bytesOf, patternAt}
 use Rattle.setting_bits.proofs.Steps.{bytes-between}
 use Rattle.edit.specs.Edit.{strayIn, readIn}
@@ -27,36 +28,36 @@ use borrow.Author.Needs.{needs}
 use Rattle.edit.proofs.internal.read.Statement.{statement}
 use Rattle.edit.proofs.internal.read.Tie as tie
 
-no-device : (d : Device) (form : Bool) (bytes : List ℕ) (s : Setting) → known d ≡ false → refused 1 0 ≡ readIn d form bytes s
+no-device : (d : Device) (layout : Layout) (bytes : List ℕ) (s : Setting) → known d ≡ false → refused 1 0 ≡ readIn d layout bytes s
 unfolding readIn
-no-device d form bytes s k = rw k
+no-device d layout bytes s k = rw k
 
-module _ (d : Device) (form : Bool) (bytes : List ℕ) (s : Setting) (size : ℕ) (k : known d ≡ true) (e : size ≡ bytesOf d form) where
-  wrong-length : (length bytes ≡ size → ⊥) → refused 2 0 ≡ readIn d form bytes s
+module _ (d : Device) (layout : Layout) (bytes : List ℕ) (s : Setting) (size : ℕ) (k : known d ≡ true) (e : size ≡ bytesOf d layout) where
+  wrong-length : (length bytes ≡ size → ⊥) → refused 2 0 ≡ readIn d layout bytes s
   unfolding readIn
-  wrong-length ne = rw (k, ne-eqb (length bytes) (bytesOf d form) (λ f. ne (f ∙ sym e)))
+  wrong-length ne = rw (k, ne-eqb (length bytes) (bytesOf d layout) (λ f. ne (f ∙ sym e)))
 
   module _ (n : length bytes ≡ size) where
-    its-size : length bytes ≡ bytesOf d form
+    its-size : length bytes ≡ bytesOf d layout
     its-size = n ∙ e
 
     small : (stray : ℕ) → stray < length bytes → Fits w32 stray
-    small stray l = record { fits = omega (arith, its-size, bytes-between d form k) }
+    small stray l = record { fits = omega (arith, its-size, bytes-between d layout k) }
 
-    no-setting : hasSetting d s ≡ false → refused 4 0 ≡ readIn d form bytes s
+    no-setting : hasSetting d s ≡ false → refused 4 0 ≡ readIn d layout bytes s
     unfolding readIn
-    no-setting h = rw (k, eq-eqb (length bytes) (bytesOf d form) its-size, h)
+    no-setting h = rw (k, eq-eqb (length bytes) (bytesOf d layout) its-size, h)
 
-    module _ (h : hasSetting d s ≡ true) (stray : ℕ) (g : stray ≡ strayIn d form bytes s) where
-      a-stray : stray < length bytes → refused 6 stray ≡ readIn d form bytes s
+    module _ (h : hasSetting d s ≡ true) (stray : ℕ) (g : stray ≡ strayIn d layout bytes s) where
+      a-stray : stray < length bytes → refused 6 stray ≡ readIn d layout bytes s
       unfolding readIn
-      a-stray l = rw (k, eq-eqb (length bytes) (bytesOf d form) its-size, h, ← g, lt-ltb stray (bytesOf d form) (omega (arith, its-size)))
+      a-stray l = rw (k, eq-eqb (length bytes) (bytesOf d layout) its-size, h, ← g, lt-ltb stray (bytesOf d layout) (omega (arith, its-size)))
 
-      the-value : (kd : Kind) (pattern : ℕ) (v : Value) → length bytes ≤ stray → kd ≡ kindOf d s → pattern ≡ patternAt d form bytes s → v ≡ valueIn kd pattern
-          → accepted v ≡ readIn d form bytes s
+      the-value : (kd : Kind) (pattern : ℕ) (v : Value) → length bytes ≤ stray → kd ≡ kindOf d s → pattern ≡ patternAt d layout bytes s → v ≡ valueIn kd pattern
+          → accepted v ≡ readIn d layout bytes s
       unfolding readIn
       the-value kd pattern v l f p w =
-          rw (k, eq-eqb (length bytes) (bytesOf d form) its-size, h, ← g, le-ltb stray (bytesOf d form) (omega (arith, its-size)), w, f, p)
+          rw (k, eq-eqb (length bytes) (bytesOf d layout) its-size, h, ← g, le-ltb stray (bytesOf d layout) (omega (arith, its-size)), w, f, p)
 
 is-known-requires : tie.Need-is-known-requires
 is-known-requires c κs = search needs

@@ -24,6 +24,7 @@ use Rattle.values.specs.declared.Kind.{Kind}
 use Rattle.values.specs.declared.internal.Found.{Found}
 use Rattle.values.specs.declared.internal.Found.the-variants.{Pattern, NoSuchValue}
 use Rattle.setting_values.specs.Kinds.{kindOf}
+use Rattle.setting_bits.specs.declared.Layout.{Layout}
 use Rattle.setting_bits.specs.SettingBits.{bytesOf, withPattern}
 use Rattle.setting_bits.proofs.Steps.{bytes-between}
 use Rattle.edit.specs.Edit.{strayIn, setIn, withValue}
@@ -32,54 +33,54 @@ use Rattle.edit.proofs.internal.set.Statement.{statement}
 use Rattle.edit.proofs.internal.set.Tie as tie
 
 -- what the call must give: the outcome's answer, and the bytes that go with it
-abbrev SetGives : Device → Bool → List ℕ → Setting → Value → Outcome (Unit {0}) → List ℕ → Type 0
-SetGives d form bytes s v answer after = Written (setIn d form bytes s v) answer (withValue d form bytes s v) bytes after
+abbrev SetGives : Device → Layout → List ℕ → Setting → Value → Outcome (Unit {0}) → List ℕ → Type 0
+SetGives d layout bytes s v answer after = Written (setIn d layout bytes s v) answer (withValue d layout bytes s v) bytes after
 
-refusal : (d : Device) (form : Bool) (bytes : List ℕ) (s : Setting) (v : Value) (n x : ℕ) → refused n x ≡ setIn d form bytes s v
-    → SetGives d form bytes s v (refused n x) bytes
-refusal d form bytes s v n x e = says (setIn d form bytes s v) (refused n x) (withValue d form bytes s v) bytes e
+refusal : (d : Device) (layout : Layout) (bytes : List ℕ) (s : Setting) (v : Value) (n x : ℕ) → refused n x ≡ setIn d layout bytes s v
+    → SetGives d layout bytes s v (refused n x) bytes
+refusal d layout bytes s v n x e = says (setIn d layout bytes s v) (refused n x) (withValue d layout bytes s v) bytes e
 
-no-device : (d : Device) (form : Bool) (bytes : List ℕ) (s : Setting) (v : Value) → known d ≡ false → SetGives d form bytes s v (refused 1 0) bytes
+no-device : (d : Device) (layout : Layout) (bytes : List ℕ) (s : Setting) (v : Value) → known d ≡ false → SetGives d layout bytes s v (refused 1 0) bytes
 unfolding setIn
-no-device d form bytes s v k = refusal d form bytes s v 1 0 (rw k)
+no-device d layout bytes s v k = refusal d layout bytes s v 1 0 (rw k)
 
-module _ (d : Device) (form : Bool) (bytes : List ℕ) (s : Setting) (v : Value) (size : ℕ) (k : known d ≡ true) (e : size ≡ bytesOf d form) where
-  wrong-length : (length bytes ≡ size → ⊥) → SetGives d form bytes s v (refused 2 0) bytes
+module _ (d : Device) (layout : Layout) (bytes : List ℕ) (s : Setting) (v : Value) (size : ℕ) (k : known d ≡ true) (e : size ≡ bytesOf d layout) where
+  wrong-length : (length bytes ≡ size → ⊥) → SetGives d layout bytes s v (refused 2 0) bytes
   unfolding setIn
-  wrong-length ne = refusal d form bytes s v 2 0 (rw (k, ne-eqb (length bytes) (bytesOf d form) (λ f. ne (f ∙ sym e))))
+  wrong-length ne = refusal d layout bytes s v 2 0 (rw (k, ne-eqb (length bytes) (bytesOf d layout) (λ f. ne (f ∙ sym e))))
 
   module _ (n : length bytes ≡ size) where
-    its-size : length bytes ≡ bytesOf d form
+    its-size : length bytes ≡ bytesOf d layout
     its-size = n ∙ e
 
     small : (stray : ℕ) → stray < length bytes → Fits w32 stray
-    small stray l = record { fits = omega (arith, its-size, bytes-between d form k) }
+    small stray l = record { fits = omega (arith, its-size, bytes-between d layout k) }
 
-    no-setting : hasSetting d s ≡ false → SetGives d form bytes s v (refused 4 0) bytes
+    no-setting : hasSetting d s ≡ false → SetGives d layout bytes s v (refused 4 0) bytes
     unfolding setIn
-    no-setting h = refusal d form bytes s v 4 0 (rw (k, eq-eqb (length bytes) (bytesOf d form) its-size, h))
+    no-setting h = refusal d layout bytes s v 4 0 (rw (k, eq-eqb (length bytes) (bytesOf d layout) its-size, h))
 
     module _ (h : hasSetting d s ≡ true) (kd : Kind) (o : Found) (f : kd ≡ kindOf d s) (g : foundPattern o ≡ patternIn kd v) where
       its : patternIn (kindOf d s) v ≡ foundPattern o
       its = ap (λ (x : Kind). patternIn x v) (sym f) ∙ sym g
 
-      no-value : o ≡ NoSuchValue → SetGives d form bytes s v (refused 5 0) bytes
+      no-value : o ≡ NoSuchValue → SetGives d layout bytes s v (refused 5 0) bytes
       unfolding setIn
-      no-value w = refusal d form bytes s v 5 0 (rw (k, eq-eqb (length bytes) (bytesOf d form) its-size, h, its, w))
+      no-value w = refusal d layout bytes s v 5 0 (rw (k, eq-eqb (length bytes) (bytesOf d layout) its-size, h, its, w))
 
-      module _ (pattern : ℕ) (w : o ≡ Pattern pattern) (stray : ℕ) (q : stray ≡ strayIn d form bytes s) where
-        a-stray : stray < length bytes → SetGives d form bytes s v (refused 6 stray) bytes
+      module _ (pattern : ℕ) (w : o ≡ Pattern pattern) (stray : ℕ) (q : stray ≡ strayIn d layout bytes s) where
+        a-stray : stray < length bytes → SetGives d layout bytes s v (refused 6 stray) bytes
         unfolding setIn
         a-stray l =
-            refusal d form bytes s v 6 stray
-            (rw (k, eq-eqb (length bytes) (bytesOf d form) its-size, h, its, w, ← q, lt-ltb stray (bytesOf d form) (omega (arith, its-size))))
+            refusal d layout bytes s v 6 stray
+            (rw (k, eq-eqb (length bytes) (bytesOf d layout) its-size, h, its, w, ← q, lt-ltb stray (bytesOf d layout) (omega (arith, its-size))))
 
-        done : length bytes ≤ stray → accepted tt ≡ setIn d form bytes s v
+        done : length bytes ≤ stray → accepted tt ≡ setIn d layout bytes s v
         unfolding setIn
         done l =
-            rw (k, eq-eqb (length bytes) (bytesOf d form) its-size, h, its, w, ← q, le-ltb stray (bytesOf d form) (omega (arith, its-size)))
+            rw (k, eq-eqb (length bytes) (bytesOf d layout) its-size, h, its, w, ← q, le-ltb stray (bytesOf d layout) (omega (arith, its-size)))
 
-        the-set : (after : List ℕ) → length bytes ≤ stray → after ≡ withPattern d form bytes s pattern → SetGives d form bytes s v (accepted tt) after
+        the-set : (after : List ℕ) → length bytes ≤ stray → after ≡ withPattern d layout bytes s pattern → SetGives d layout bytes s v (accepted tt) after
         unfolding withValue
         the-set after l x =
             let same = done l in

@@ -8,21 +8,23 @@ use lib.ListN.{length}
 use Rattle.part.specs.Device.{readoutBytes}
 use Rattle.part.specs.declared.Device.{Device}
 use Rattle.settings.specs.declared.Setting.{Setting}
+use Rattle.setting_bits.specs.declared.Layout.{Layout}
+use Rattle.setting_bits.specs.declared.Layout.the-variants.{Image, Readout}
 use Rattle.setting_bits.specs.SettingBits.{bytesOf, strayOf}
 use Rattle.edit.specs.Edit.{strayIn}
 use borrow.Author.Needs.{needs}
 use Rattle.edit.proofs.internal.stray_in.Statement.{statement}
 use Rattle.edit.proofs.internal.stray_in.Tie as tie
 
-module _ (d : Device) (form : Bool) (bytes : List ℕ) (s : Setting) (r : ℕ) where
-  its-size : form ≡ true → length bytes ≡ bytesOf d form → length bytes ≡ readoutBytes d
+module _ (d : Device) (layout : Layout) (bytes : List ℕ) (s : Setting) (r : ℕ) where
+  its-size : layout ≡ Readout → length bytes ≡ bytesOf d layout → length bytes ≡ readoutBytes d
   its-size f e = rw f at e
 
-  of-readout : form ≡ true → r ≡ strayOf d bytes s → r ≡ strayIn d form bytes s
+  of-readout : layout ≡ Readout → r ≡ strayOf d bytes s → r ≡ strayIn d layout bytes s
   unfolding strayIn
   of-readout f e = rw f e
 
-  of-image : form ≡ false → length bytes ≡ bytesOf d form → length bytes ≡ strayIn d form bytes s
+  of-image : layout ≡ Image → length bytes ≡ bytesOf d layout → length bytes ≡ strayIn d layout bytes s
   unfolding strayIn
   of-image f e = rw f (rw f at e)
 

@@ -10,21 +10,22 @@ use Rattle.part.specs.declared.Device.{Device}
 use Rattle.part.proofs.Devices.{is-known, is-unknown}
 use Rattle.settings.specs.Order.{start}
 use Rattle.settings.specs.Order.Group.{wireAnds}
+use Rattle.setting_bits.specs.declared.Layout.{Layout}
 use Rattle.setting_bits.specs.SettingBits.{bytesOf}
 use borrow.Author.Needs.{needs}
 use Rattle.edit_by_number.proofs.internal.is_literal.Statement.{statement}
 use Rattle.edit_by_number.proofs.internal.is_literal.Tie as tie
 
-no-device : (d : Device) (form : Bool) (length x : ℕ) → known d ≡ false → false ≡ (known d && eqb length (bytesOf d form) && ltb x (start d wireAnds))
-no-device d form length x k = rw k
+no-device : (d : Device) (layout : Layout) (length x : ℕ) → known d ≡ false → false ≡ (known d && eqb length (bytesOf d layout) && ltb x (start d wireAnds))
+no-device d layout length x k = rw k
 
-module _ (d : Device) (form : Bool) (length x size : ℕ) (k : known d ≡ true) (e : size ≡ bytesOf d form) where
-  wrong-length : (length ≡ size → ⊥) → false ≡ (known d && eqb length (bytesOf d form) && ltb x (start d wireAnds))
-  wrong-length ne = rw (k, ne-eqb length (bytesOf d form) (λ f. ne (f ∙ sym e)))
+module _ (d : Device) (layout : Layout) (length x size : ℕ) (k : known d ≡ true) (e : size ≡ bytesOf d layout) where
+  wrong-length : (length ≡ size → ⊥) → false ≡ (known d && eqb length (bytesOf d layout) && ltb x (start d wireAnds))
+  wrong-length ne = rw (k, ne-eqb length (bytesOf d layout) (λ f. ne (f ∙ sym e)))
 
   right-length : length ≡ size → (first : ℕ) → first ≡ start d wireAnds → (t : Bool) → t ≡ ltb x first
-      → t ≡ (known d && eqb length (bytesOf d form) && ltb x (start d wireAnds))
-  right-length n first f t u = u ∙ rw (k, eq-eqb length (bytesOf d form) (n ∙ e), f)
+      → t ≡ (known d && eqb length (bytesOf d layout) && ltb x (start d wireAnds))
+  right-length n first f t u = u ∙ rw (k, eq-eqb length (bytesOf d layout) (n ∙ e), f)
 
 is-known-requires : tie.Need-is-known-requires
 is-known-requires c κs = search needs

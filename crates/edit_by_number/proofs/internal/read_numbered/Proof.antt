@@ -13,6 +13,7 @@ use Rattle.part.specs.declared.Device.{Device}
 use Rattle.part.proofs.Devices.{is-known, is-unknown}
 use Rattle.settings.specs.Order.{countOf, settingOf}
 use Rattle.settings.specs.declared.Setting.{Setting}
+use Rattle.setting_bits.specs.declared.Layout.{Layout}
 use Rattle.setting_bits.specs.SettingBits.{bytesOf, patternAt}
 use Rattle.edit.specs.Edit.{strayIn}
 use Rattle.edit_by_number.specs.ByNumber.{readPattern}
@@ -22,26 +23,26 @@ use borrow.Author.Needs.{needs}
 use Rattle.edit_by_number.proofs.internal.read_numbered.Statement.{statement}
 use Rattle.edit_by_number.proofs.internal.read_numbered.Tie as tie
 
-no-device : (d : Device) (form : Bool) (bytes : List ℕ) (x : ℕ) → known d ≡ false → refused 1 0 ≡ readPattern d form bytes x
+no-device : (d : Device) (layout : Layout) (bytes : List ℕ) (x : ℕ) → known d ≡ false → refused 1 0 ≡ readPattern d layout bytes x
 unfolding readPattern
-no-device d form bytes x k = rw k
+no-device d layout bytes x k = rw k
 
-module _ (d : Device) (form : Bool) (bytes : List ℕ) (x size : ℕ) (k : known d ≡ true) (e : size ≡ bytesOf d form) where
-  wrong-length : (length bytes ≡ size → ⊥) → refused 2 0 ≡ readPattern d form bytes x
+module _ (d : Device) (layout : Layout) (bytes : List ℕ) (x size : ℕ) (k : known d ≡ true) (e : size ≡ bytesOf d layout) where
+  wrong-length : (length bytes ≡ size → ⊥) → refused 2 0 ≡ readPattern d layout bytes x
   unfolding readPattern
-  wrong-length ne = rw (k, ne-eqb (length bytes) (bytesOf d form) (λ f. ne (f ∙ sym e)))
+  wrong-length ne = rw (k, ne-eqb (length bytes) (bytesOf d layout) (λ f. ne (f ∙ sym e)))
 
   module _ (n : length bytes ≡ size) (count : ℕ) (f : count ≡ countOf d) where
-    no-number : count ≤ x → refused 4 0 ≡ readPattern d form bytes x
+    no-number : count ≤ x → refused 4 0 ≡ readPattern d layout bytes x
     unfolding readPattern
-    no-number l = rw (k, eq-eqb (length bytes) (bytesOf d form) (n ∙ e), le-ltb x (countOf d) (omega arith))
+    no-number l = rw (k, eq-eqb (length bytes) (bytesOf d layout) (n ∙ e), le-ltb x (countOf d) (omega arith))
 
-    module _ (l : x < count) (s : Setting) (g : s ≡ settingOf d x) (stray : ℕ) (q : stray ≡ strayIn d form bytes s) where
-      a-stray : stray < length bytes → refused 6 stray ≡ readPattern d form bytes x
-      a-stray m = reads-stray d form bytes x k (n ∙ e) (below d x count f l) s g stray (sym q) m
+    module _ (l : x < count) (s : Setting) (g : s ≡ settingOf d x) (stray : ℕ) (q : stray ≡ strayIn d layout bytes s) where
+      a-stray : stray < length bytes → refused 6 stray ≡ readPattern d layout bytes x
+      a-stray m = reads-stray d layout bytes x k (n ∙ e) (below d x count f l) s g stray (sym q) m
 
-      the-pattern : (p : ℕ) → length bytes ≤ stray → p ≡ patternAt d form bytes s → accepted p ≡ readPattern d form bytes x
-      the-pattern p m w = reads-clean d form bytes x k (n ∙ e) (below d x count f l) s g stray (sym q) p m w
+      the-pattern : (p : ℕ) → length bytes ≤ stray → p ≡ patternAt d layout bytes s → accepted p ≡ readPattern d layout bytes x
+      the-pattern p m w = reads-clean d layout bytes x k (n ∙ e) (below d x count f l) s g stray (sym q) p m w
 
 is-known-requires : tie.Need-is-known-requires
 is-known-requires c κs = search needs

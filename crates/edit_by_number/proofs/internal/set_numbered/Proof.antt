@@ -15,6 +15,7 @@ use Rattle.part.proofs.Devices.{is-known, is-unknown}
 use Rattle.settings.specs.Order.{countOf, settingOf}
 use Rattle.settings.specs.declared.Setting.{Setting}
 use Rattle.setting_places.specs.Places.{bitsOf}
+use Rattle.setting_bits.specs.declared.Layout.{Layout}
 use Rattle.setting_bits.specs.SettingBits.{bytesOf, withPattern}
 use Rattle.setting_bits.proofs.Steps.{bits-few}
 use Rattle.edit.specs.Edit.{strayIn}
@@ -25,33 +26,33 @@ use borrow.Author.Needs.{needs}
 use Rattle.edit_by_number.proofs.internal.set_numbered.Statement.{statement}
 use Rattle.edit_by_number.proofs.internal.set_numbered.Tie as tie
 
-no-device : (d : Device) (form : Bool) (bytes : List ℕ) (x pattern : ℕ) → known d ≡ false → PatternGives d form bytes x pattern (refused 1 0) bytes
+no-device : (d : Device) (layout : Layout) (bytes : List ℕ) (x pattern : ℕ) → known d ≡ false → PatternGives d layout bytes x pattern (refused 1 0) bytes
 unfolding setPattern
-no-device d form bytes x pattern k = refusal d form bytes x pattern 1 0 (rw k)
+no-device d layout bytes x pattern k = refusal d layout bytes x pattern 1 0 (rw k)
 
-module _ (d : Device) (form : Bool) (bytes : List ℕ) (x pattern size : ℕ) (k : known d ≡ true) (e : size ≡ bytesOf d form) where
-  wrong-length : (length bytes ≡ size → ⊥) → PatternGives d form bytes x pattern (refused 2 0) bytes
+module _ (d : Device) (layout : Layout) (bytes : List ℕ) (x pattern size : ℕ) (k : known d ≡ true) (e : size ≡ bytesOf d layout) where
+  wrong-length : (length bytes ≡ size → ⊥) → PatternGives d layout bytes x pattern (refused 2 0) bytes
   unfolding setPattern
-  wrong-length ne = refusal d form bytes x pattern 2 0 (rw (k, ne-eqb (length bytes) (bytesOf d form) (λ f. ne (f ∙ sym e))))
+  wrong-length ne = refusal d layout bytes x pattern 2 0 (rw (k, ne-eqb (length bytes) (bytesOf d layout) (λ f. ne (f ∙ sym e))))
 
   module _ (n : length bytes ≡ size) (count : ℕ) (f : count ≡ countOf d) where
-    no-number : count ≤ x → PatternGives d form bytes x pattern (refused 4 0) bytes
+    no-number : count ≤ x → PatternGives d layout bytes x pattern (refused 4 0) bytes
     unfolding setPattern
-    no-number l = refusal d form bytes x pattern 4 0 (rw (k, eq-eqb (length bytes) (bytesOf d form) (n ∙ e), le-ltb x (countOf d) (omega arith)))
+    no-number l = refusal d layout bytes x pattern 4 0 (rw (k, eq-eqb (length bytes) (bytesOf d layout) (n ∙ e), le-ltb x (countOf d) (omega arith)))
 
     module _ (l : x < count) (s : Setting) (g : s ≡ settingOf d x) (bits : ℕ) (t : Bool) (w : bits ≡ bitsOf s) (u : t ≡ ltb pattern (2 ^ bits)) where
       its-test : ltb pattern (2 ^ bitsOf s) ≡ t
       its-test = rw (← w) (sym u)
 
-      not-fitting : not t ≡ true → PatternGives d form bytes x pattern (refused 5 0) bytes
-      not-fitting y = sets-none d form bytes x k (n ∙ e) (below d x count f l) s g pattern (its-test ∙ not-true t y)
+      not-fitting : not t ≡ true → PatternGives d layout bytes x pattern (refused 5 0) bytes
+      not-fitting y = sets-none d layout bytes x k (n ∙ e) (below d x count f l) s g pattern (its-test ∙ not-true t y)
 
-      module _ (y : not t ≡ false) (stray : ℕ) (q : stray ≡ strayIn d form bytes s) where
-        a-stray : stray < length bytes → PatternGives d form bytes x pattern (refused 6 stray) bytes
-        a-stray m = sets-stray d form bytes x k (n ∙ e) (below d x count f l) s g pattern (its-test ∙ not-false t y) stray (sym q) m
+      module _ (y : not t ≡ false) (stray : ℕ) (q : stray ≡ strayIn d layout bytes s) where
+        a-stray : stray < length bytes → PatternGives d layout bytes x pattern (refused 6 stray) bytes
+        a-stray m = sets-stray d layout bytes x k (n ∙ e) (below d x count f l) s g pattern (its-test ∙ not-false t y) stray (sym q) m
 
-        the-set : (after : List ℕ) → length bytes ≤ stray → after ≡ withPattern d form bytes s pattern → PatternGives d form bytes x pattern (accepted tt) after
-        the-set after m z = sets-clean d form bytes x k (n ∙ e) (below d x count f l) s g pattern (its-test ∙ not-false t y) stray (sym q) after m z
+        the-set : (after : List ℕ) → length bytes ≤ stray → after ≡ withPattern d layout bytes s pattern → PatternGives d layout bytes x pattern (accepted tt) after
+        the-set after m z = sets-clean d layout bytes x k (n ∙ e) (below d x count f l) s g pattern (its-test ∙ not-false t y) stray (sym q) after m z
 
 few : (d : Device) (x count : ℕ) (s : Setting) (bits : ℕ) → count ≡ countOf d → x < count → s ≡ settingOf d x → bits ≡ bitsOf s → bits ≤ 32
 few d x count s bits e l f w = rw w (bits-few d s (there d x count s e l f))

@@ -14,6 +14,7 @@ use mir.Syntax.{w32}
 use mir.Val.{Fits}
 use lib.ListN.{length}
 use Rattle.image.specs.Bits.{bitAt, gathered}
+use Rattle.setting_bits.specs.declared.Layout.{Layout}
 use Rattle.setting_bits.specs.SettingBits.{bytesOf, byteOf, bitIn, stateOf, patternAt}
 use Rattle.setting_bits.proofs.Edits.{inside, fuse-below}
 use Rattle.setting_bits.proofs.Steps.{bits-few, bit-small, bitsRead, read-more}
@@ -22,48 +23,48 @@ use borrow.Author.Needs.{needs}
 use Rattle.setting_bits.proofs.internal.pattern_at.Statement.{statement}
 use Rattle.setting_bits.proofs.internal.pattern_at.Tie as tie
 
-of-usercode : (d : Device) (form : Bool) (bytes : List ℕ) (s : Setting) (width r : ℕ) → hasSetting d s ≡ true → width ≡ bitsOf s → width ≡ 32
-    → r ≡ patternAt d form bytes usercode → r ≡ patternAt d form bytes s
-of-usercode d form bytes s width r h e q g = g ∙ its-pattern d s h width e q form bytes
+of-usercode : (d : Device) (layout : Layout) (bytes : List ℕ) (s : Setting) (width r : ℕ) → hasSetting d s ≡ true → width ≡ bitsOf s → width ≡ 32
+    → r ≡ patternAt d layout bytes usercode → r ≡ patternAt d layout bytes s
+of-usercode d layout bytes s width r h e q g = g ∙ its-pattern d s h width e q layout bytes
 
 -- what has been read so far
-record Read (d : Device) (form : Bool) (bytes : List ℕ) (s : Setting) (width pattern bit : ℕ) : Type 0 where
+record Read (d : Device) (layout : Layout) (bytes : List ℕ) (s : Setting) (width pattern bit : ℕ) : Type 0 where
   all : width ≡ bitsOf s
   upto : bit ≤ width
-  so-far : pattern ≡ bitsRead d form bytes s bit
+  so-far : pattern ≡ bitsRead d layout bytes s bit
 
-start : (d : Device) (form : Bool) (bytes : List ℕ) (s : Setting) (width : ℕ) → width ≡ bitsOf s → Read d form bytes s width 0 0
+start : (d : Device) (layout : Layout) (bytes : List ℕ) (s : Setting) (width : ℕ) → width ≡ bitsOf s → Read d layout bytes s width 0 0
 unfolding gathered
-start d form bytes s width e = record { all = e; upto = omega arith; so-far = refl }
+start d layout bytes s width e = record { all = e; upto = omega arith; so-far = refl }
 
-module _ (d : Device) (form : Bool) (bytes : List ℕ) (s : Setting) (width pattern bit : ℕ) (r : Read d form bytes s width pattern bit) where
+module _ (d : Device) (layout : Layout) (bytes : List ℕ) (s : Setting) (width pattern bit : ℕ) (r : Read d layout bytes s width pattern bit) where
   in-width : bit < width → bit < bitsOf s
   in-width l = omega (arith, r .all)
 
   few : bit < width → hasSetting d s ≡ true → bit < 32
   few l h = omega (arith, r .all, bits-few d s h)
 
-  index-in : (index : ℕ) → known d ≡ true → hasSetting d s ≡ true → length bytes ≡ bytesOf d form → bit < width
-      → index ≡ byteOf d form (fuseOf d s bit) → index < length bytes
-  index-in index k h e l x = rw (e, x) (inside d form (fuseOf d s bit) k (fuse-below d k s h bit (in-width l)))
+  index-in : (index : ℕ) → known d ≡ true → hasSetting d s ≡ true → length bytes ≡ bytesOf d layout → bit < width
+      → index ≡ byteOf d layout (fuseOf d s bit) → index < length bytes
+  index-in index k h e l x = rw (e, x) (inside d layout (fuseOf d s bit) k (fuse-below d k s h bit (in-width l)))
 
-  bit-in : (b : ℕ) → known d ≡ true → hasSetting d s ≡ true → bit < width → b ≡ bitIn d form (fuseOf d s bit) → b < 8
-  bit-in b k h l y = rw y (bit-small d k s h bit (in-width l) form)
+  bit-in : (b : ℕ) → known d ≡ true → hasSetting d s ≡ true → bit < width → b ≡ bitIn d layout (fuseOf d s bit) → b < 8
+  bit-in b k h l y = rw y (bit-small d k s h bit (in-width l) layout)
 
   module _ (h : hasSetting d s ≡ true) (l : bit < width) (index b state : ℕ)
-      (x : index ≡ byteOf d form (fuseOf d s bit)) (y : b ≡ bitIn d form (fuseOf d s bit)) (g : state ≡ bitAt bytes index b) where
-    e : state ≡ stateOf d form bytes (fuseOf d s bit)
+      (x : index ≡ byteOf d layout (fuseOf d s bit)) (y : b ≡ bitIn d layout (fuseOf d s bit)) (g : state ≡ bitAt bytes index b) where
+    e : state ≡ stateOf d layout bytes (fuseOf d s bit)
     e = g ∙ ap₂ (bitAt bytes) x y
 
     fits : Fits w32 (pattern + state * 2 ^ bit % 2 ^ 32)
-    fits = record { fits = read-more d form bytes s pattern state bit (few l h) (r .so-far) e .1 }
+    fits = record { fits = read-more d layout bytes s pattern state bit (few l h) (r .so-far) e .1 }
 
-    more : Read d form bytes s width (pattern + state * 2 ^ bit % 2 ^ 32) (bit + 1)
-    more = record { all = r .all; upto = omega arith; so-far = read-more d form bytes s pattern state bit (few l h) (r .so-far) e .0 }
+    more : Read d layout bytes s width (pattern + state * 2 ^ bit % 2 ^ 32) (bit + 1)
+    more = record { all = r .all; upto = omega arith; so-far = read-more d layout bytes s pattern state bit (few l h) (r .so-far) e .0 }
 
-  end : width ≤ bit → pattern ≡ patternAt d form bytes s
+  end : width ≤ bit → pattern ≡ patternAt d layout bytes s
   unfolding patternAt
-  end l = let last : bit ≡ bitsOf s = omega (arith, r .all, r .upto) in r .so-far ∙ ap (bitsRead d form bytes s) last
+  end l = let last : bit ≡ bitsOf s = omega (arith, r .all, r .upto) in r .so-far ∙ ap (bitsRead d layout bytes s) last
 
 abbrev Inv-loop : tie.InvT-loop
 Inv-loop d readout bytes s width pattern₀ bit₀ pattern bit = Read d readout bytes s width pattern bit

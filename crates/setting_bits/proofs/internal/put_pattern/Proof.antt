@@ -13,6 +13,7 @@ use Rattle.image.proofs.Bits.{with-length}
 use Rattle.settings.specs.Settings.{hasSetting}
 use Rattle.settings.specs.declared.Setting.{Setting}
 use Rattle.setting_places.specs.Places.{bitsOf, fuseOf}
+use Rattle.setting_bits.specs.declared.Layout.{Layout}
 use Rattle.setting_bits.specs.SettingBits.{bytesOf, byteOf, bitIn, withBits, withPattern}
 use Rattle.setting_bits.proofs.Edits.{inside, fuse-below, set-length}
 use Rattle.setting_bits.proofs.Steps.{bits-few, bit-small}
@@ -21,43 +22,43 @@ use borrow.Author.Needs.{needs}
 use Rattle.setting_bits.proofs.internal.put_pattern.Statement.{statement}
 use Rattle.setting_bits.proofs.internal.put_pattern.Tie as tie
 
-module _ (d : Device) (form : Bool) (before : List ℕ) (s : Setting) (pattern width : ℕ) (h : hasSetting d s ≡ true) (e : width ≡ bitsOf s) (q : width ≡ 32)
-    (after : List ℕ) (g : after ≡ withPattern d form before usercode pattern) where
-  of-usercode : after ≡ withPattern d form before s pattern
-  of-usercode = g ∙ its-bytes d s h width e q form before pattern
+module _ (d : Device) (layout : Layout) (before : List ℕ) (s : Setting) (pattern width : ℕ) (h : hasSetting d s ≡ true) (e : width ≡ bitsOf s) (q : width ≡ 32)
+    (after : List ℕ) (g : after ≡ withPattern d layout before usercode pattern) where
+  of-usercode : after ≡ withPattern d layout before s pattern
+  of-usercode = g ∙ its-bytes d s h width e q layout before pattern
 
-  kept-usercode : known d ≡ true → length before ≡ bytesOf d form → length after ≡ length before
-  kept-usercode k size = rw of-usercode (set-length d k form before size s h pattern)
+  kept-usercode : known d ≡ true → length before ≡ bytesOf d layout → length after ≡ length before
+  kept-usercode k size = rw of-usercode (set-length d k layout before size s h pattern)
 
 -- the bits put in place so far
-record Put (d : Device) (form : Bool) (before : List ℕ) (s : Setting) (pattern width : ℕ) (bytes : List ℕ) (bit : ℕ) : Type 0 where
+record Put (d : Device) (layout : Layout) (before : List ℕ) (s : Setting) (pattern width : ℕ) (bytes : List ℕ) (bit : ℕ) : Type 0 where
   all : width ≡ bitsOf s
   upto : bit ≤ width
-  size : length bytes ≡ bytesOf d form
-  so-far : bytes ≡ withBits d form before s pattern bit
+  size : length bytes ≡ bytesOf d layout
+  so-far : bytes ≡ withBits d layout before s pattern bit
 
-start : (d : Device) (form : Bool) (before : List ℕ) (s : Setting) (pattern width : ℕ) → length before ≡ bytesOf d form → width ≡ bitsOf s
-    → Put d form before s pattern width before 0
+start : (d : Device) (layout : Layout) (before : List ℕ) (s : Setting) (pattern width : ℕ) → length before ≡ bytesOf d layout → width ≡ bitsOf s
+    → Put d layout before s pattern width before 0
 unfolding withBits
-start d form before s pattern width e g = record { all = g; upto = omega arith; size = e; so-far = refl }
+start d layout before s pattern width e g = record { all = g; upto = omega arith; size = e; so-far = refl }
 
-module _ (d : Device) (form : Bool) (before : List ℕ) (s : Setting) (pattern width : ℕ) (bytes : List ℕ) (bit : ℕ)
-    (r : Put d form before s pattern width bytes bit) where
+module _ (d : Device) (layout : Layout) (before : List ℕ) (s : Setting) (pattern width : ℕ) (bytes : List ℕ) (bit : ℕ)
+    (r : Put d layout before s pattern width bytes bit) where
   in-width : bit < width → bit < bitsOf s
   in-width l = omega (arith, r .all)
 
   few : bit < width → hasSetting d s ≡ true → bit < 32
   few l h = omega (arith, r .all, bits-few d s h)
 
-  index-in : (index : ℕ) → known d ≡ true → hasSetting d s ≡ true → bit < width → index ≡ byteOf d form (fuseOf d s bit) → index < length bytes
-  index-in index k h l x = rw (r .size, x) (inside d form (fuseOf d s bit) k (fuse-below d k s h bit (in-width l)))
+  index-in : (index : ℕ) → known d ≡ true → hasSetting d s ≡ true → bit < width → index ≡ byteOf d layout (fuseOf d s bit) → index < length bytes
+  index-in index k h l x = rw (r .size, x) (inside d layout (fuseOf d s bit) k (fuse-below d k s h bit (in-width l)))
 
-  bit-in : (b : ℕ) → known d ≡ true → hasSetting d s ≡ true → bit < width → b ≡ bitIn d form (fuseOf d s bit) → b < 8
-  bit-in b k h l y = rw y (bit-small d k s h bit (in-width l) form)
+  bit-in : (b : ℕ) → known d ≡ true → hasSetting d s ≡ true → bit < width → b ≡ bitIn d layout (fuseOf d s bit) → b < 8
+  bit-in b k h l y = rw y (bit-small d k s h bit (in-width l) layout)
 
   more : (index b : ℕ) (after : List ℕ) → known d ≡ true → hasSetting d s ≡ true → bit < width
-      → index ≡ byteOf d form (fuseOf d s bit) → b ≡ bitIn d form (fuseOf d s bit) → after ≡ withBit bytes index b (pattern / 2 ^ bit % 2)
-      → Put d form before s pattern width after (bit + 1)
+      → index ≡ byteOf d layout (fuseOf d s bit) → b ≡ bitIn d layout (fuseOf d s bit) → after ≡ withBit bytes index b (pattern / 2 ^ bit % 2)
+      → Put d layout before s pattern width after (bit + 1)
   unfolding withBits
   more index b after k h l x y g =
       let next : bit + 1 ≡ suc bit = omega arith in
@@ -68,12 +69,12 @@ module _ (d : Device) (form : Bool) (before : List ℕ) (s : Setting) (pattern w
         so-far = rw (next, ← r .so-far, ← x, ← y) g;
       }
 
-  kept : length before ≡ bytesOf d form → length bytes ≡ length before
+  kept : length before ≡ bytesOf d layout → length bytes ≡ length before
   kept e = r .size ∙ sym e
 
-  end : width ≤ bit → bytes ≡ withPattern d form before s pattern
+  end : width ≤ bit → bytes ≡ withPattern d layout before s pattern
   unfolding withPattern
-  end l = let last : bit ≡ bitsOf s = omega (arith, r .all, r .upto) in r .so-far ∙ ap (withBits d form before s pattern) last
+  end l = let last : bit ≡ bitsOf s = omega (arith, r .all, r .upto) in r .so-far ∙ ap (withBits d layout before s pattern) last
 
 abbrev Inv-loop : tie.InvT-loop
 Inv-loop d readout bytes₀ s pattern width bit₀ bytes bit = Put d readout bytes₀ s pattern width bytes bit

@@ -8,6 +8,7 @@ use native.Mathlib.Omega.{arith}
 use lib.ListN.{length}
 use Rattle.part.specs.declared.Device.{Device}
 use Rattle.setting_places.specs.Places.{bitsOf}
+use Rattle.setting_bits.specs.declared.Layout.{Layout}
 use Rattle.setting_bits.specs.SettingBits.{bytesOf, withBits, withPattern}
 use Rattle.setting_bits.proofs.Usercode.{usercode, bothStates, two-put}
 use borrow.Author.Needs.{needs}
@@ -15,41 +16,41 @@ use Rattle.setting_bits.proofs.internal.put_usercode.Statement.{stateme
 use Rattle.setting_bits.proofs.internal.put_usercode.Tie as tie
 
 -- the pairs of a row put in place so far, from its first on: with all before that in place, so are these
-record Put (d : Device) (form : Bool) (pattern first : ℕ) (entry bytes : List ℕ) (pair : ℕ) : Type 0 where
+record Put (d : Device) (layout : Layout) (pattern first : ℕ) (entry bytes : List ℕ) (pair : ℕ) : Type 0 where
   upto : pair ≤ first + 8
-  size : length bytes ≡ bytesOf d form
-  so-far : (before : List ℕ) → entry ≡ withBits d form before usercode pattern (2 * first) → bytes ≡ withBits d form before usercode pattern (2 * pair)
+  size : length bytes ≡ bytesOf d layout
+  so-far : (before : List ℕ) → entry ≡ withBits d layout before usercode pattern (2 * first) → bytes ≡ withBits d layout before usercode pattern (2 * pair)
 
-start : (d : Device) (form : Bool) (pattern first : ℕ) (entry : List ℕ) (pair : ℕ) → length entry ≡ bytesOf d form → pair ≡ first
-    → Put d form pattern first entry entry pair
-start d form pattern first entry pair e p = record { upto = omega arith; size = e; so-far = λ before g. rw p g }
+start : (d : Device) (layout : Layout) (pattern first : ℕ) (entry : List ℕ) (pair : ℕ) → length entry ≡ bytesOf d layout → pair ≡ first
+    → Put d layout pattern first entry entry pair
+start d layout pattern first entry pair e p = record { upto = omega arith; size = e; so-far = λ before g. rw p g }
 
-module _ (d : Device) (form : Bool) (pattern first : ℕ) (entry bytes : List ℕ) (pair : ℕ) (r : Put d form pattern first entry bytes pair) where
-  more : (after : List ℕ) → pair < first + 8 → length after ≡ length bytes → after ≡ bothStates d form bytes pattern pair
-      → Put d form pattern first entry after (pair + 1)
+module _ (d : Device) (layout : Layout) (pattern first : ℕ) (entry bytes : List ℕ) (pair : ℕ) (r : Put d layout pattern first entry bytes pair) where
+  more : (after : List ℕ) → pair < first + 8 → length after ≡ length bytes → after ≡ bothStates d layout bytes pattern pair
+      → Put d layout pattern first entry after (pair + 1)
   more after l same g =
       record {
         upto = omega arith;
         size = same ∙ r .size;
-        so-far = λ before q. two-put d form before bytes after pattern pair (r .so-far before q) g;
+        so-far = λ before q. two-put d layout before bytes after pattern pair (r .so-far before q) g;
       }
 
-  row-end : first + 8 ≤ pair → (before : List ℕ) → entry ≡ withBits d form before usercode pattern (2 * first)
-      → bytes ≡ withBits d form before usercode pattern (2 * (first + 8))
+  row-end : first + 8 ≤ pair → (before : List ℕ) → entry ≡ withBits d layout before usercode pattern (2 * first)
+      → bytes ≡ withBits d layout before usercode pattern (2 * (first + 8))
   row-end l before q =
       let last : 2 * pair ≡ 2 * (first + 8) = omega (arith, r .upto) in
-      r .so-far before q ∙ ap (withBits d form before usercode pattern) last
+      r .so-far before q ∙ ap (withBits d layout before usercode pattern) last
 
 -- the next row starts where one ends
-next-row : (d : Device) (form : Bool) (pattern : ℕ) (before half : List ℕ) (pair : ℕ) → Put d form pattern 0 before half pair → 8 ≤ pair
-    → Put d form pattern 8 half half pair
-next-row d form pattern before half pair r l = start d form pattern 8 half pair (r .size) (omega (arith, r .upto))
+next-row : (d : Device) (layout : Layout) (pattern : ℕ) (before half : List ℕ) (pair : ℕ) → Put d layout pattern 0 before half pair → 8 ≤ pair
+    → Put d layout pattern 8 half half pair
+next-row d layout pattern before half pair r l = start d layout pattern 8 half pair (r .size) (omega (arith, r .upto))
 
-end : (d : Device) (form : Bool) (pattern : ℕ) (before half after : List ℕ) (pair last : ℕ) → Put d form pattern 0 before half pair → 8 ≤ pair
-    → Put d form pattern 8 half after last → 16 ≤ last → after ≡ withPattern d form before usercode pattern
+end : (d : Device) (layout : Layout) (pattern : ℕ) (before half after : List ℕ) (pair last : ℕ) → Put d layout pattern 0 before half pair → 8 ≤ pair
+    → Put d layout pattern 8 half after last → 16 ≤ last → after ≡ withPattern d layout before usercode pattern
 unfolding withPattern withBits bitsOf
-end d form pattern before half after pair last low l high m =
-    row-end d form pattern 8 half after last high m before (row-end d form pattern 0 before half pair low l before refl)
+end d layout pattern before half after pair last low l high m =
+    row-end d layout pattern 8 half after last high m before (row-end d layout pattern 0 before half pair low l before refl)
 
 abbrev Inv-loop : tie.InvT-loop
 Inv-loop d readout bytes₀ pattern pair₀ bytes pair = Put d readout pattern 0 bytes₀ bytes pair

@@ -11,6 +11,8 @@ use Rattle.part.specs.declared.Place.{Place}
 use Rattle.part.proofs.Devices.{fuses-small}
 use Rattle.part.proofs.Facts.{and-iff}
 use Rattle.part.proofs.Fuses.{of-place}
+use Rattle.setting_bits.specs.declared.Layout.{Layout}
+use Rattle.setting_bits.specs.declared.Layout.the-variants.{Image, Readout}
 use Rattle.setting_bits.specs.SettingBits.{byteOf, bitIn}
 use borrow.Author.Needs.{needs}
 use Rattle.setting_bits.proofs.internal.spot_at.Statement.{statement}
@@ -27,15 +29,15 @@ module _ (d : Device) (p : Place) (k : known d ≡ true) (h : hasPlace d p ≡ t
   below : (first : ℕ) → first ≡ firstFuse d (p .byte) → first + p .bit ≤ 290304
   below first g = rw (its-fuse first g) (omega (arith, of-place d p h .0, fuses-small d k))
 
-  in-readout : (form : Bool) (r : ℕ) → form ≡ true → r ≡ indexOfByte d (p .byte)
-      → (r ≡ byteOf d form (fuseOfPlace d p)) × (p .bit ≡ bitIn d form (fuseOfPlace d p))
-  in-readout form r f g =
+  in-readout : (layout : Layout) (r : ℕ) → layout ≡ Readout → r ≡ indexOfByte d (p .byte)
+      → (r ≡ byteOf d layout (fuseOfPlace d p)) × (p .bit ≡ bitIn d layout (fuseOfPlace d p))
+  in-readout layout r f g =
       let again = sym (of-place d p h .1) in
       rw f (g ∙ ap (λ (q : Place). indexOfByte d (q .byte)) again, ap (λ (q : Place). q .bit) again)
 
-  in-image : (form : Bool) (first : ℕ) → form ≡ false → first ≡ firstFuse d (p .byte)
-      → ((first + p .bit) / 8 ≡ byteOf d form (fuseOfPlace d p)) × ((first + p .bit) % 8 ≡ bitIn d form (fuseOfPlace d p))
-  in-image form first f g = rw (f, its-fuse first g) (refl, refl)
+  in-image : (layout : Layout) (first : ℕ) → layout ≡ Image → first ≡ firstFuse d (p .byte)
+      → ((first + p .bit) / 8 ≡ byteOf d layout (fuseOfPlace d p)) × ((first + p .bit) % 8 ≡ bitIn d layout (fuseOfPlace d p))
+  in-image layout first f g = rw (f, its-fuse first g) (refl, refl)
 
 index-of-byte-requires : tie.Need-index-of-byte-requires
 index-of-byte-requires c κs = search (needs, has-byte)

@@ -11,6 +11,7 @@ use Rattle.settings.specs.Settings.{hasSetting}
 use Rattle.settings.specs.declared.Setting.{Setting}
 use Rattle.setting_places.specs.Places.{placeOf, bitsOf, fuseOf}
 use Rattle.setting_places.proofs.Places.{has-place}
+use Rattle.setting_bits.specs.declared.Layout.{Layout}
 use Rattle.setting_bits.specs.SettingBits.{byteOf, bitIn}
 use borrow.Author.Needs.{needs}
 use Rattle.setting_bits.proofs.internal.spot_of.Statement.{statement}
@@ -20,10 +21,10 @@ module _ (d : Device) (s : Setting) (b : ℕ) (p : Place) (e : p ≡ placeOf s b
   there : known d ≡ true → hasSetting d s ≡ true → b < bitsOf s → hasPlace d p ≡ true
   there k h l = rw e (has-place d s b k h l)
 
-  same : (form : Bool) (index bit : ℕ) → (index ≡ byteOf d form (fuseOfPlace d p)) × (bit ≡ bitIn d form (fuseOfPlace d p))
-      → (index ≡ byteOf d form (fuseOf d s b)) × (bit ≡ bitIn d form (fuseOf d s b))
+  same : (layout : Layout) (index bit : ℕ) → (index ≡ byteOf d layout (fuseOfPlace d p)) × (bit ≡ bitIn d layout (fuseOfPlace d p))
+      → (index ≡ byteOf d layout (fuseOf d s b)) × (bit ≡ bitIn d layout (fuseOf d s b))
   unfolding fuseOf
-  same form index bit q = rw (← e) q
+  same layout index bit q = rw (← e) q
 
 place-of-requires : tie.Need-place-of-requires
 place-of-requires c κs = search needs

@@ -15,7 +15,8 @@ use Rattle.part.specs.declared.Place.{Place}
 use Rattle.settings.specs.Settings.{hasSetting}
 use Rattle.settings.specs.declared.Setting.{Setting}
 use Rattle.setting_places.specs.Places.{placeOf, bitsOf, fuseOf}
-use Rattle.setting_bits.specs.SettingBits.{inReadout, byteOf, strayOf}
+use Rattle.setting_bits.specs.declared.Layout.the-variants.{Readout}
+use Rattle.setting_bits.specs.SettingBits.{byteOf, strayOf}
 use Rattle.setting_bits.proofs.Edits.{inside, fuse-below}
 use Rattle.setting_bits.proofs.Steps.{its-byte, width-in, its-index}
 use Rattle.setting_bits.proofs.Strays.{none-stray, one-stray}
@@ -32,11 +33,11 @@ module _ (d : Device) (readout : List ℕ) (s : Setting) (k : known d ≡ true) 
   byte-there = rw e (its-byte d k s h 0 there)
 
   module _ (index : ℕ) (q : length readout ≡ readoutBytes d) (g : index ≡ indexOfByte d (p .byte)) where
-    at : index ≡ byteOf d inReadout (fuseOf d s 0)
+    at : index ≡ byteOf d Readout (fuseOf d s 0)
     at = its-index d k readout s h 0 there p e index g
 
     index-in : index < length readout
-    index-in = rw (q, at) (inside d inReadout (fuseOf d s 0) k (fuse-below d k s h 0 there))
+    index-in = rw (q, at) (inside d Readout (fuseOf d s 0) k (fuse-below d k s h 0 there))
 
     module _ (above w : ℕ) (v : w ≡ widthOf (p .byte)) (m : above ≡ getD readout index 0 / 2 ^ w) where
       looked : strayOf d readout s ≡ cond (not (eqb above 0)) index (readoutBytes d)

@@ -13,6 +13,7 @@ use Rattle.part.specs.declared.Device.{Device}
 use Rattle.image.specs.Bits.{bitAt, gathered}
 use Rattle.settings.specs.Settings.{hasSetting}
 use Rattle.setting_places.specs.Places.{bitsOf, fuseOf}
+use Rattle.setting_bits.specs.declared.Layout.{Layout}
 use Rattle.setting_bits.specs.SettingBits.{bytesOf, byteOf, bitIn, patternAt}
 use Rattle.setting_bits.proofs.Steps.{bitsRead}
 use Rattle.setting_bits.proofs.Usercode.{usercode, spot-in, spot-low, pair-more}
@@ -21,33 +22,33 @@ use Rattle.setting_bits.proofs.internal.usercode_at.Statement.{statemen
 use Rattle.setting_bits.proofs.internal.usercode_at.Tie as tie
 
 -- what has been read so far
-record Read (d : Device) (form : Bool) (bytes : List ℕ) (pattern pair : ℕ) : Type 0 where
+record Read (d : Device) (layout : Layout) (bytes : List ℕ) (pattern pair : ℕ) : Type 0 where
   upto : pair ≤ 16
-  so-far : pattern ≡ bitsRead d form bytes usercode (2 * pair)
+  so-far : pattern ≡ bitsRead d layout bytes usercode (2 * pair)
 
-start : (d : Device) (form : Bool) (bytes : List ℕ) → Read d form bytes 0 0
+start : (d : Device) (layout : Layout) (bytes : List ℕ) → Read d layout bytes 0 0
 unfolding gathered
-start d form bytes = record { upto = omega arith; so-far = refl }
+start d layout bytes = record { upto = omega arith; so-far = refl }
 
-module _ (d : Device) (form : Bool) (bytes : List ℕ) (pattern pair : ℕ) (r : Read d form bytes pattern pair) where
+module _ (d : Device) (layout : Layout) (bytes : List ℕ) (pattern pair : ℕ) (r : Read d layout bytes pattern pair) where
   module _ (k : known d ≡ true) (h : hasSetting d usercode ≡ true) (l : pair < 16) (index bit : ℕ)
-      (x : index ≡ byteOf d form (fuseOf d usercode (2 * pair))) (y : bit ≡ bitIn d form (fuseOf d usercode (2 * pair))) where
-    index-in : length bytes ≡ bytesOf d form → index < length bytes
-    index-in e = spot-in d k h pair l form index bit x y bytes e
+      (x : index ≡ byteOf d layout (fuseOf d usercode (2 * pair))) (y : bit ≡ bitIn d layout (fuseOf d usercode (2 * pair))) where
+    index-in : length bytes ≡ bytesOf d layout → index < length bytes
+    index-in e = spot-in d k h pair l layout index bit x y bytes e
 
     bit-in : bit < 7
-    bit-in = spot-low d k h pair l form index bit x y
+    bit-in = spot-low d k h pair l layout index bit x y
 
     module _ (states : ℕ) (g : states ≡ bitAt bytes index bit + 2 * bitAt bytes index (bit + 1)) where
       fits : Fits w32 (pattern + states * 2 ^ (2 * pair) % 2 ^ 32)
-      fits = record { fits = pair-more d k h pair l form index bit x y bytes pattern states (r .so-far) g .1 }
+      fits = record { fits = pair-more d k h pair l layout index bit x y bytes pattern states (r .so-far) g .1 }
 
-      more : Read d form bytes (pattern + states * 2 ^ (2 * pair) % 2 ^ 32) (pair + 1)
-      more = record { upto = omega arith; so-far = pair-more d k h pair l form index bit x y bytes pattern states (r .so-far) g .0 }
+      more : Read d layout bytes (pattern + states * 2 ^ (2 * pair) % 2 ^ 32) (pair + 1)
+      more = record { upto = omega arith; so-far = pair-more d k h pair l layout index bit x y bytes pattern states (r .so-far) g .0 }
 
-  end : 16 ≤ pair → pattern ≡ patternAt d form bytes usercode
+  end : 16 ≤ pair → pattern ≡ patternAt d layout bytes usercode
   unfolding patternAt bitsOf
-  end l = let last : 2 * pair ≡ 32 = omega (arith, r .upto) in r .so-far ∙ ap (bitsRead d form bytes usercode) last
+  end l = let last : 2 * pair ≡ 32 = omega (arith, r .upto) in r .so-far ∙ ap (bitsRead d layout bytes usercode) last
 
 abbrev Inv-loop : tie.InvT-loop
 Inv-loop d readout bytes pattern₀ pair₀ pattern pair = Read d readout bytes pattern pair

@@ -7,19 +7,21 @@ use Rattle.part.specs.Device.{known}
 use Rattle.part.specs.declared.Device.{Device}
 use Rattle.settings.specs.Settings.{hasSetting}
 use Rattle.setting_places.specs.Places.{fuseOf}
+use Rattle.setting_bits.specs.declared.Layout.{Layout}
+use Rattle.setting_bits.specs.declared.Layout.the-variants.{Image, Readout}
 use Rattle.setting_bits.specs.SettingBits.{byteOf, bitIn}
 use Rattle.setting_bits.proofs.Usercode.{usercode, rowOf, columnOf, in-readout, in-image}
 use borrow.Author.Needs.{needs}
 use Rattle.setting_bits.proofs.internal.usercode_spot.Statement.{statement}
 use Rattle.setting_bits.proofs.internal.usercode_spot.Tie as tie
 
-module _ (d : Device) (form : Bool) (pair : ℕ) (k : known d ≡ true) (h : hasSetting d usercode ≡ true) (l : pair < 16) where
-  at-readout : form ≡ true → (rowOf pair * 15 + columnOf pair ≡ byteOf d form (fuseOf d usercode (2 * pair)))
-      × (6 ≡ bitIn d form (fuseOf d usercode (2 * pair)))
+module _ (d : Device) (layout : Layout) (pair : ℕ) (k : known d ≡ true) (h : hasSetting d usercode ≡ true) (l : pair < 16) where
+  at-readout : layout ≡ Readout → (rowOf pair * 15 + columnOf pair ≡ byteOf d layout (fuseOf d usercode (2 * pair)))
+      × (6 ≡ bitIn d layout (fuseOf d usercode (2 * pair)))
   at-readout f = rw f (in-readout d k h pair l)
 
-  at-image : form ≡ false → ((rowOf pair * 108 + columnOf pair * 8 + 6) / 8 ≡ byteOf d form (fuseOf d usercode (2 * pair)))
-      × ((rowOf pair * 108 + columnOf pair * 8 + 6) % 8 ≡ bitIn d form (fuseOf d usercode (2 * pair)))
+  at-image : layout ≡ Image → ((rowOf pair * 108 + columnOf pair * 8 + 6) / 8 ≡ byteOf d layout (fuseOf d usercode (2 * pair)))
+      × ((rowOf pair * 108 + columnOf pair * 8 + 6) % 8 ≡ bitIn d layout (fuseOf d usercode (2 * pair)))
   at-image f = rw (f, in-image d k h pair l) (refl, refl)
 
 sub-row : tie.Need-sub-row
