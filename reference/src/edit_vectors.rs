@@ -214,13 +214,18 @@ fn both_ways(device: Device, lengths: [usize; 5]) -> String {
     for (bytes, seed) in slices.into_iter().zip(3..) {
         fill(bytes, seed);
     }
-    let past = setting_count(device).unwrap_or(0) + 2;
+    let count = setting_count(device).unwrap_or(0);
     let mut digest = Digest::new();
     let done = |answer: Answer<()>| halved(answer.map(|()| 0));
     for k in 0..TURNS {
-        let setting = setting_or_oe_mux(device, (k * 7919 + 13) % past);
-        let other = setting_or_oe_mux(device, (k * 104_729 + 7) % past);
-        let pattern = k * 5 % 9;
+        let number = if k % 9 == 8 {
+            count + k % 2
+        } else {
+            (k * 7919 + 13) % (count + 1)
+        };
+        let setting = setting_or_oe_mux(device, number);
+        let other = setting_or_oe_mux(device, (k * 104_729 + 7) % (count + 1));
+        let pattern = if k % 5 == 4 { k / 5 + 2 } else { k / 2 % 2 };
         digest.take_in(done(image_to_readout(device, &image, &mut readout)));
         if kept.len() == readout.len() {
             kept.copy_from_slice(&readout);

@@ -1,13 +1,15 @@
--- What `both_ways` ensures: its calls are those that their names say, and demand 3 holds of them (`Made` and `DemandByName` of crate `edit`).
--- It is said for whatever device, bytes, settings and value it was given.
+-- What `both_ways` ensures: for whatever it was given, each answer and each slice is what its definition gives (`Ran`); and for any known
+-- device, image, setting and value and slices of the right lengths demand 3 holds of them (`Made` and `DemandByName` of crate `edit`).
 use mathlib.Core.Path.{_≡_}
+use mathlib.Core.Bool.{cond}
 use mathlib.Core.List.{List}
 use Prim.Native.Nat.{ℕ}
+use lib.Dec.{eqb}
 use lib.ListN.{length}
 use Rattle.part.specs.Device.{imageBytes, readoutBytes}
 use Rattle.part.specs.declared.Device.{Device}
 use Rattle.part.specs.Answer.{doneOutcome}
-use Rattle.part.specs.Outcome.{Written}
+use Rattle.part.specs.Outcome.{written, Written}
 use Rattle.readout.specs.Readout.{toReadout, readoutOf, toImage, imageOf}
 use Rattle.settings.specs.declared.Setting.{Setting}
 use Rattle.values.specs.declared.Value.{Value}
@@ -25,10 +27,14 @@ pub record ReadInBoth (d : Device) (image readout : List ℕ) (s : Setting) (r :
   pub in-image : valueOutcome (r .image) ≡ readIn d Image image s
   pub in-readout : valueOutcome (r .readout) ≡ readIn d Readout readout s
 
--- .. an image converted, the readout copied to a slice of its length, and a setting read in both ..
+-- .. bytes copied to a slice of the same length, which else stands ..
+abbrev pub copied : (bytes kept : List ℕ) → List ℕ
+copied bytes kept = cond (eqb (length kept) (length bytes)) bytes kept
+
+-- .. an image converted, the readout so copied, and a setting read in both ..
 pub record Begun (d : Device) (image readout readout' kept kept' : List ℕ) (t : Setting) (r : BeforeAnswer) : Type 0 where
   pub converted : Written (toReadout d image readout) (doneOutcome (r .converted)) (readoutOf d image) readout readout'
-  pub copied : length kept ≡ length readout' → kept' ≡ readout'
+  pub keeps : kept' ≡ copied readout' kept
   pub read : ReadInBoth d image readout' t (r .other)
 
 -- .. a setting set in both ..
@@ -62,6 +68,15 @@ callsOf r image readout kept its-readout its-image = record {
   other-readout = valueOutcome (r .other .readout);
 }
 
+-- these steps one after the other, whatever is refused
+pub record Ran (d : Device) (image readout kept its-readout its-image : List ℕ) (s : Setting) (v : Value) (t : Setting) (r : BothAnswer)
+    (image' readout' kept' its-readout' its-image' : List ℕ) : Type 0 where
+  pub begun : Begun d image readout (written (toReadout d image readout) (readoutOf d image) readout) kept kept' t (r .before)
+  pub set : SetInBoth d image image' (written (toReadout d image readout) (readoutOf d image) readout) readout' s v (r .set)
+  pub converted : BothConverted d image' readout' its-readout its-readout' its-image its-image' (r .converted)
+  pub read : ReadInBoth d image' readout' s (r .read)
+  pub other : ReadInBoth d image' readout' t (r .other)
+
 -- its four other slices have the lengths of a readout, a readout, a readout and an image
 pub record RightLengths (d : Device) (readout kept its-readout its-image : List ℕ) : Type 0 where
   pub readout-size : length readout ≡ readoutBytes d
@@ -69,7 +84,10 @@ pub record RightLengths (d : Device) (readout kept its-readout its-image : List 
   pub its-readout-size : length its-readout ≡ readoutBytes d
   pub its-image-size : length its-image ≡ imageBytes d
 
-abbrev pub BothWays : Device → (image readout kept its-readout its-image : List ℕ) → Setting → Value → (t : Setting) → Calls Value → Type 0
-BothWays d image readout kept its-readout its-image s v t c =
-    (pattern : ℕ) → Taken d image s v pattern → RightLengths d readout kept its-readout its-image
-    → Made d image s v t c × DemandByName d image s v pattern t c
+abbrev pub BothWays : Device → (image readout kept its-readout its-image : List ℕ) → Setting → Value → (t : Setting) → BothAnswer
+    → (image' readout' kept' its-readout' its-image' : List ℕ) → Type 0
+BothWays d image readout kept its-readout its-image s v t r image' readout' kept' its-readout' its-image' =
+    Ran d image readout kept its-readout its-image s v t r image' readout' kept' its-readout' its-image'
+    × ((pattern : ℕ) → Taken d image s v pattern → RightLengths d readout kept its-readout its-image
+    → Made d image s v t (callsOf r image' readout' kept' its-readout' its-image')
+    × DemandByName d image s v pattern t (callsOf r image' readout' kept' its-readout' its-image'))

@@ -1,8 +1,7 @@
-// Demand 3 as a run of calls: a setting set in an image and straight in its readout, converted and read before and after.
+// Demand 3 as a run of calls: a setting is set in an image and straight in its readout, both are converted, and settings are read before and after.
 // The records that its contract cites stand in specs/Demand.antt of crate `edit` and in specs/BothWays.antt.
 ghost use mathlib.Core.Path.{_≡_};
-ghost use lib.ListN.{length};
-ghost use Rattle.demand.specs.BothWays.{ReadInBoth, Begun, SetInBoth, BothConverted, BothWays, callsOf};
+ghost use Rattle.demand.specs.BothWays.{ReadInBoth, copied, Begun, SetInBoth, BothConverted, BothWays};
 use part::Device;
 use part::DoneAnswer;
 use setting_values::ValueAnswer;
@@ -48,9 +47,9 @@ pub fn read_both(d: Device, image: &[u8], readout: &[u8], s: Setting) -> BothRea
     }
 }
 
-// The bytes of a slice kept in another one, if that has the same length.
+// A slice copied to another one of the same length; one of another length stands.
 pub fn keep(bytes: &[u8], kept: &mut [u8])
-    ensures { λ _. ⌜ (length (now (kept .entry)) ≡ length (now (bytes .entry)) → now (kept .exit) ≡ now (bytes .entry)) ⌝ }
+    ensures { λ _. ⌜ now (kept .exit) ≡ copied (now (bytes .entry)) (now (kept .entry)) ⌝ }
 {
     if kept.len() != bytes.len() {
         return;
@@ -118,7 +117,7 @@ pub fn both_ways(
     v: Value,
     t: Setting,
 ) -> BothAnswer
-    ensures { λ r. ⌜ BothWays d (now (image .entry)) (now (readout .entry)) (now (kept .entry)) (now («its_readout» .entry)) (now («its_image» .entry)) s v t (callsOf r (now (image .exit)) (now (readout .exit)) (now (kept .exit)) (now («its_readout» .exit)) (now («its_image» .exit))) ⌝ }
+    ensures { λ r. ⌜ BothWays d (now (image .entry)) (now (readout .entry)) (now (kept .entry)) (now («its_readout» .entry)) (now («its_image» .entry)) s v t r (now (image .exit)) (now (readout .exit)) (now (kept .exit)) (now («its_readout» .exit)) (now («its_image» .exit)) ⌝ }
 {
     let before = begin(d, image, readout, kept, t);
     let set = set_both(d, image, readout, s, v);

@@ -1,4 +1,4 @@
--- Demand 3, whole, in the customer's words: a field for each of its sentences, in their order, over document 01's places and values and the
+-- Demand 3, whole, in its own words: a field for each of its sentences, in their order, over document 01's places and values and the
 -- conversions; it speaks of the definitions that the contracts of the operations cite, and of calls.
 use mathlib.Core.Path.{_≡_}
 use mathlib.Core.Logic.{_≢_}
@@ -75,7 +75,7 @@ callsBy d set changed read image s t = record {
   other-readout = read Readout (changed Readout (readoutOf d image)) t;
 }
 
--- The demand of some calls. A setting is called `s`: by its name and fields, or by its number; `has` says which of these the device has,
+-- Demand 3, of given calls. A setting is called `s`: by its name and indices, or by its number; `has` says which of these the device has,
 -- `read` reads one, `v` is what it is set to, `pattern` the states that `v` needs, and `fuse b` for b below `bits` are the fuses listed for
 -- it. `t` is the other setting that the calls read.
 pub record Demand3 {S A : Type 0} (d : Device) (has : S → Type 0) (read : Bool → List ℕ → S → Outcome A) (image : List ℕ)
@@ -115,7 +115,7 @@ abbrev pub DemandByName : Device → (image : List ℕ) → Setting → Value �
 DemandByName d image s v pattern t c =
     Demand3 d (λ u. hasSetting d u ≡ true) (readIn d) image s v pattern (bitsOf s) (fuseOf d s) t c
 
--- The calls are those that their names say: each answer, and the bytes that each call left, are the definitions'.
+-- Each answer, and the bytes that each call left, are what the definition of the call of that name gives.
 pub record Made (d : Device) (image : List ℕ) (s : Setting) (v : Value) (t : Setting) (c : Calls Value) : Type 0 where
   pub conversion : (c .converted ≡ toReadout d image (c .readout-before)) × (c .readout-before ≡ readoutOf d image)
   pub answers : (c .set-image ≡ setIn d Image image s v) × (c .set-readout ≡ setIn d Readout (c .readout-before) s v)

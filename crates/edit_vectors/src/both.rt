@@ -93,17 +93,25 @@ fn with_answers(digest: u64, d: Device, s: Setting, t: Setting, r: BothAnswer) -
     with_read(five, d, t, other)
 }
 
-// The numbers to ask for, a few past the last among them, and the pattern to put there.
+// The numbers to ask for: at each ninth turn one that the device does not have.
 fn number(count: u32, k: u32) -> u32 {
-    (k % 4096 * 7919 + 13) % (count % 1048576 + 2)
+    let few = count % 1048576;
+    if k % 9 == 8 {
+        return few + k % 2;
+    }
+    (k % 4096 * 7919 + 13) % (few + 1)
 }
 
 fn other_number(count: u32, k: u32) -> u32 {
-    (k % 4096 * 104729 + 7) % (count % 1048576 + 2)
+    (k % 4096 * 104729 + 7) % (count % 1048576 + 1)
 }
 
+// The pattern to put there: 0 and 1 in turn, which every setting has, and at each fifth turn a wider one.
 fn pattern(k: u32) -> u32 {
-    k % 4096 * 5 % 9
+    if k % 5 == 4 {
+        return k % 4096 / 5 + 2;
+    }
+    k / 2 % 2
 }
 
 // Turn k, and the digest with its answers taken in.

@@ -88,7 +88,7 @@ pub record Counted (fuses : ℕ) (k : Known) : Type 0 where
   pub has-count : k .count ≡ some count-field
   pub right-count : count-field .value ≡ fuses
 
--- what the end of a text of good form needs: QF gives the count, no L is out of place, C gives the fuse sum of the image, and the transmission
+-- what a text of good form needs to be accepted with an image: QF gives the count, no L is out of place, C gives the fuse sum of the image, and the transmission
 -- sum is 0000 or the sum of the bytes from STX to ETX; `in-place` and `its-image` in plain terms are `InPlace` and `Described` below
 pub record Concluded (fuses : ℕ) (text image : List ℕ) (end sum : ℕ) (k : Known) : Type 0 where
   pub counted : Counted fuses k

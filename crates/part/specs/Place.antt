@@ -72,7 +72,7 @@ addressOfByte (WireAnd block subarea row column) = block * 2 ^ 13 + 1 * 2 ^ 12 +
 abbrev pub field : ℕ → ℕ → ℕ → ℕ
 field x from width = x / 2 ^ from % 2 ^ width
 
--- the byte that the fields of an address name; bits above bit 16 belong to no field, so that an address with one is not composed again
+-- the byte that the fields of an address name; bits above bit 16 belong to no field, so an address that has one is not the one that its fields compose
 unfoldable pub byteOfAddress : ℕ → BytePlace
 byteOfAddress address =
     cond (eqb (field address 12 1) 0)

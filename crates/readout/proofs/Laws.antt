@@ -9,7 +9,7 @@
 --   change-agrees        the readout of an image with one fuse changed is the readout with the bit at its address changed
 --   readout-changed, readout-others   the fuse has the new state, every other fuse stands; in an image `image-changed`, `image-others` of
 --                        crate `image`
-use mathlib.Core.Path.{_≡_, sym, _∙_, ap, ap₂, subst₂}
+use mathlib.Core.Path.{_≡_, refl, sym, _∙_, ap, ap₂, subst₂}
 use mathlib.Core.Logic.{_≢_, _↔_}
 use mathlib.Core.Bool.{true, cond}
 use mathlib.Core.List.{List}
@@ -67,11 +67,12 @@ lying d fuse h =
 pub kept-at-address : (d : Device) → known d ≡ true → (fuse : ℕ) → fuse < fuseCount d
     → (indexInReadout d fuse < readoutBytes d)
     × (addressOfFuse d fuse ≡ accepted (addressOfByte (byteOfIndex d (indexInReadout d fuse)), bitInReadout d fuse))
-unfolding hasPlace addressOfFuse
+    × ((readout : List ℕ) → stateIn d readout fuse ≡ bitAt readout (indexInReadout d fuse) (bitInReadout d fuse))
+unfolding hasPlace addressOfFuse stateIn
 kept-at-address d k fuse h =
     let byte = placeOfFuse d fuse .byte in
     let there = and-iff (hasByte d byte) (ltb (placeOfFuse d fuse .bit) (widthOf byte)) .0 (at-fuse d fuse h .0) .0 in
-    (of-byte d byte there .0, rw (k, lt-ltb fuse (fuseCount d) h, of-byte d byte there .1))
+    (of-byte d byte there .0, rw (k, lt-ltb fuse (fuseCount d) h, of-byte d byte there .1), λ readout. refl)
 
 -- and no other fuse lies there
 pub lies-there : (d : Device) (index bit : ℕ) → index < readoutBytes d → bit < widthAt d index

@@ -5,6 +5,7 @@ use mathlib.Core.List.{List}
 use Prim.Native.Nat.{ℕ}
 use native.Mathlib.Omega.{arith}
 use lib.ListN.{length}
+use borrow.Author.Tests.{eq-eqb}
 use Rattle.part.specs.Outcome.{Outcome, Written, written}
 use Rattle.part.specs.Outcome.Outcome.{accepted}
 use Rattle.part.specs.Device.{imageBytes}
@@ -21,7 +22,7 @@ use Rattle.edit.proofs.SameReadout.{same-readout}
 use Rattle.edit.proofs.SameImage.{changed, same-image}
 use Rattle.edit.proofs.ConversionsAccepted.{passes, passes-back}
 use Rattle.edit.proofs.Demand.{of-calls}
-use Rattle.demand.specs.BothWays.{ReadInBoth, Begun, SetInBoth, BothConverted, RightLengths, BothWays, callsOf}
+use Rattle.demand.specs.BothWays.{ReadInBoth, Begun, SetInBoth, BothConverted, Ran, RightLengths, BothWays, callsOf}
 use Rattle.demand.specs.declared.BothAnswer.{BothAnswer}
 use borrow.Author.Needs.{needs}
 use Rattle.demand.proofs.both_ways.Statement.{statement}
@@ -45,7 +46,9 @@ module _ (d : Device) (image readout kept its-readout its-image : List ℕ) (s :
     made-before = left (begun .converted) (passes d image readout (taken .device) (taken .size) (lengths .readout-size))
 
     kept-before : kept1 ≡ readout1
-    kept-before = begun .copied (lengths .kept-size ∙ sym (ap length made-before ∙ its-length d image))
+    kept-before =
+        let same-size : length kept ≡ length readout1 = lengths .kept-size ∙ sym (ap length made-before ∙ its-length d image) in
+        begun .keeps ∙ rw (eq-eqb (length kept) (length readout1) same-size)
 
     kept-own : kept1 ≡ readoutOf d image
     kept-own = kept-before ∙ made-before
@@ -114,9 +117,21 @@ module _ (d : Device) (image readout kept its-readout its-image : List ℕ) (s :
       others-after = (others .in-image, others .in-readout);
     }
 
-  ran : BothWays d image readout kept its-readout its-image s v t (callsOf r image2 readout2 kept1 its-readout1 its-image1)
-  ran pattern taken lengths =
-      (made pattern taken lengths, of-calls d image s v pattern t _ taken (made pattern taken lengths))
+  steps : Ran d image readout kept its-readout its-image s v t r image2 readout2 kept1 its-readout1 its-image1
+  steps = record {
+    begun = rw (← begun .converted .holds) begun;
+    set = rw (← begun .converted .holds) put;
+    converted = converted;
+    read = reads;
+    other = others;
+  }
+
+  ran : BothWays d image readout kept its-readout its-image s v t r image2 readout2 kept1 its-readout1 its-image1
+  ran = (
+    steps,
+    λ pattern taken lengths.
+        (made pattern taken lengths, of-calls d image s v pattern t _ taken (made pattern taken lengths)),
+  )
 
 begin-requires : tie.Need-begin-requires
 begin-requires c κs = search needs
