@@ -17,8 +17,8 @@ ghost use Rattle.edit_by_number.specs.ByNumber.{readPattern, setPattern, withNu
 ghost use Rattle.capi.specs.Packed.{packed, refusalWord, device, addressAndBit, itself, noResult, orNone, settingAndBit, through};
 use part::AddressAnswer;
 use part::Device;
-use part::DoneAnswer;
 use part::DeviceAddress;
+use part::DoneAnswer;
 use part::FuseAnswer;
 use part::FuseNumber;
 use part::NumberAnswer;

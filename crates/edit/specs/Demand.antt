@@ -2,7 +2,7 @@
 -- conversions; it speaks of the definitions that the contracts of the operations cite, and of calls.
 use mathlib.Core.Path.{_≡_}
 use mathlib.Core.Logic.{_≢_}
-use mathlib.Core.Bool.{Bool, true}
+use mathlib.Core.Bool.{true}
 use mathlib.Core.List.{List}
 use Prim.Native.Nat.{ℕ, _^_, _<_}
 use lib.ListN.{length, getD}
@@ -17,6 +17,7 @@ use Rattle.settings.specs.declared.Setting.{Setting}
 use Rattle.setting_places.specs.Places.{bitsOf, fuseOf}
 use Rattle.values.specs.declared.Value.{Value}
 use Rattle.setting_values.specs.Kinds.{valueOf}
+use Rattle.setting_bits.specs.declared.Layout.{Layout}
 use Rattle.setting_bits.specs.declared.Layout.the-variants.{Image, Readout}
 use Rattle.setting_bits.specs.SettingBits.{stateOf}
 use Rattle.edit.specs.Edit.{readIn, setIn, withValue}
@@ -54,8 +55,8 @@ pub record Calls (A : Type 0) : Type 0 where
 
 -- What the definitions give where setting answers `set` and leaves `changed`, and a setting that is called `s` is read by `read`. The answer
 -- of a conversion depends on its target by the length alone, which is that of its result.
-abbrev pub callsBy : {S A : Type 0} → Device → (set : Bool → List ℕ → Outcome (Unit {0})) → (changed : Bool → List ℕ → List ℕ)
-    → (read : Bool → List ℕ → S → Outcome A) → (image : List ℕ) → (s t : S) → Calls A
+abbrev pub callsBy : {S A : Type 0} → Device → (set : Layout → List ℕ → Outcome (Unit {0})) → (changed : Layout → List ℕ → List ℕ)
+    → (read : Layout → List ℕ → S → Outcome A) → (image : List ℕ) → (s t : S) → Calls A
 callsBy d set changed read image s t = record {
   converted = toReadout d image (readoutOf d image);
   readout-before = readoutOf d image;
@@ -78,7 +79,7 @@ callsBy d set changed read image s t = record {
 -- Demand 3, of given calls. A setting is called `s`: by its name and indices, or by its number; `has` says which of these the device has,
 -- `read` reads one, `v` is what it is set to, `pattern` the states that `v` needs, and `fuse b` for b below `bits` are the fuses listed for
 -- it. `t` is the other setting that the calls read.
-pub record Demand3 {S A : Type 0} (d : Device) (has : S → Type 0) (read : Bool → List ℕ → S → Outcome A) (image : List ℕ)
+pub record Demand3 {S A : Type 0} (d : Device) (has : S → Type 0) (read : Layout → List ℕ → S → Outcome A) (image : List ℕ)
     (s : S) (v : A) (pattern bits : ℕ) (fuse : ℕ → ℕ) (t : S) (c : Calls A) : Type 0 where
   -- "Set it in the image, or set it straight in the readout's few bytes. Neither is refused."
   pub not-refused : (c .set-image ≡ accepted tt) × (c .set-readout ≡ accepted tt)

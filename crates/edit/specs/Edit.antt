@@ -1,7 +1,7 @@
 -- Reading and setting a setting, in an image and in a readout: unless refused, setting puts a value's states there and changes no other
 -- bit; reading answers the value whose states stand there. Document 01, "What the statements must settle" and the refusals.
 use Prim.Native.Nat.{ℕ}
-use mathlib.Core.Bool.{Bool, true, false, cond}
+use mathlib.Core.Bool.{cond}
 use mathlib.Core.List.{List}
 use mathlib.Core.Option.{Option}
 use mathlib.Core.Option.Option.{none, some}

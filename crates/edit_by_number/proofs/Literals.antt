@@ -26,7 +26,7 @@ use Rattle.setting_places.specs.Places.{placeOf, bitsOf, fuseOf}
 use Rattle.setting_places.proofs.Places.{has-place}
 use Rattle.setting_bits.specs.declared.Layout.{Layout}
 use Rattle.setting_bits.specs.declared.Layout.the-variants.{Image, Readout}
-use Rattle.setting_bits.specs.SettingBits.{bytesOf, byteOf, bitIn, patternAt, withBits, withPattern}
+use Rattle.setting_bits.specs.SettingBits.{isReadout, bytesOf, byteOf, bitIn, patternAt, withBits, withPattern}
 use Rattle.setting_bits.proofs.Edits.{inside, fuse-below}
 use Rattle.setting_bits.proofs.Steps.{bytes-between, bit-small}
 use Rattle.setting_bits.proofs.Strays.{one-stray}
@@ -37,7 +37,7 @@ use Rattle.edit_by_number.proofs.Asked.{PatternGives, reads-stray, read
 -- a bit above the width of the byte of a setting of one bit, in a readout
 stray-of-one : (d : Device) (layout : Layout) (bytes : List ℕ) (s : Setting) → known d ≡ true → hasSetting d s ≡ true → bitsOf s ≡ 1
     → (p : Place) → p ≡ placeOf s 0 → (index w above : ℕ) → index ≡ byteOf d layout (fuseOf d s 0) → w ≡ widthOf (p .byte)
-    → above ≡ getD bytes index 0 / 2 ^ w → strayIn d layout bytes s ≡ cond (layout && not (eqb above 0)) index (bytesOf d layout)
+    → above ≡ getD bytes index 0 / 2 ^ w → strayIn d layout bytes s ≡ cond (isReadout layout && not (eqb above 0)) index (bytesOf d layout)
 unfolding strayIn
 stray-of-one d Image bytes s k h one p e index w above i v a = refl
 stray-of-one d Readout bytes s k h one p e index w above i v a = one-stray d k s h one bytes p e index w above i v a
@@ -83,9 +83,9 @@ module _ (d : Device) (x : ℕ) (l : x < start d wireAnds) where
       pub spot-in : index < length bytes
       spot-in = index-in k layout bytes n index at-index
 
-      pub found : (w above : ℕ) → w ≡ widthOf (p .byte) → above ≡ getD bytes index 0 / 2 ^ w
-          → strayIn d layout bytes (settingOf d x) ≡ cond (layout && not (eqb above 0)) index (bytesOf d layout)
-      found w above v a = stray-of-one d layout bytes (settingOf d x) k its one-bit p e index w above at-index v a
+      pub found : (w above : ℕ) (t : Bool) → w ≡ widthOf (p .byte) → above ≡ getD bytes index 0 / 2 ^ w → t ≡ isReadout layout
+          → strayIn d layout bytes (settingOf d x) ≡ cond (t && not (eqb above 0)) index (bytesOf d layout)
+      found w above t v a r = rw r (stray-of-one d layout bytes (settingOf d x) k its one-bit p e index w above at-index v a)
 
 module _ (d : Device) (x : ℕ) (l : x < start d wireAnds) (k : known d ≡ true) (layout : Layout) (bytes : List ℕ) (n : length bytes ≡ bytesOf d layout)
     (index bit : ℕ) (t : Bool) (i : index ≡ byteOf d layout (fuseOf d (settingOf d x) 0)) (j : bit ≡ bitIn d layout (fuseOf d (settingOf d x) 0))

@@ -1,7 +1,7 @@
 -- Reading and setting a setting, in an image and in a readout, by setting number and pattern: 4 for a number at or over the count, 5 for
 -- a pattern of 2^width or more, the other refusals and the bits as by setting and value.
 use Prim.Native.Nat.{ℕ, _^_}
-use mathlib.Core.Bool.{Bool, cond}
+use mathlib.Core.Bool.{cond}
 use mathlib.Core.List.{List}
 use lib.Dec.{ltb}
 use lib.ListN.{length}

@@ -22,7 +22,7 @@ use Rattle.part.proofs.Fuses.{at-fuse, of-place}
 use Rattle.part.proofs.Readouts.{at-index, of-byte}
 use Rattle.image.specs.Bits.{bitOf, bitAt}
 use Rattle.image.specs.Image.{state, imageFrom}
-use Rattle.image.proofs.Numbers.{joined-bit, number-bit}
+use Rattle.image.proofs.Numbers.{At, at-replicate, joined-bit, number-bit}
 use Rattle.image.proofs.Bits.{bit-high, gathered-same, gathered-own, tabulate-length, tabulate-at}
 use Rattle.readout.specs.Readout.{widthAt, fuseAt, readoutFrom, readoutOf, stateIn, imageOf}
 use Rattle.readout.specs.Widths.{blockWidths, widths, wholeBytes, bytesIn}

@@ -11,11 +11,12 @@ ghost use Rattle.settings.specs.Settings.{hasSetting};
 ghost use Rattle.settings.specs.declared.GlobalField.the-variants.{Usercode};
 ghost use Rattle.settings.specs.declared.Setting.the-variants.{Global};
 ghost use Rattle.setting_places.specs.Places.{placeOf, bitsOf, fuseOf};
+ghost use Rattle.setting_bits.specs.declared.Layout.the-variants.{Readout};
 ghost use Rattle.setting_bits.specs.SettingBits.{bytesOf, isReadout, byteOf, bitIn, withState, patternAt, withPattern, strayOf};
+use super::Layout;
 use part::Device;
 use part::Place;
 use settings::Setting;
-use super::Layout;
 
 // A byte of an image or a readout, and one of its bits.
 pub struct Spot {
@@ -203,7 +204,7 @@ fn in_whole_bytes(d: Device, s: Setting) -> bool
 
 // The lowest index of a readout byte that holds the setting and has a bit above its width, or the length.
 pub fn stray_of(d: Device, readout: &[u8], s: Setting) -> usize
-    requires { ⌜ (known d ≡ true) × (hasSetting d s ≡ true) × (length (now readout) ≡ bytesOf d true) ⌝ }
+    requires { ⌜ (known d ≡ true) × (hasSetting d s ≡ true) × (length (now readout) ≡ bytesOf d Readout) ⌝ }
     ensures { λ r. ⌜ r ≡ strayOf d (now (readout .entry)) s ⌝ }
 {
     if in_whole_bytes(d, s) {

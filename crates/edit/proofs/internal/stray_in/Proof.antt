@@ -1,4 +1,4 @@
--- `stray_in` meets its contract: by what the bytes are.
+-- `stray_in` meets its contract: by the layout.
 -- Assumes nothing.
 use mathlib.Core.Path.{_≡_}
 use mathlib.Core.Bool.{Bool, true, false}
@@ -28,14 +28,20 @@ module _ (d : Device) (layout : Layout) (bytes : List ℕ) (s : Setting) (r : �
   unfolding strayIn
   of-image f e = rw f (rw f at e)
 
+enum-told : tie.Need-enum-told
+enum-told c = search needs
+
+enum-told-2 : tie.Need-enum-told-2
+enum-told-2 c = search needs
+
 stray-of-requires : tie.Need-stray-of-requires
 stray-of-requires c κs = search (needs, its-size)
 
 returns : tie.Need-returns
-returns c = search (needs, of-readout)
+returns c = search (needs, of-image)
 
 returns-2 : tie.Need-returns-2
-returns-2 c = search (needs, of-image)
+returns-2 c = search (needs, of-readout)
 
 pub stray-in-spec : {M : Type 1} → statement M
-stray-in-spec = tie.close (tie.spec stray-of-requires returns returns-2)
+stray-in-spec = tie.close (tie.spec enum-told enum-told-2 stray-of-requires returns returns-2)

@@ -18,10 +18,13 @@ width-of-requires c κs = search needs
 above-width-requires : tie.Need-above-width-requires
 above-width-requires c κs = (search (needs, spot-in), search (needs, width-in))
 
+is-readout-requires : tie.Need-is-readout-requires
+is-readout-requires c κs = search needs
+
 returns : tie.Need-returns
 returns c = (search (needs, at-index), search (needs, at-bit), search (needs, found))
 
 pub literal-spot-spec : {M : Type 1} → statement M
 literal-spot-spec =
     tie.close
-    (tie.spec place-of-literal-requires spot-at-requires width-of-requires above-width-requires returns)
+    (tie.spec place-of-literal-requires spot-at-requires width-of-requires above-width-requires is-readout-requires returns)

@@ -4,6 +4,8 @@ use mathlib.Core.Path.{_≡_, refl, sym, _∙_, ap}
 use mathlib.Core.Bool.{Bool, true, false}
 use Prim.Native.Nat.{ℕ, _+_, _/_, _%_, _≤_}
 use native.Mathlib.Omega.{arith}
+use mir.Syntax.{w32}
+use mir.Val.{Fits}
 use Rattle.part.specs.Device.{known}
 use Rattle.part.specs.Place.{hasByte, hasPlace, firstFuse, fuseOfPlace, indexOfByte}
 use Rattle.part.specs.declared.Device.{Device}
@@ -29,45 +31,59 @@ module _ (d : Device) (p : Place) (k : known d ≡ true) (h : hasPlace d p ≡ t
   below : (first : ℕ) → first ≡ firstFuse d (p .byte) → first + p .bit ≤ 290304
   below first g = rw (its-fuse first g) (omega (arith, of-place d p h .0, fuses-small d k))
 
-  in-readout : (layout : Layout) (r : ℕ) → layout ≡ Readout → r ≡ indexOfByte d (p .byte)
-      → (r ≡ byteOf d layout (fuseOfPlace d p)) × (p .bit ≡ bitIn d layout (fuseOfPlace d p))
-  in-readout layout r f g =
-      let again = sym (of-place d p h .1) in
-      rw f (g ∙ ap (λ (q : Place). indexOfByte d (q .byte)) again, ap (λ (q : Place). q .bit) again)
+  small : (first : ℕ) → first ≡ firstFuse d (p .byte) → Fits w32 (first + p .bit)
+  small first g = record { fits = omega (arith, below first g) }
 
-  in-image : (layout : Layout) (first : ℕ) → layout ≡ Image → first ≡ firstFuse d (p .byte)
-      → ((first + p .bit) / 8 ≡ byteOf d layout (fuseOfPlace d p)) × ((first + p .bit) % 8 ≡ bitIn d layout (fuseOfPlace d p))
-  in-image layout first f g = rw (f, its-fuse first g) (refl, refl)
+  module _ (layout : Layout) where
+    image-byte : (first : ℕ) → layout ≡ Image → first ≡ firstFuse d (p .byte) → (first + p .bit) / 8 ≡ byteOf d layout (fuseOfPlace d p)
+    image-byte first f g = rw (f, its-fuse first g)
 
-index-of-byte-requires : tie.Need-index-of-byte-requires
-index-of-byte-requires c κs = search (needs, has-byte)
+    image-bit : (first : ℕ) → layout ≡ Image → first ≡ firstFuse d (p .byte) → (first + p .bit) % 8 ≡ bitIn d layout (fuseOfPlace d p)
+    image-bit first f g = rw (f, its-fuse first g)
 
-cast-t9 : tie.Need-cast-t9
-cast-t9 c = search needs
+    readout-byte : (r : ℕ) → layout ≡ Readout → r ≡ indexOfByte d (p .byte) → r ≡ byteOf d layout (fuseOfPlace d p)
+    readout-byte r f g = rw f (g ∙ ap (λ (q : Place). indexOfByte d (q .byte)) (sym (of-place d p h .1)))
 
-returns : tie.Need-returns
-returns c = let at = c .before .before in in-readout (at .args .d) (at .args .place) (at .pre .0) (at .pre .1) _ _ (c .before .if1 .taken) (c .index-of-byte .ensures)
+    readout-bit : layout ≡ Readout → p .bit ≡ bitIn d layout (fuseOfPlace d p)
+    readout-bit f = rw f (ap (λ (q : Place). q .bit) (sym (of-place d p h .1)))
+
+enum-told : tie.Need-enum-told
+enum-told c = search needs
 
 first-fuse-requires : tie.Need-first-fuse-requires
 first-fuse-requires c κs = search (needs, has-byte)
 
 add-fuse : tie.Need-add-fuse
-add-fuse c = let at = c .before .before .before .before in omega (arith, below (at .args .d) (at .args .place) (at .pre .0) (at .pre .1) _ (c .before .before .first-fuse .ensures))
+add-fuse c = search (needs, small)
 
-cast-t11 : tie.Need-cast-t11
-cast-t11 c = search needs
+cast-t9 : tie.Need-cast-t9
+cast-t9 c = search needs
+
+enum-told-2 : tie.Need-enum-told-2
+enum-told-2 c = search needs
+
+index-of-byte-requires : tie.Need-index-of-byte-requires
+index-of-byte-requires c κs = search (needs, has-byte)
+
+cast-t12 : tie.Need-cast-t12
+cast-t12 c = search needs
+
+returns : tie.Need-returns
+returns c = (search (needs, image-byte), search (needs, image-bit))
 
 returns-2 : tie.Need-returns-2
-returns-2 c = let at = c .before .before .before .before in in-image (at .args .d) (at .args .place) (at .pre .0) (at .pre .1) _ _ (c .before .before .before .if1 .left) (c .before .before .first-fuse .ensures)
+returns-2 c = (search (needs, readout-byte), search (needs, readout-bit))
 
 pub spot-at-spec : {M : Type 1} → statement M
 spot-at-spec =
     tie.close
     (tie.spec
-    index-of-byte-requires
-    cast-t9
-    returns
+    enum-told
     first-fuse-requires
     add-fuse
-    cast-t11
+    cast-t9
+    enum-told-2
+    index-of-byte-requires
+    cast-t12
+    returns
     returns-2)

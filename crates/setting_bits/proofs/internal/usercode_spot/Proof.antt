@@ -16,13 +16,17 @@ use Rattle.setting_bits.proofs.internal.usercode_spot.Statement.{statem
 use Rattle.setting_bits.proofs.internal.usercode_spot.Tie as tie
 
 module _ (d : Device) (layout : Layout) (pair : ℕ) (k : known d ≡ true) (h : hasSetting d usercode ≡ true) (l : pair < 16) where
-  at-readout : layout ≡ Readout → (rowOf pair * 15 + columnOf pair ≡ byteOf d layout (fuseOf d usercode (2 * pair)))
-      × (6 ≡ bitIn d layout (fuseOf d usercode (2 * pair)))
-  at-readout f = rw f (in-readout d k h pair l)
+  readout-byte : layout ≡ Readout → rowOf pair * 15 + columnOf pair ≡ byteOf d layout (fuseOf d usercode (2 * pair))
+  readout-byte f = rw f (in-readout d k h pair l .0)
 
-  at-image : layout ≡ Image → ((rowOf pair * 108 + columnOf pair * 8 + 6) / 8 ≡ byteOf d layout (fuseOf d usercode (2 * pair)))
-      × ((rowOf pair * 108 + columnOf pair * 8 + 6) % 8 ≡ bitIn d layout (fuseOf d usercode (2 * pair)))
-  at-image f = rw (f, in-image d k h pair l) (refl, refl)
+  readout-bit : layout ≡ Readout → 6 ≡ bitIn d layout (fuseOf d usercode (2 * pair))
+  readout-bit f = rw f (in-readout d k h pair l .1)
+
+  image-byte : layout ≡ Image → (rowOf pair * 108 + columnOf pair * 8 + 6) / 8 ≡ byteOf d layout (fuseOf d usercode (2 * pair))
+  image-byte f = rw (f, in-image d k h pair l)
+
+  image-bit : layout ≡ Image → (rowOf pair * 108 + columnOf pair * 8 + 6) % 8 ≡ bitIn d layout (fuseOf d usercode (2 * pair))
+  image-bit f = rw (f, in-image d k h pair l)
 
 sub-row : tie.Need-sub-row
 sub-row c = search needs
@@ -30,17 +34,8 @@ sub-row c = search needs
 sub-column : tie.Need-sub-column
 sub-column c = search needs
 
-mul-t9 : tie.Need-mul-t9
-mul-t9 c = search needs
-
-add-t10 : tie.Need-add-t10
-add-t10 c = search needs
-
-cast-t11 : tie.Need-cast-t11
-cast-t11 c = search needs
-
-returns : tie.Need-returns
-returns c = at-readout (c .before .args .d) _ (c .before .args .pair) (c .before .pre .0) (c .before .pre .1) (c .before .pre .2) (c .if1 .taken)
+enum-told : tie.Need-enum-told
+enum-told c = search needs
 
 mul-fuse : tie.Need-mul-fuse
 mul-fuse c = search needs
@@ -54,11 +49,26 @@ add-fuse c = search needs
 add-fuse-2 : tie.Need-add-fuse-2
 add-fuse-2 c = search needs
 
-cast-t14 : tie.Need-cast-t14
-cast-t14 c = search needs
+cast-t12 : tie.Need-cast-t12
+cast-t12 c = search needs
+
+enum-told-2 : tie.Need-enum-told-2
+enum-told-2 c = search needs
+
+mul-t13 : tie.Need-mul-t13
+mul-t13 c = search needs
+
+add-t14 : tie.Need-add-t14
+add-t14 c = search needs
+
+cast-t15 : tie.Need-cast-t15
+cast-t15 c = search needs
+
+returns : tie.Need-returns
+returns c = (search (needs, image-byte), search (needs, image-bit))
 
 returns-2 : tie.Need-returns-2
-returns-2 c = at-image (c .before .args .d) _ (c .before .args .pair) (c .before .pre .0) (c .before .pre .1) (c .before .pre .2) (c .if1 .left)
+returns-2 c = (search (needs, readout-byte), search (needs, readout-bit))
 
 pub usercode-spot-spec : {M : Type 1} → statement M
 usercode-spot-spec =
@@ -66,13 +76,15 @@ usercode-spot-spec =
     (tie.spec
     sub-row
     sub-column
-    mul-t9
-    add-t10
-    cast-t11
-    returns
+    enum-told
     mul-fuse
     mul-fuse-2
     add-fuse
     add-fuse-2
-    cast-t14
+    cast-t12
+    enum-told-2
+    mul-t13
+    add-t14
+    cast-t15
+    returns
     returns-2)
