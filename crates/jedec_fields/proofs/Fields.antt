@@ -16,8 +16,10 @@ use lib.Seq.{take-all, length-take-le, drop-cons, drop-drop}
 use borrow.Author.Tests.{ne-eqb}
 use Rattle.jedec.specs.Characters.{etx, star, isBlank}
 use Rattle.jedec.specs.Cut.{onFirst, pieces, blanksBefore, Cut, startsWith, orEnd, fieldsFrom}
-use Rattle.jedec_fields.specs.Fields.{untilStar, fieldsAt, cutOf, Stands}
-use Rattle.jedec_fields.specs.declared.Next.the-variants.{Field, End, Early}
+use Rattle.jedec.specs.Judge.{judge}
+use Rattle.jedec_fields.specs.Fields.{Says, untilStar, fieldsAt, cutOf, Stands}
+use Rattle.jedec_fields.specs.declared.FieldSays.{FieldSays}
+use Rattle.jedec_fields.specs.declared.NextSays.the-variants.{Field, End, Early}
 
 -- what a slice from an offset on holds
 pub rest-whole : (k : ℕ) (l : List ℕ) → take (length l - k) (drop k l) ≡ drop k l
@@ -156,14 +158,14 @@ module _ (text : List ℕ) (at start : ℕ) (e : start ≡ at + blanksBefore (dr
   pub nothing-left : start ≡ length text → Stands text at Early
   nothing-left l =
       let past : length text ≤ start = omega arith in
-      record { cut = sym (from-start ∙ rw (drop-of-length-le text past) (nothing start)); inside = tt }
+      record { cut = sym (from-start ∙ rw (drop-of-length-le text past) (nothing start)); inside = tt; judged = tt }
 
   module _ (l : start ≤ length text) (n : start ≡ length text → ⊥) where
     first-there : drop start text ≡ getD text start 0 ∷ drop (suc start) text
     first-there = drop-cons text start 0 (omega arith)
 
     pub the-end : getD text start 0 ≡ 3 → Stands text at (End start)
-    the-end f = record { cut = sym (from-start ∙ rw (first-there, f) (at-etx start (drop (suc start) text))); inside = omega arith }
+    the-end f = record { cut = sym (from-start ∙ rw (first-there, f) (at-etx start (drop (suc start) text))); inside = omega arith; judged = tt }
 
     no-blank : isBlank (getD text start 0) ≡ false
     no-blank =
@@ -180,14 +182,16 @@ module _ (text : List ℕ) (at start : ℕ) (e : start ≡ at + blanksBefore (dr
           record {
             cut = sym (from-start ∙ rw first-there (at-none start (getD text start 0) (drop (suc start) text) no-blank m (omega (arith, long, u))));
             inside = tt;
+            judged = tt;
           }
 
-      pub a-field : star ≤ length text → (star ≡ length text → ⊥) → Stands text at (Field start star)
-      a-field k g =
+      pub a-field : star ≤ length text → (star ≡ length text → ⊥) → (fs : FieldSays)
+          → Says (drop 1 (take (star - start) (drop start text))) (judge (take (star - start) (drop start text))) fs → Stands text at (Field start star fs)
+      a-field k g fs j =
           let w : star - start ≡ untilStar (getD text start 0 ∷ drop (suc start) text) = rw (← first-there) (omega arith) in
           let there : start + (star - start) + 1 ≡ star + 1 = omega arith in
           let next : start + (star - start + 1) ≡ star + 1 = omega arith in
           let beyond : drop (star - start + 1) (drop start text) ≡ drop (star + 1) text = drop-drop (star - start + 1) start text ∙ ap (λ (j : ℕ). drop j text) next in
-          let field : fieldsAt start (drop start text) ≡ cutOf text (Field start star) =
+          let field : fieldsAt start (drop start text) ≡ cutOf text (Field start star fs) =
           rw (← first-there, there, beyond) at (at-field start (getD text start 0) (drop (suc start) text) no-blank m (star - start) w (omega (arith, long))) in
-          record { cut = sym (from-start ∙ field); inside = (omega arith, omega arith, omega arith) }
+          record { cut = sym (from-start ∙ field); inside = (omega arith, omega arith, omega arith); judged = j }

@@ -1,37 +1,37 @@
 -- Laws of L fields:
+--   number-wrong              digits and another byte write no number
 --   Counts, counts-           states counted over the first bytes
---   a-list                    a number, a blank and states are a list
 --   plain-until, plain-marks  digits, states and blanks hold neither `*` nor STX nor ETX
---   list-found                a good L field, by what follows the L
+--   list-past, list-blank     what a list says behind its digits, and behind the blank that ends them
+--   no-digits, no-blank, no-star, wrong-byte, no-state, a-good-list   what follows an L, by the tests that tell it
 use mathlib.Core.Path.{_≡_, refl, sym, _∙_, ap}
-use mathlib.Core.Bool.{Bool, true, false, cond, _&&_, _||_}
-use mathlib.Core.List.{List, [], _∷_, _++_, append-nil}
+use mathlib.Core.Bool.{Bool, true, false, cond, _||_, true≢false}
+use mathlib.Core.List.{List, [], _∷_, _++_, append-nil, append-assoc}
 use mathlib.Core.Option.{Option}
 use mathlib.Core.Option.Option.{none, some}
 use Prim.Native.Nat.{ℕ, zero, suc, _+_, _*_, _-_, _≤_, _<_}
 use native.Mathlib.Omega.{arith}
 use native.Mathlib.Nat.{zero-add, suc-add, add-zero}
 use native.Mathlib.Numerals.{add-one}
-use lib.Dec.{eqb, leb}
+use lib.Dec.{eqb}
 use lib.ListN.{length, getD, take, drop, replicate, length-append, length-replicate, length-drop, take-append-drop}
-use lib.Seq.{take-all, length-take-le, take-append-le, drop-append-seam, drop-cons, split-at, getD-take}
+use lib.Seq.{take-all, length-take-le, take-append-add, drop-append-add, take-add, take-suc, drop-cons, split-at, getD-drop}
 use borrow.Author.Tests.{ne-eqb, le-leb, lt-leb}
 use Rattle.part.proofs.Facts.{compared}
 use Rattle.cells.specs.Cells.{cut, join}
 use Rattle.cells.proofs.Laws.{cut-length}
 use Rattle.jedec.specs.Characters.{isBlank, isMark, decimalValue, andThen, digitsRead, numberIn}
 use Rattle.jedec.specs.Cut.{holdsMark}
-use Rattle.jedec.specs.Judge.{Judged, unbroken, withFirst, statesIn, statesFrom, listIn}
+use Rattle.jedec.specs.Judge.{Judged, orBad, unbroken, withFirst, statesIn, statesFrom, listIn}
+use Rattle.jedec.specs.Judge.Judged.{bad}
 use mir.Syntax.{w8}
 use mir.Val.{Fits}
-use Rattle.jedec_runs.specs.Runs.{IsBlankAt, StatesAt}
-use Rattle.jedec_runs.proofs.Words.{StatesTaken, taken-at, states-append, states-none, none-first, take-more}
-use Rattle.jedec_fields.specs.Fields.{DigitsStand, statesCount, orEmpty, statesOf, RunStands, Says, untilStar, ListAt}
+use Rattle.jedec_runs.specs.Runs.{oneIfBlank, IsBlankAt, StatesAt}
+use Rattle.jedec_runs.proofs.Words.{StatesTaken, taken-at, states-append, states-none, none-first}
+use Rattle.jedec_fields.specs.Fields.{DigitsStand, statesCount, orEmpty, statesOf, RunStands, untilStar, ListAt, NoList}
 use Rattle.jedec_fields.specs.declared.LeadingDigits.{LeadingDigits}
 use Rattle.jedec_fields.specs.declared.StatesRun.{StatesRun}
-use Rattle.jedec_fields.specs.declared.FieldSays.the-variants.{List as ListSaid}
 use Rattle.jedec_fields.proofs.Fields.{rest-whole}
-use Rattle.jedec_fields.proofs.Runs.{states-few}
 
 -- a byte that is no digit after digits
 digits-wrong : (a c : List ℕ) (x v b : ℕ) → digitsRead 10 decimalValue x a ≡ some v → decimalValue b ≡ none → digitsRead 10 decimalValue x (a ++ (b ∷ c)) ≡ none
@@ -58,15 +58,21 @@ nothing-there : none ≡ numberIn []
 unfolding numberIn
 nothing-there = refl
 
+number-wrong : (a c : List ℕ) (v b : ℕ) → digitsRead 10 decimalValue 0 a ≡ some v → (length a < 7 → decimalValue b ≡ none) → none ≡ numberIn (a ++ (b ∷ c))
+number-wrong a c v b e f =
+    let long : length (a ++ (b ∷ c)) ≡ length a + suc (length c) = length-append a (b ∷ c) in
+    compared 7 (length (a ++ (b ∷ c))) (too-long (a ++ (b ∷ c)))
+    (λ m. sym (digits-wrong a c 0 v b e (f (omega arith))) ∙ in-number (a ++ (b ∷ c)) (omega arith) m)
+
 module _ (bytes : List ℕ) (d : LeadingDigits) (s : DigitsStand bytes d) where
+  first-long : length (take (d .length) bytes) ≡ d .length
+  first-long = length-take-le (d .length) bytes (s .inside)
+
   pub other-byte : (d .length ≡ length bytes → ⊥) → none ≡ numberIn bytes
   other-byte n =
       let less : d .length < length bytes = omega (arith, s .inside) in
-      compared 7 (length bytes) (too-long bytes)
-      (λ m.
-      sym (digits-wrong (take (d .length) bytes) (drop (suc (d .length)) bytes) 0 (d .value) (getD bytes (d .length) 0) (s .reads) (s .stops less (omega arith)))
-      ∙ ap (digitsRead 10 decimalValue 0) (sym (split-at bytes (d .length) 0 less))
-      ∙ in-number bytes (omega arith) m)
+      number-wrong (take (d .length) bytes) (drop (suc (d .length)) bytes) (d .value) (getD bytes (d .length) 0) (s .reads) (λ m. s .stops less (omega (arith, first-long)))
+      ∙ ap numberIn (sym (split-at bytes (d .length) 0 less))
 
   pub no-number : d .length ≡ 0 → none ≡ numberIn bytes
   no-number z = go bytes refl
@@ -80,11 +86,7 @@ module _ (bytes : List ℕ) (d : LeadingDigits) (s : DigitsStand bytes d) where
       sym (s .reads) ∙ ap (digitsRead 10 decimalValue 0) (take-all (d .length) bytes (omega arith)) ∙ in-number bytes (omega arith) (omega (arith, s .few))
 
 -- states that a count speaks of
-pub none-counted : (o : Option (List ℕ)) → none ≡ statesCount o → o ≡ none
-none-counted none e = refl
-none-counted (some states) e = let z : _≡_ {A = ℕ} 0 1 = cc in absurd (omega arith)
-
-pub some-counted : (o : Option (List ℕ)) (n : ℕ) → some n ≡ statesCount o → (o ≡ some (orEmpty o)) × (length (orEmpty o) ≡ n)
+some-counted : (o : Option (List ℕ)) (n : ℕ) → some n ≡ statesCount o → (o ≡ some (orEmpty o)) × (length (orEmpty o) ≡ n)
 some-counted none n e = let z : _≡_ {A = ℕ} 0 1 = cc in absurd (omega arith)
 some-counted (some states) n e = let h : n ≡ length states = cc in (refl, sym h)
 
@@ -112,7 +114,7 @@ module _ (bytes : List ℕ) (n i : ℕ) (c : Counts bytes n i) where
           inside = c .upto;
           few = c .few;
           writes = c .so-far;
-          stops = λ l. rw (← add-one i) (ap statesIn (take-more i 1 bytes) ∙ states-none (take i bytes) (take 1 (drop i bytes)) _ (counted .0) (s .stops none-there));
+          stops = λ l. rw (← add-one i) (ap statesIn (take-add i 1 bytes) ∙ states-none (take i bytes) (take 1 (drop i bytes)) _ (counted .0) (s .stops none-there));
         }
 
     pub counts-inside : i + (count + z) ≤ length bytes
@@ -123,45 +125,16 @@ module _ (bytes : List ℕ) (n i : ℕ) (c : Counts bytes n i) where
         let withFirst = orEmpty (statesIn (take i bytes)) in
         let bits = join (replicate count 1) (drop i bytes) in
         let next = cut (replicate count 1) bits in
-        let all : statesIn (take (i + (count + z)) bytes) ≡ some (withFirst ++ next) = ap statesIn (take-more i (count + z) bytes) ∙ states-append (take i bytes) (take (count + z) (drop i bytes)) withFirst (counted .0) next (s .writes) in
+        let all : statesIn (take (i + (count + z)) bytes) ≡ some (withFirst ++ next) = ap statesIn (take-add i (count + z) bytes) ∙ states-append (take i bytes) (take (count + z) (drop i bytes)) withFirst (counted .0) next (s .writes) in
         let long : length (withFirst ++ next) ≡ n + count = length-append withFirst next ∙ rw (counted .1, cut-length (replicate count 1) bits, length-replicate {A = ℕ} count 1) in
         record { upto = s .inside; few = omega (arith, c .few); so-far = ap statesCount all ∙ ap some long }
 
   pub counts-end : length bytes ≤ i → RunStands bytes (record { length = i; count = n })
   counts-end l = record { inside = c .upto; few = c .few; writes = c .so-far; stops = λ m. absurd (omega arith) }
 
--- all bytes, or some that are neither 0 nor 1 nor blanks
-module _ (bytes : List ℕ) (r : StatesRun) (s : RunStands bytes r) where
-  pub all-counted : r .length ≡ length bytes → some (r .count) ≡ statesCount (statesIn bytes)
-  all-counted e = sym (s .writes) ∙ ap (λ (l : List ℕ). statesCount (statesIn l)) (take-all (r .length) bytes (omega arith))
-
-  pub wrong-byte : (r .length ≡ length bytes → ⊥) → none ≡ statesCount (statesIn bytes)
-  wrong-byte n = rw (none-first (suc (r .length)) bytes (s .stops (omega (arith, s .inside))))
-
--- a number, a blank and states
-pub so-long : (bytes : List ℕ) (u : ℕ) → u ≤ length bytes → u ≡ length (take u bytes)
-so-long bytes u l = sym (length-take-le u bytes l)
-
 full-list : (states : List ℕ) (first : ℕ) → (length states ≡ 0 → ⊥) → Judged.list first states ≡ statesFrom (some states) first
 full-list [] first e = absurd (e refl)
 full-list (s ∷ states) first e = refl
-
-pub a-list : (bytes : List ℕ) (u first n : ℕ) → u ≡ unbroken bytes → u ≤ length bytes → some first ≡ numberIn (take u bytes) → some n ≡ statesCount (statesIn (drop u bytes)) → (n ≡ 0 → ⊥)
-    → Says bytes (listIn bytes) (ListSaid first u n)
-unfolding listIn statesOf
-a-list bytes u first n e l f g z =
-    let found = some-counted (statesIn (drop u bytes)) n g in
-    record {
-      is = rw (← e, ← f) (full-list (orEmpty (statesIn (drop u bytes))) first (λ y. z (sym (found .1) ∙ y)) ∙ sym (ap (λ (x : Option (List ℕ)). statesFrom x first) (found .0)));
-      fits =
-          record {
-            inside = l;
-            found = found .0;
-            many = found .1;
-            few = omega (arith, found .1, states-few (drop u bytes), length-drop u bytes);
-            any = omega arith;
-          };
-    }
 
 -- bytes that are neither `*` nor STX nor ETX
 abbrev Plain : ℕ → Type 0
@@ -196,6 +169,12 @@ digit-solid b y e = rw (ne-eqb b 32 (no 32 refl), ne-eqb b 9 (no 9 refl), ne-eqb
     no : (k : ℕ) → decimalValue k ≡ none → b ≡ k → ⊥
     no k h f = let bad : none ≡ some y = sym h ∙ ap decimalValue (sym f) ∙ e in let z : _≡_ {A = ℕ} 0 1 = cc in absurd (omega arith)
 
+blank-plain : (b : ℕ) → isBlank b ≡ true → Plain b
+blank-plain b h = plain b (no 42 refl) (no 2 refl) (no 3 refl)
+  where
+    no : (k : ℕ) → isBlank k ≡ false → b ≡ k → ⊥
+    no k n f = true≢false (sym h ∙ ap isBlank f ∙ n)
+
 blank-first : (b : ℕ) (bytes : List ℕ) → isBlank b ≡ true → statesIn (b ∷ bytes) ≡ statesIn bytes
 unfolding statesIn
 blank-first b bytes h = rw h
@@ -209,14 +188,6 @@ digits-plain (b ∷ bytes) x n e = go (decimalValue b) refl e (λ y. digits-plai
         → ((y : ℕ) → digitsRead 10 decimalValue (x * 10 + y) bytes ≡ some n → AllPlain bytes) → Plain b × AllPlain bytes
     go none h f ih = let z : _≡_ {A = ℕ} 0 1 = cc in absurd (omega arith)
     go (some y) h f ih = (digit-plain b y h, ih y f)
-
-number-plain : (bytes : List ℕ) (n : ℕ) → some n ≡ numberIn bytes → AllPlain bytes
-unfolding numberIn
-number-plain bytes n e = go (leb 1 (length bytes) && leb (length bytes) 7) e
-  where
-    go : (t : Bool) → some n ≡ cond t (digitsRead 10 decimalValue 0 bytes) none → AllPlain bytes
-    go true f = digits-plain bytes 0 n (sym f)
-    go false f = let z : _≡_ {A = ℕ} 0 1 = cc in absurd (omega arith)
 
 states-plain : (bytes states : List ℕ) → statesIn bytes ≡ some states → AllPlain bytes
 unfolding AllPlain statesIn
@@ -241,120 +212,201 @@ unfolding AllPlain
 all-plain [] c p q = q
 all-plain (b ∷ a) c p q = (p .0, all-plain a c (p .1) q)
 
--- the first blank is among the first bytes
-unbroken-take : (bytes : List ℕ) (k : ℕ) → unbroken bytes ≤ k → unbroken (take k bytes) ≡ unbroken bytes
-unfolding unbroken
-unbroken-take [] zero l = refl
-unbroken-take [] (suc k) l = refl
-unbroken-take (b ∷ bytes) zero l = sym (omega arith)
-unbroken-take (b ∷ bytes) (suc k) l = go (isBlank b) refl l (unbroken-take bytes k)
-  where
-    go : (t : Bool) → isBlank b ≡ t → cond (isBlank b) 0 (suc (unbroken bytes)) ≤ suc k → (unbroken bytes ≤ k → unbroken (take k bytes) ≡ unbroken bytes)
-        → cond (isBlank b) 0 (suc (unbroken (take k bytes))) ≡ cond (isBlank b) 0 (suc (unbroken bytes))
-    go true e m ih = rw e
-    go false e m ih = let n : suc (unbroken bytes) ≤ suc k = rw e at m in rw e (ap suc (ih (omega arith)))
+-- the bytes before a `*` that stands behind some plain bytes
+plain-field : (a t : List ℕ) → AllPlain a → take (untilStar (a ++ t)) (a ++ t) ≡ a ++ take (untilStar t) t
+unfolding AllPlain untilStar
+plain-field [] t p = refl
+plain-field (b ∷ a) t p = rw (p .0 .0) (ap (λ (l : List ℕ). b ∷ l) (plain-field a t (p .1)))
 
--- a good L field
-list-found : (after : List ℕ) (skip first run n : ℕ) → skip ≡ unbroken after → skip ≤ length after → some first ≡ numberIn (take skip after)
-    → run ≤ length (drop skip after) → statesCount (statesIn (take run (drop skip after))) ≡ some n → (skip + run ≡ length after → ⊥)
-    → getD after (skip + run) 0 ≡ 42 → (n ≡ 0 → ⊥) → ListAt after first skip n (skip + run)
-unfolding untilStar holdsMark
-list-found after skip first run n e l f m g h s z =
-    let long = skip + run in
-    let whole : length (drop skip after) ≡ length after - skip = length-drop skip after in
-    let inside : skip + run < length after = omega arith in
-    let field : take long after ≡ take skip after ++ take run (drop skip after) = take-more skip run after in
-    let number-long : length (take skip after) ≡ skip = length-take-le skip after l in
-    let states = some-counted (statesIn (take run (drop skip after))) n (sym g) in
-    let solid : AllPlain (take long after) = rw field (all-plain (take skip after) (take run (drop skip after)) (number-plain (take skip after) first f) (states-plain (take run (drop skip after)) _ (states .0))) in
-    let star : drop long after ≡ 42 ∷ drop (suc long) after = drop-cons after long 0 inside ∙ rw s in
-    let digits : take skip (take long after) ≡ take skip after = rw (field, take-append-le skip (take skip after) (take run (drop skip after)) (omega arith)) (take-all skip (take skip after) (omega arith)) in
-    let rest : drop skip (take long after) ≡ take run (drop skip after) = rw field (ap (λ (k : ℕ). drop k (take skip after ++ take run (drop skip after))) (sym number-long) ∙ drop-append-seam (take skip after) (take run (drop skip after))) in
-    let field-long : length (take long after) ≡ long = length-take-le long after (omega arith) in
-    record {
-      inside = inside;
-      until = ap untilStar (sym (take-append-drop long after)) ∙ plain-until (take long after) (drop long after) solid ∙ rw (star, field-long) (add-zero long);
-      unmarked = ap holdsMark (sym (append-nil (take long after))) ∙ plain-marks (take long after) [] solid;
-      says =
-          a-list (take long after) skip first n (e ∙ sym (unbroken-take after long (rw (← e) (omega arith)))) (omega arith) (rw digits f) (rw rest (sym g)) z;
-    }
-
--- digits up to a blank
-unbroken-digits : (a c : List ℕ) (x n b : ℕ) → digitsRead 10 decimalValue x a ≡ some n → isBlank b ≡ true → unbroken (a ++ (b ∷ c)) ≡ length a
+-- no digit is a blank
+unbroken-past : (a t : List ℕ) (x v : ℕ) → digitsRead 10 decimalValue x a ≡ some v → unbroken (a ++ t) ≡ length a + unbroken t
 unfolding digitsRead unbroken
-unbroken-digits [] c x n b e h = rw h
-unbroken-digits (d ∷ a) c x n b e h = go (decimalValue d) refl e (λ y f. unbroken-digits a c (x * 10 + y) n b f h)
+unbroken-past [] t x v e = sym (zero-add (unbroken t))
+unbroken-past (d ∷ a) t x v e = go (decimalValue d) refl e (λ y f. unbroken-past a t (x * 10 + y) v f)
   where
-    go : (o : Option ℕ) → decimalValue d ≡ o → andThen o (λ y. digitsRead 10 decimalValue (x * 10 + y) a) ≡ some n
-        → ((y : ℕ) → digitsRead 10 decimalValue (x * 10 + y) a ≡ some n → unbroken (a ++ (b ∷ c)) ≡ length a) → cond (isBlank d) 0 (suc (unbroken (a ++ (b ∷ c)))) ≡ suc (length a)
+    go : (o : Option ℕ) → decimalValue d ≡ o → andThen o (λ y. digitsRead 10 decimalValue (x * 10 + y) a) ≡ some v
+        → ((y : ℕ) → digitsRead 10 decimalValue (x * 10 + y) a ≡ some v → unbroken (a ++ t) ≡ length a + unbroken t) → cond (isBlank d) 0 (suc (unbroken (a ++ t))) ≡ suc (length a) + unbroken t
     go none f g ih = let z : _≡_ {A = ℕ} 0 1 = cc in absurd (omega arith)
-    go (some y) f g ih = rw (digit-solid d y f) (ap suc (ih y g))
+    go (some y) f g ih = rw (digit-solid d y f, suc-add (length a) (unbroken t)) (ap suc (ih y g))
 
--- the blank before the states may be passed with the number
-past-blank : (bytes : List ℕ) (j : Judged) (u first n b : ℕ) → drop u bytes ≡ b ∷ drop (u + 1) bytes → u + 1 ≤ length bytes → isBlank b ≡ true → Says bytes j (ListSaid first u n)
-    → Says bytes j (ListSaid first (u + 1) n)
-unfolding statesOf
-past-blank bytes j u first n b e l h s =
-    let same : statesIn (drop u bytes) ≡ statesIn (drop (u + 1) bytes) = ap statesIn e ∙ blank-first b (drop (u + 1) bytes) h in
-    record {
-      is = rw (← same) (s .is);
-      fits = record { inside = l; found = rw (← same) (s .fits .found); many = rw (← same) (s .fits .many); few = s .fits .few; any = s .fits .any };
-    }
+-- what a list says, by what stands behind its first digits
+module _ (a : List ℕ) (v : ℕ) (e : digitsRead 10 decimalValue 0 a ≡ some v) where
+  list-past : (t : List ℕ) → listIn (a ++ t) ≡ orBad (numberIn (a ++ take (unbroken t) t)) (statesFrom (statesIn (drop (unbroken t) t)))
+  unfolding listIn
+  list-past t = rw (unbroken-past a t 0 v e, take-append-add a t (unbroken t), drop-append-add a t (unbroken t))
 
--- a good L field, by the digits that follow the L
-module _ (after : List ℕ) (d : LeadingDigits) (s : DigitsStand after d) (some-there : d .length ≡ 0 → ⊥) (z : ℕ) (at-end : IsBlankAt after (d .length) z) (a-blank : z ≡ 0 → ⊥) where
-  pub blank-inside : d .length + 1 ≤ length after
-  blank-inside = go (drop (d .length) after) refl
+  list-blank : (t : List ℕ) (b : ℕ) → isBlank b ≡ true → listIn (a ++ (b ∷ t)) ≡ orBad (numberIn a) (statesFrom (statesIn t))
+  unfolding unbroken
+  list-blank t b h = list-past (b ∷ t) ∙ rw (h, append-nil a, blank-first b t h)
+
+no-states-bad : (o : Option ℕ) (p : Option (List ℕ)) → length (orEmpty p) ≡ 0 → orBad o (statesFrom p) ≡ bad
+no-states-bad none p z = refl
+no-states-bad (some x) none z = refl
+no-states-bad (some x) (some []) z = refl
+no-states-bad (some x) (some (s ∷ states)) z = absurd (omega arith)
+
+no-number-bad : (a t : List ℕ) (b : ℕ) → length a ≡ 0 → isBlank b ≡ true → listIn (a ++ (b ∷ t)) ≡ bad
+unfolding listIn unbroken numberIn
+no-number-bad [] t b z h = rw h
+no-number-bad (d ∷ a) t b z h = absurd (omega arith)
+
+-- digits that no blank ends, or a blank without digits
+unended-bad : (a : List ℕ) (v k : ℕ) (t : List ℕ) → digitsRead 10 decimalValue 0 a ≡ some v → (length a < 7 → 0 < length t → decimalValue (getD t 0 0) ≡ none)
+    → (isBlank (getD t 0 0) ≡ true → length a ≡ 0) → listIn (a ++ take k t) ≡ bad
+unfolding unbroken statesIn
+unended-bad a v zero t e f g = list-past a v e [] ∙ no-states-bad (numberIn (a ++ [])) (some []) refl
+unended-bad a v (suc k) [] e f g = list-past a v e [] ∙ no-states-bad (numberIn (a ++ [])) (some []) refl
+unended-bad a v (suc k) (b ∷ t) e f g = go (isBlank b) refl
+  where
+    go : (blank : Bool) → isBlank b ≡ blank → listIn (a ++ (b ∷ take k t)) ≡ bad
+    go true h = no-number-bad a (take k t) b (g h) h
+    go false h =
+        let wrong = number-wrong a (take (unbroken (take k t)) (take k t)) v b e (λ m. f m (omega arith)) in
+        list-past a v e (b ∷ take k t) ∙ rw (h, ← wrong)
+
+solid-first : (t : List ℕ) → oneIfBlank t ≡ 0 → isBlank (getD t 0 0) ≡ true → ⊥
+solid-first [] e h = true≢false (sym h)
+solid-first (b ∷ t) e h = let z : _≡_ {A = ℕ} 1 0 = rw h at e in omega arith
+
+-- a byte that is neither a state nor a blank, whatever follows
+wrong-then : (w t : List ℕ) (b : ℕ) → statesIn (w ++ (b ∷ [])) ≡ none → statesIn (w ++ (b ∷ t)) ≡ none
+wrong-then w t b e = none-first (length w + 1) (w ++ (b ∷ t)) (rw (take-append-add w (b ∷ t) 1) e)
+
+-- what follows an L
+module _ (after : List ℕ) (d : LeadingDigits) (s : DigitsStand after d) where
+  digits-long : length (take (d .length) after) ≡ d .length
+  digits-long = first-long after d s
+
+  unended : (isBlank (getD (drop (d .length) after) 0 0) ≡ true → d .length ≡ 0) → NoList after
+  unended g =
+      let a = take (d .length) after in
+      let t = drop (d .length) after in
+      let field : take (untilStar after) after ≡ a ++ take (untilStar t) t =
+      ap (λ (l : List ℕ). take (untilStar l) l) (sym (take-append-drop (d .length) after)) ∙ plain-field a t (digits-plain a 0 (d .value) (s .reads)) in
+      record { is-bad = λ h. rw field (unended-bad a (d .value) (untilStar t) t (s .reads) first-wrong (λ b. digits-long ∙ g b)) }
     where
-      go : (cs : List ℕ) → drop (d .length) after ≡ cs → d .length + 1 ≤ length after
-      go [] e = absurd (a-blank (at-end .is ∙ rw e))
-      go (b ∷ cs) e = let long : length after - d .length ≡ suc (length cs) = sym (length-drop (d .length) after) ∙ ap length e in omega arith
+      first-wrong : length (take (d .length) after) < 7 → 0 < length (drop (d .length) after) → decimalValue (getD (drop (d .length) after) 0 0) ≡ none
+      first-wrong l m =
+          rw (getD-drop (d .length) after 0 0, add-zero (d .length)) (s .stops (omega (arith, length-drop (d .length) after)) (omega (arith, digits-long)))
 
-  blank-there : drop (d .length) after ≡ getD after (d .length) 0 ∷ drop (d .length + 1) after
-  blank-there = rw (add-one (d .length)) (drop-cons after (d .length) 0 (omega (arith, blank-inside)))
+  pub no-digits : d .length ≡ 0 → NoList after
+  no-digits z = unended (λ b. z)
 
-  is-blank : isBlank (getD after (d .length) 0) ≡ true
-  is-blank = go (isBlank (getD after (d .length) 0)) refl
-    where
-      go : (t : Bool) → isBlank (getD after (d .length) 0) ≡ t → t ≡ true
-      go true e = refl
-      go false e = absurd (a-blank (at-end .is ∙ rw (blank-there, e)))
+  pub no-blank : (z : ℕ) → IsBlankAt after (d .length) z → z ≡ 0 → NoList after
+  no-blank z at-end e = unended (λ b. absurd (solid-first (drop (d .length) after) (sym (at-end .is) ∙ e) b))
 
-  module _ (run : StatesRun) (g : RunStands (take (length after - (d .length + 1)) (drop (d .length + 1) after)) run) where
-    runs : RunStands (drop (d .length + 1) after) run
-    runs = rw (rest-whole (d .length + 1) after) at g
-
-    pub run-inside : d .length + 1 + run .length ≤ length after
-    run-inside = omega (arith, runs .inside, length-drop (d .length + 1) after, blank-inside)
-
-    pub star-inside : (d .length + 1 + run .length ≡ length after → ⊥) → d .length + 1 + run .length < length after
-    star-inside h = omega (arith, run-inside)
-
-    pub a-good-list : (d .length + 1 + run .length ≡ length after → ⊥) → getD after (d .length + 1 + run .length) 0 ≡ 42 → (run .count ≡ 0 → ⊥)
-        → ListAt after (d .value) (d .length + 1) (run .count) (d .length + 1 + run .length)
-    a-good-list h star n =
-        let u = d .length in
-        let long : u + suc (run .length) ≡ u + 1 + run .length = omega arith in
-        let first-long : length (take u after) ≡ u = length-take-le u after (s .inside) in
-        let whole : after ≡ take u after ++ (getD after u 0 ∷ drop (u + 1) after) = sym (take-append-drop u after) ∙ ap (λ (l : List ℕ). take u after ++ l) blank-there in
-        let u-is : u ≡ unbroken after = sym first-long ∙ sym (unbroken-digits (take u after) (drop (u + 1) after) 0 (d .value) (getD after u 0) (s .reads) is-blank) ∙ ap unbroken (sym whole) in
-        let number : some (d .value) ≡ numberIn (take u after) = sym (s .reads) ∙ in-number (take u after) (omega arith) (omega (arith, s .few)) in
-        let counted-states : statesCount (statesIn (take (suc (run .length)) (drop u after))) ≡ some (run .count) = rw (blank-there, blank-first (getD after u 0) (take (run .length) (drop (u + 1) after)) is-blank) (runs .writes) in
-        let room : suc (run .length) ≤ length (drop u after) = rw (length-drop u after) (omega (arith, run-inside)) in
-        let found : ListAt after (d .value) u (run .count) (u + suc (run .length)) = list-found after u (d .value) (suc (run .length)) (run .count) u-is (s .inside) number room counted-states (rw long h) (rw long star) n in
-        let found-there : ListAt after (d .value) u (run .count) (u + 1 + run .length) = rw long at found in
-        let field-long : length (take (u + 1 + run .length) after) ≡ u + 1 + run .length = length-take-le (u + 1 + run .length) after run-inside in
-        record {
-          inside = found-there .inside;
-          until = found-there .until;
-          unmarked = found-there .unmarked;
-          says =
-              past-blank (take (u + 1 + run .length) after) _ u (d .value) (run .count) (getD after u 0) first-blank (omega arith) is-blank (found-there .says);
-        }
+  module _ (some-there : d .length ≡ 0 → ⊥) (z : ℕ) (at-end : IsBlankAt after (d .length) z) (a-blank : z ≡ 0 → ⊥) where
+    pub blank-inside : d .length + 1 ≤ length after
+    blank-inside = go (drop (d .length) after) refl
       where
-        first-blank : drop (d .length) (take (d .length + 1 + run .length) after) ≡ getD after (d .length) 0 ∷ drop (d .length + 1) (take (d .length + 1 + run .length) after)
-        first-blank =
-            let u = d .length in
-            let long = u + 1 + run .length in
-            let size : length (take long after) ≡ long = length-take-le long after run-inside in
-            drop-cons (take long after) u 0 (omega arith) ∙ rw (getD-take long after u 0 (omega arith), add-one u)
+        go : (cs : List ℕ) → drop (d .length) after ≡ cs → d .length + 1 ≤ length after
+        go [] e = absurd (a-blank (at-end .is ∙ rw e))
+        go (b ∷ cs) e = let long : length after - d .length ≡ suc (length cs) = sym (length-drop (d .length) after) ∙ ap length e in omega arith
+
+    blank-there : drop (d .length) after ≡ getD after (d .length) 0 ∷ drop (d .length + 1) after
+    blank-there = rw (add-one (d .length)) (drop-cons after (d .length) 0 (omega (arith, blank-inside)))
+
+    is-blank : isBlank (getD after (d .length) 0) ≡ true
+    is-blank = go (isBlank (getD after (d .length) 0)) refl
+      where
+        go : (t : Bool) → isBlank (getD after (d .length) 0) ≡ t → t ≡ true
+        go true e = refl
+        go false e = absurd (a-blank (at-end .is ∙ rw (blank-there, e)))
+
+    number : numberIn (take (d .length) after) ≡ some (d .value)
+    number = sym (in-number (take (d .length) after) (omega (arith, digits-long)) (omega (arith, digits-long, s .few))) ∙ s .reads
+
+    module _ (run : StatesRun) (g : RunStands (take (length after - (d .length + 1)) (drop (d .length + 1) after)) run) where
+      runs : RunStands (drop (d .length + 1) after) run
+      runs = rw (rest-whole (d .length + 1) after) at g
+
+      pub run-inside : d .length + 1 + run .length ≤ length after
+      run-inside = omega (arith, runs .inside, length-drop (d .length + 1) after, blank-inside)
+
+      pub star-inside : (d .length + 1 + run .length ≡ length after → ⊥) → d .length + 1 + run .length < length after
+      star-inside h = omega (arith, run-inside)
+
+      abbrev long : ℕ
+      long = d .length + 1 + run .length
+
+      abbrev states : List ℕ
+      states = take (run .length) (drop (d .length + 1) after)
+
+      counted-states : (statesIn states ≡ some (orEmpty (statesIn states)))
+          × (length (orEmpty (statesIn states)) ≡ run .count)
+      counted-states = some-counted (statesIn states) (run .count) (sym (runs .writes))
+
+      -- up to where the states end: digits, a blank and states
+      parts : take long after ≡ take (d .length) after ++ (getD after (d .length) 0 ∷ states)
+      parts =
+          let e : d .length + 1 + run .length ≡ d .length + suc (run .length) = omega arith in
+          rw e (take-add (d .length) (suc (run .length)) after ∙ rw blank-there)
+
+      parts-plain : AllPlain (take long after)
+      unfolding AllPlain
+      parts-plain =
+          let b-plain : Plain (getD after (d .length) 0) = blank-plain (getD after (d .length) 0) is-blank in
+          rw parts (all-plain (take (d .length) after) _ (digits-plain (take (d .length) after) 0 (d .value) (s .reads)) (b-plain, states-plain states _ (counted-states .0)))
+
+      -- what the field says by the bytes behind these
+      says-list : (x : List ℕ) → listIn (take long after ++ x) ≡ statesFrom (statesIn (states ++ x)) (d .value)
+      says-list x =
+          rw (parts, append-assoc (take (d .length) after) (getD after (d .length) 0 ∷ states) x)
+          (list-blank (take (d .length) after) (d .value) (s .reads) (states ++ x) (getD after (d .length) 0) is-blank ∙ rw number)
+
+      field-is : take (untilStar after) after ≡ take long after ++ take (untilStar (drop long after)) (drop long after)
+      field-is = ap (λ (l : List ℕ). take (untilStar l) l) (sym (take-append-drop long after)) ∙ plain-field (take long after) (drop long after) parts-plain
+
+      pub no-star : d .length + 1 + run .length ≡ length after → NoList after
+      unfolding untilStar
+      no-star e =
+          let all : take long after ≡ after = take-all long after (omega arith) in
+          let plain-after : AllPlain after = rw all at parts-plain in
+          let until : untilStar after ≡ length after = rw (append-nil after, add-zero (length after)) at (plain-until after [] plain-after) in
+          record { is-bad = λ h. absurd (omega arith) }
+
+      module _ (more : d .length + 1 + run .length ≡ length after → ⊥) where
+        next-there : drop long after ≡ getD after long 0 ∷ drop (suc long) after
+        next-there = drop-cons after long 0 (star-inside more)
+
+        pub wrong-byte : (getD after (d .length + 1 + run .length) 0 ≡ 42 → ⊥) → NoList after
+        unfolding untilStar
+        wrong-byte n =
+            let b = getD after long 0 in
+            let at-next : run .length < length (drop (d .length + 1) after) = omega (arith, star-inside more, length-drop (d .length + 1) after) in
+            let there : getD (drop (d .length + 1) after) (run .length) 0 ≡ b = getD-drop (d .length + 1) after (run .length) 0 in
+            let wrong : statesIn (states ++ (b ∷ [])) ≡ none = rw (take-suc (drop (d .length + 1) after) (run .length) 0 at-next, there) at (runs .stops at-next) in
+            record { is-bad = λ h. rw (field-is, next-there, ne-eqb b 42 n) (says-list _ ∙ rw (wrong-then states _ b wrong)) }
+
+        pub no-state : getD after (d .length + 1 + run .length) 0 ≡ 42 → run .count ≡ 0 → NoList after
+        unfolding untilStar
+        no-state star none-there =
+            record { is-bad = λ h. rw (field-is, next-there, star) (says-list [] ∙ rw (append-nil states) (no-states-bad (some (d .value)) (statesIn states) (counted-states .1 ∙ none-there))) }
+
+        pub a-good-list : getD after (d .length + 1 + run .length) 0 ≡ 42 → (run .count ≡ 0 → ⊥)
+            → ListAt after (d .value) (d .length + 1) (run .count) (d .length + 1 + run .length)
+        unfolding untilStar holdsMark statesOf
+        a-good-list star n =
+            let field-long : length (take long after) ≡ long = length-take-le long after run-inside in
+            let split = take (d .length) after ++ (getD after (d .length) 0 ∷ states) in
+            let rest : drop (d .length + 1) (take long after) ≡ states =
+            rw parts (ap (λ (k : ℕ). drop (k + 1) split) (sym digits-long) ∙ drop-append-add (take (d .length) after) (getD after (d .length) 0 ∷ states) 1) in
+            let some-state : length (orEmpty (statesIn states)) ≡ 0 → ⊥ = λ e. n (sym (counted-states .1) ∙ e) in
+            let says : listIn (take long after) ≡ statesFrom (statesIn states) (d .value) = rw (append-nil (take long after), append-nil states) at (says-list []) in
+            record {
+              inside = star-inside more;
+              until = ap untilStar (sym (take-append-drop long after)) ∙ plain-until (take long after) (drop long after) parts-plain ∙ rw (next-there, star, field-long) (add-zero long);
+              unmarked = ap holdsMark (sym (append-nil (take long after))) ∙ plain-marks (take long after) [] parts-plain;
+              says =
+                  record {
+                    is = rw rest (full-list (orEmpty (statesIn states)) (d .value) some-state ∙ sym (says ∙ ap (λ (o : Option (List ℕ)). statesFrom o (d .value)) (counted-states .0)));
+                    fits =
+                        record {
+                          inside = omega arith;
+                          found = rw rest (counted-states .0);
+                          many = rw rest (counted-states .1);
+                          few = omega (arith, runs .few);
+                          any = omega arith;
+                        };
+                  };
+            }

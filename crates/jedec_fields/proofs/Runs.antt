@@ -1,9 +1,8 @@
 -- Laws of runs over bytes, each said of the bytes still to come, so that a loop keeps it:
 --   marks-again, marks-end               whether bytes hold STX or ETX
---   star-, blanks-, unbroken-            bytes counted up to the first that stops the count
+--   star-, blanks-                       bytes counted up to the first that stops the count
 --   Reading                              digits read
 --   Leads                                digits read over the first bytes
---   states-few                           at most one state a byte
 --   tail-on, tail-digit                  what follows ETX
 use mathlib.Core.Path.{_≡_, refl, sym, _∙_, ap}
 use mathlib.Core.Bool.{Bool, true, false, cond, not, _&&_, _||_, or-assoc, or-false, true≢false}
@@ -23,8 +22,7 @@ use Rattle.part.proofs.Facts.{and-iff}
 use Rattle.jedec.specs.Characters.{isBlank, isMark, between, decimalValue, hexValue, andThen, digitsRead}
 use Rattle.jedec.specs.Cut.{holdsMark, blanksBefore, Tail, tailFrom}
 use Rattle.jedec.specs.Cut.Tail.{given, wrong}
-use Rattle.jedec.specs.Judge.{unbroken, withFirst, statesIn}
-use Rattle.jedec_fields.specs.Fields.{valueOr, DigitsStand, orEmpty, untilStar}
+use Rattle.jedec_fields.specs.Fields.{valueOr, DigitsStand, untilStar}
 
 -- STX or ETX
 pub marks-again : (bytes : List ℕ) (i : ℕ) (found m all : Bool) → i < length bytes → m ≡ isMark (getD bytes i 0)
@@ -62,10 +60,6 @@ blanks-counts : Counts blanksBefore (λ b. not (isBlank b))
 unfolding blanksBefore
 blanks-counts = record { nil = refl; here = λ b bytes e. rw (not-true (isBlank b) e); past = λ b bytes e. rw (not-false (isBlank b) e) }
 
-unbroken-counts : Counts unbroken isBlank
-unfolding unbroken
-unbroken-counts = record { nil = refl; here = λ b bytes e. rw e; past = λ b bytes e. rw e }
-
 module _ (text : List ℕ) (i all : ℕ) where
   pub star-stops : i + untilStar (drop i text) ≡ all → i < length text → getD text i 0 ≡ 42 → i ≡ all
   star-stops h l e = stops untilStar (λ b. eqb b 42) star-counts text i all h l (eq-eqb (getD text i 0) 42 e)
@@ -83,17 +77,8 @@ module _ (text : List ℕ) (i all : ℕ) where
     pub blanks-go : i + blanksBefore (drop i text) ≡ all → i < length text → not t ≡ false → i + 1 + blanksBefore (drop (i + 1) text) ≡ all
     blanks-go h l e = goes blanksBefore (λ b. not (isBlank b)) blanks-counts text i all h l (rw is at e)
 
-    pub unbroken-stops : i + unbroken (drop i text) ≡ all → i < length text → t ≡ true → i ≡ all
-    unbroken-stops h l e = stops unbroken isBlank unbroken-counts text i all h l (sym is ∙ e)
-
-    pub unbroken-goes : i + unbroken (drop i text) ≡ all → i < length text → t ≡ false → i + 1 + unbroken (drop (i + 1) text) ≡ all
-    unbroken-goes h l e = goes unbroken isBlank unbroken-counts text i all h l (sym is ∙ e)
-
   pub blanks-end : i + blanksBefore (drop i text) ≡ all → length text ≤ i → i ≡ all
   blanks-end h l = ends blanksBefore (λ b. not (isBlank b)) blanks-counts text i all h l
-
-  pub unbroken-ends : i + unbroken (drop i text) ≡ all → length text ≤ i → i ≡ all
-  unbroken-ends h l = ends unbroken isBlank unbroken-counts text i all h l
 
 -- what a digit stands for is below the base, and 16 says that a byte is none
 pub record IsDigit (k : ℕ) (o : Option ℕ) : Type 0 where
@@ -233,19 +218,6 @@ module _ (bytes : List ℕ) (x i : ℕ) (r : Leads bytes x i) where
         reads = r .reads;
         stops = λ l m. absurd (true≢false (sym (rw (lt-ltb i 7 m, lt-ltb i (length bytes) l)) ∙ n));
       }
-
--- at most one state a byte
-pub states-few : (bytes : List ℕ) → length (orEmpty (statesIn bytes)) ≤ length bytes
-unfolding statesIn
-states-few [] = omega arith
-states-few (b ∷ bytes) = go (isBlank b) (eqb b 48 || eqb b 49) (statesIn bytes) (states-few bytes)
-  where
-    go : (bl s : Bool) (o : Option (List ℕ)) → length (orEmpty o) ≤ length bytes
-        → length (orEmpty (cond bl o (cond s (andThen o (withFirst (b - 48))) none))) ≤ suc (length bytes)
-    go true s o h = omega arith
-    go false true none h = omega arith
-    go false true (some states) h = omega arith
-    go false false o h = omega arith
 
 -- what follows ETX
 module _ (text : List ℕ) (i sum : ℕ) (all : Tail) where

@@ -16,17 +16,13 @@ use Rattle.jedec.specs.Judge.Judged.{count, start, list, sum, skipped, bad}
 use Rattle.jedec_fields.specs.declared.Digits.{Digits}
 use Rattle.jedec_fields.specs.declared.Digits.the-variants as digits
 use Rattle.jedec_fields.specs.declared.LeadingDigits.{LeadingDigits}
-use Rattle.jedec_fields.specs.declared.Counted.{Counted}
-use Rattle.jedec_fields.specs.declared.Counted.the-variants as counted
 use Rattle.jedec_fields.specs.declared.FieldSays.{FieldSays}
 use Rattle.jedec_fields.specs.declared.FieldSays.the-variants as says
-use Rattle.jedec_fields.specs.declared.Next.{Next}
-use Rattle.jedec_fields.specs.declared.Next.the-variants as next
 use Rattle.jedec_fields.specs.declared.StatesRun.{StatesRun}
 use Rattle.jedec_fields.specs.declared.ListField.{ListField}
 use Rattle.jedec_fields.specs.declared.ListField.the-variants as list-field
 use Rattle.jedec_fields.specs.declared.NextSays.{NextSays}
-use Rattle.jedec_fields.specs.declared.NextSays.the-variants as next-says
+use Rattle.jedec_fields.specs.declared.NextSays.the-variants as next
 use Rattle.jedec_fields.specs.declared.TailSays.{TailSays}
 use Rattle.jedec_fields.specs.declared.TailSays.the-variants as tail
 
@@ -50,10 +46,6 @@ pub record DigitsStand (bytes : List ℕ) (r : LeadingDigits) : Type 0 where
 abbrev pub statesCount : Option (List ℕ) → Option ℕ
 statesCount none = none
 statesCount (some states) = some (length states)
-
-abbrev pub countedStates : Counted → Option ℕ
-countedStates (counted.States n) = some n
-countedStates counted.Wrong = none
 
 abbrev pub orEmpty : Option (List ℕ) → List ℕ
 orEmpty none = []
@@ -107,9 +99,24 @@ untilStar (b ∷ bytes) = cond (eqb b star) 0 (suc (untilStar bytes))
 unfoldable pub fieldsAt : (at : ℕ) → List ℕ → Cut
 fieldsAt at bytes = fieldsFrom at (pieces bytes .ended) (pieces bytes .rest)
 
+-- a good L field, by what follows the L
+pub record ListAt (after : List ℕ) (first skip number long : ℕ) : Type 0 where
+  pub inside : long < length after
+  pub until : untilStar after ≡ long
+  pub unmarked : holdsMark (take long after) ≡ false
+  pub says : Says (take long after) (listIn (take long after)) (says.List first skip number)
+
+-- any other: what stands before the `*`, if there is one, is bad
+pub record NoList (after : List ℕ) : Type 0 where
+  pub is-bad : untilStar after < length after → listIn (take (untilStar after) after) ≡ bad
+
+abbrev pub ListStands : (after : List ℕ) → ListField → Type 0
+ListStands after (list-field.Good first skip number long) = ListAt after first skip number long
+ListStands after list-field.Other = NoList after
+
 -- the fields of a text from an offset on, by what stands next
-abbrev pub cutOf : (text : List ℕ) → Next → Cut
-cutOf text (next.Field from to) =
+abbrev pub cutOf : (text : List ℕ) → NextSays → Cut
+cutOf text (next.Field from to fs) =
     record {
       fields = (record { start = from; bytes = take (to - from) (drop from text) }) ∷ fieldsAt (to + 1) (drop (to + 1) text) .fields;
       end = fieldsAt (to + 1) (drop (to + 1) text) .end;
@@ -118,39 +125,20 @@ cutOf text (next.End etx) = record { fields = []; end = some etx }
 cutOf text next.Early = record { fields = []; end = none }
 
 -- the offsets that an answer speaks of are in the text
-abbrev pub Inside : (text : List ℕ) → (at : ℕ) → Next → Type 0
-Inside text at (next.Field from to) = (at ≤ from) × (from ≤ to) × (to < length text)
+abbrev pub Inside : (text : List ℕ) → (at : ℕ) → NextSays → Type 0
+Inside text at (next.Field from to fs) = (at ≤ from) × (from ≤ to) × (to < length text)
 Inside text at (next.End etx) = etx < length text
 Inside text at next.Early = Unit {0}
 
-pub record Stands (text : List ℕ) (at : ℕ) (r : Next) : Type 0 where
+-- what a field says
+abbrev pub SaysThere : (text : List ℕ) → NextSays → Type 0
+SaysThere text (next.Field from to fs) = Says (drop 1 (take (to - from) (drop from text))) (judge (take (to - from) (drop from text))) fs
+SaysThere text (next.End etx) = Unit {0}
+SaysThere text next.Early = Unit {0}
+
+pub record Stands (text : List ℕ) (at : ℕ) (r : NextSays) : Type 0 where
   pub cut : cutOf text r ≡ fieldsAt at (drop at text)
   pub inside : Inside text at r
-
--- a good L field, by what follows the L
-pub record ListAt (after : List ℕ) (first skip number long : ℕ) : Type 0 where
-  pub inside : long < length after
-  pub until : untilStar after ≡ long
-  pub unmarked : holdsMark (take long after) ≡ false
-  pub says : Says (take long after) (listIn (take long after)) (says.List first skip number)
-
-abbrev pub ListStands : (after : List ℕ) → ListField → Type 0
-ListStands after (list-field.Good first skip number long) = ListAt after first skip number long
-ListStands after list-field.Other = Unit {0}
-
--- what stands next, and what a field says
-abbrev pub nextOf : NextSays → Next
-nextOf (next-says.Field from to fs) = next.Field from to
-nextOf (next-says.End etx) = next.End etx
-nextOf next-says.Early = next.Early
-
-abbrev pub SaysThere : (text : List ℕ) → NextSays → Type 0
-SaysThere text (next-says.Field from to fs) = Says (drop 1 (take (to - from) (drop from text))) (judge (take (to - from) (drop from text))) fs
-SaysThere text (next-says.End etx) = Unit {0}
-SaysThere text next-says.Early = Unit {0}
-
-pub record JudgedStands (text : List ℕ) (at : ℕ) (r : NextSays) : Type 0 where
-  pub stands : Stands text at (nextOf r)
   pub judged : SaysThere text r
 
 abbrev pub tailOf : TailSays → Tail

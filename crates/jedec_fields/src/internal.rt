@@ -1,14 +1,15 @@
 // Positions in a text, and a field judged: for the reader.
-// A function here may require that a position is in the text, or that a field is no longer than a text.
+// A function here may require that a position is in the text, or that a field is no L field.
 ghost use mathlib.Core.Path.{_≡_};
+ghost use mathlib.Core.Bool.{false};
 ghost use Prim.Native.Nat.{_+_, _≤_};
 ghost use lib.ListN.{length, drop};
-ghost use Rattle.jedec.specs.Cut.{blanksBefore, tailFrom};
+ghost use Rattle.jedec.specs.Characters.{letterL};
+ghost use Rattle.jedec.specs.Cut.{blanksBefore, startsWith, tailFrom};
 ghost use Rattle.jedec.specs.Judge.{judge};
-ghost use Rattle.jedec_fields.specs.Fields.{untilStar, Says, Stands, ListStands, JudgedStands, TailStands};
+ghost use Rattle.jedec_fields.specs.Fields.{untilStar, Says, ListStands, Stands, TailStands};
 use super::FieldSays;
 use super::ListField;
-use super::Next;
 use super::NextSays;
 use super::TailSays;
 use super::by_letters;
@@ -16,6 +17,7 @@ use super::hex_value;
 use super::holds_mark;
 use super::leading_digits;
 use super::states_run;
+use jedec::ETX;
 use jedec::is_blank;
 use jedec_runs::internal::blank_at;
 
@@ -26,7 +28,7 @@ pub fn next_star(text: &[u8], at: usize) -> usize
 {
     let mut i = at;
     while i < text.len() {
-        if text[i] == 42 {
+        if text[i] == b'*' {
             return i;
         }
         i += 1;
@@ -49,27 +51,9 @@ fn skip_blanks(text: &[u8], at: usize) -> usize
     i
 }
 
-// What stands next from an offset on.
-pub fn next_field(text: &[u8], at: usize) -> Next
-    requires { ⌜ at ≤ length (now text) ⌝ }
-    ensures { λ r. ⌜ Stands (now (text .entry)) at r ⌝ }
-{
-    let start = skip_blanks(text, at);
-    if start == text.len() {
-        return Next::Early;
-    }
-    if text[start] == 3 {
-        return Next::End(start);
-    }
-    let star = next_star(text, start);
-    if star == text.len() {
-        return Next::Early;
-    }
-    Next::Field { start, star }
-}
-
-// What a field says.
-pub fn judge_field(field: &[u8]) -> FieldSays
+// What a field other than an L field says.
+fn judge_field(field: &[u8]) -> FieldSays
+    requires { ⌜ startsWith letterL (now field) ≡ false ⌝ }
     ensures { λ r. ⌜ Says (drop 1 (now (field .entry))) (judge (now (field .entry))) r ⌝ }
 {
     if holds_mark(field) {
@@ -78,7 +62,7 @@ pub fn judge_field(field: &[u8]) -> FieldSays
     by_letters(field)
 }
 
-// A good L field, found and judged at once by what follows the L.
+// A good L field, found and judged at once by what follows the L; any other is bad.
 fn list_field(bytes: &[u8]) -> ListField
     ensures { λ r. ⌜ ListStands (now (bytes .entry)) r ⌝ }
 {
@@ -95,7 +79,7 @@ fn list_field(bytes: &[u8]) -> ListField
     if length == bytes.len() {
         return ListField::Other;
     }
-    if bytes[length] != 42 {
+    if bytes[length] != b'*' {
         return ListField::Other;
     }
     if run.count == 0 {
@@ -112,41 +96,48 @@ fn list_field(bytes: &[u8]) -> ListField
 // What stands next from an offset on, judged. Most fields of a text are good L fields, and each byte of these is looked at once.
 pub fn next_judged(text: &[u8], at: usize) -> NextSays
     requires { ⌜ at ≤ length (now text) ⌝ }
-    ensures { λ r. ⌜ JudgedStands (now (text .entry)) at r ⌝ }
+    ensures { λ r. ⌜ Stands (now (text .entry)) at r ⌝ }
 {
-    let first = skip_blanks(text, at);
-    if first < text.len() {
-        if text[first] == 76 {
-            let after = first + 1;
-            let list = list_field(&text[after..]);
-            if let ListField::Good {
-                first: fuse,
-                skip,
-                count,
-                length,
-            } = list {
-                let star = after + length;
-                return NextSays::Field {
-                    start: first,
-                    star,
-                    says: FieldSays::List {
-                        first: fuse,
-                        skip,
-                        count,
-                    },
-                };
-            }
-        }
+    let start = skip_blanks(text, at);
+    if start == text.len() {
+        return NextSays::Early;
     }
-    let next = next_field(text, at);
-    match next {
-        Next::Early => NextSays::Early,
-        Next::End(etx) => NextSays::End(etx),
-        Next::Field { start, star } => {
-            let says = judge_field(&text[start..star]);
-            NextSays::Field { start, star, says }
-        }
+    let b = text[start];
+    if b == ETX {
+        return NextSays::End(start);
     }
+    if b == b'L' {
+        let after = start + 1;
+        let list = list_field(&text[after..]);
+        if let ListField::Good {
+            first,
+            skip,
+            count,
+            length,
+        } = list {
+            let star = after + length;
+            return NextSays::Field {
+                start,
+                star,
+                says: FieldSays::List { first, skip, count },
+            };
+        }
+        let star = next_star(text, start);
+        if star == text.len() {
+            return NextSays::Early;
+        }
+        return NextSays::Field {
+            start,
+            star,
+            says: FieldSays::Bad,
+        };
+    }
+    let star = next_star(text, start);
+    if star == text.len() {
+        return NextSays::Early;
+    }
+    let says = judge_field(&text[start..star]);
+    NextSays::Field { start, star, says }
 }
 
 // After the four digits only blanks may stand.

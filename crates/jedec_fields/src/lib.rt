@@ -1,16 +1,17 @@
 // Fields of a JEDEC text: where the next one stands, what its bytes say, and what follows ETX.
 // What a field may say is defined in crate `jedec`, and how the answers here say it in specs/.
 ghost use mathlib.Core.Path.{_≡_};
-ghost use mathlib.Core.Bool.{cond, _&&_};
+ghost use mathlib.Core.Bool.{false, cond, _&&_};
 ghost use Prim.Native.Nat.{_+_, _-_, _≤_};
 ghost use lib.Dec.{leb};
-ghost use lib.ListN.{length, drop};
-ghost use Rattle.jedec.specs.Characters.{isMark, decimalValue, hexValue, numberIn, sumIn};
-ghost use Rattle.jedec.specs.Cut.{holdsMark};
+ghost use lib.ListN.{drop};
+ghost use Rattle.jedec.specs.Characters.{letterL, isMark, decimalValue, hexValue, numberIn, sumIn};
+ghost use Rattle.jedec.specs.Cut.{startsWith, holdsMark};
 ghost use Rattle.jedec.specs.Judge.Judged.{sum};
-ghost use Rattle.jedec.specs.Judge.{orBad, unbroken, statesIn, startIn, listIn, afterQ, byLetters};
-ghost use Rattle.jedec_fields.specs.Fields.{valueOr, numberRead, DigitsStand, statesCount, countedStates, RunStands, Says};
-use jedec::is_blank;
+ghost use Rattle.jedec.specs.Judge.{orBad, startIn, afterQ, byLetters};
+ghost use Rattle.jedec_fields.specs.Fields.{valueOr, numberRead, DigitsStand, RunStands, Says};
+use jedec::ETX;
+use jedec::STX;
 use jedec_runs::internal::blank_at;
 use jedec_runs::internal::states_at;
 
@@ -26,12 +27,6 @@ pub enum Digits {
 pub struct LeadingDigits {
     pub value: u32,
     pub length: usize,
-}
-
-// How many states some bytes write, or that they write none.
-pub enum Counted {
-    States(usize),
-    Wrong,
 }
 
 // Bytes from the first on that are 0, 1 and blanks, and how many states they write.
@@ -54,14 +49,7 @@ pub enum FieldSays {
     Bad,
 }
 
-// What stands next in a text: a field up to its `*`, the ETX after the fields, or neither, where the text ends early.
-pub enum Next {
-    Field { start: usize, star: usize },
-    End(usize),
-    Early,
-}
-
-// What stands next in a text, with what a field says.
+// What stands next in a text: a field up to its `*`, with what it says, the ETX after the fields, or neither, where the text ends early.
 pub enum NextSays {
     Field {
         start: usize,
@@ -94,7 +82,7 @@ pub enum TailSays {
 fn is_mark(b: u8) -> bool
     ensures { λ r. ⌜ r ≡ isMark b ⌝ }
 {
-    (b == 2) | (b == 3)
+    (b == STX) | (b == ETX)
 }
 
 // What a byte between two others stands for, or another number.
@@ -112,16 +100,16 @@ fn value_between(b: u8, low: u8, high: u8, base: u32, other: u32) -> u32
 fn decimal_value(b: u8) -> u32
     ensures { λ r. ⌜ r ≡ valueOr 16 (decimalValue b) ⌝ }
 {
-    value_between(b, 48, 57, 0, 16)
+    value_between(b, b'0', b'9', 0, 16)
 }
 
 // What a hex digit stands for, or 16.
 fn hex_value(b: u8) -> u32
     ensures { λ r. ⌜ r ≡ valueOr 16 (hexValue b) ⌝ }
 {
-    let lower = value_between(b, 97, 102, 10, 16);
-    let upper = value_between(b, 65, 70, 10, lower);
-    value_between(b, 48, 57, 0, upper)
+    let lower = value_between(b, b'a', b'f', 10, 16);
+    let upper = value_between(b, b'A', b'F', 10, lower);
+    value_between(b, b'0', b'9', 0, upper)
 }
 
 // Whether some bytes hold STX or ETX. Every byte is looked at, so that several are at a time.
@@ -194,20 +182,6 @@ fn sum_in(bytes: &[u8]) -> Digits
     Digits::Number(x)
 }
 
-// How many bytes stand before the first blank.
-fn unbroken(bytes: &[u8]) -> usize
-    ensures { λ r. ⌜ (r ≡ unbroken (now (bytes .entry))) × (r ≤ length (now (bytes .entry))) ⌝ }
-{
-    let mut i: usize = 0;
-    while i < bytes.len() {
-        if is_blank(bytes[i]) {
-            return i;
-        }
-        i += 1;
-    }
-    i
-}
-
 // How many of the first bytes are 0, 1 and blanks, and how many states they write.
 fn states_run(bytes: &[u8]) -> StatesRun
     ensures { λ r. ⌜ RunStands (now (bytes .entry)) r ⌝ }
@@ -232,17 +206,6 @@ fn states_run(bytes: &[u8]) -> StatesRun
     }
 }
 
-// How many states some bytes write, if they hold nothing but 0, 1 and blanks.
-fn states_in(bytes: &[u8]) -> Counted
-    ensures { λ r. ⌜ countedStates r ≡ statesCount (statesIn (now (bytes .entry))) ⌝ }
-{
-    let run = states_run(bytes);
-    if run.length == bytes.len() {
-        return Counted::States(run.count);
-    }
-    Counted::Wrong
-}
-
 // What follows an F.
 fn start_in(bytes: &[u8]) -> FieldSays
     ensures { λ r. ⌜ Says (now (bytes .entry)) (startIn (now (bytes .entry))) r ⌝ }
@@ -250,40 +213,13 @@ fn start_in(bytes: &[u8]) -> FieldSays
     if bytes.len() != 1 {
         return FieldSays::Bad;
     }
-    if bytes[0] == 48 {
+    if bytes[0] == b'0' {
         return FieldSays::Start(0);
     }
-    if bytes[0] == 49 {
+    if bytes[0] == b'1' {
         return FieldSays::Start(1);
     }
     FieldSays::Bad
-}
-
-// What follows an L.
-fn list_in(bytes: &[u8]) -> FieldSays
-    ensures { λ r. ⌜ Says (now (bytes .entry)) (listIn (now (bytes .entry))) r ⌝ }
-{
-    let digits = unbroken(bytes);
-    let number = number_in(&bytes[..digits]);
-    match number {
-        Digits::Wrong => FieldSays::Bad,
-        Digits::Number(first) => {
-            let counted = states_in(&bytes[digits..]);
-            match counted {
-                Counted::Wrong => FieldSays::Bad,
-                Counted::States(n) => {
-                    if n == 0 {
-                        return FieldSays::Bad;
-                    }
-                    FieldSays::List {
-                        first,
-                        skip: digits,
-                        count: n,
-                    }
-                }
-            }
-        }
-    }
 }
 
 // What follows a Q.
@@ -294,14 +230,14 @@ fn after_q(bytes: &[u8]) -> FieldSays
         return FieldSays::Bad;
     }
     let b = bytes[0];
-    if b == 70 {
+    if b == b'F' {
         let number = number_in(&bytes[1..]);
         return match number {
             Digits::Number(n) => FieldSays::Count(n),
             Digits::Wrong => FieldSays::Bad,
         };
     }
-    if (b == 80) | (b == 86) {
+    if (b == b'P') | (b == b'V') {
         return FieldSays::Skipped;
     }
     FieldSays::Bad
@@ -318,27 +254,25 @@ fn after_c(bytes: &[u8]) -> FieldSays
     }
 }
 
-// What a field without STX and ETX says, by the letters that it starts with.
+// What a field other than an L field says, by the letters that it starts with. It holds neither STX nor ETX.
 fn by_letters(field: &[u8]) -> FieldSays
+    requires { ⌜ startsWith letterL (now field) ≡ false ⌝ }
     ensures { λ r. ⌜ Says (drop 1 (now (field .entry))) (byLetters (now (field .entry))) r ⌝ }
 {
     if field.len() == 0 {
         return FieldSays::Bad;
     }
     let b = field[0];
-    if (b == 78) | (b == 74) | (b == 88) {
+    if (b == b'N') | (b == b'J') | (b == b'X') {
         return FieldSays::Skipped;
     }
-    if b == 81 {
+    if b == b'Q' {
         return after_q(&field[1..]);
     }
-    if b == 70 {
+    if b == b'F' {
         return start_in(&field[1..]);
     }
-    if b == 76 {
-        return list_in(&field[1..]);
-    }
-    if b == 67 {
+    if b == b'C' {
         return after_c(&field[1..]);
     }
     FieldSays::Bad

@@ -10,6 +10,7 @@ ghost use Rattle.jedec.specs.Meaning.{wrongSum, wrongTransmission, concluded, w
 ghost use mathlib.Core.Option.Option.{some};
 ghost use Rattle.jedec_fields.specs.Fields.{fieldsAt};
 ghost use Rattle.jedec_reader.specs.Progress.{notedOf, seenOf, mayStand, misplacedAfter, withCount, withStart, withList, withSum, Few, afterField, putField, PutFits, ProgressKnows, TextRead, ReadInto};
+use jedec::STX;
 use jedec_fields::FieldSays;
 use jedec_fields::NextSays;
 use jedec_fields::TailSays;
@@ -348,7 +349,7 @@ fn read_text(fuses: u32, text: &[u8], image: &mut [u8]) -> DoneAnswer
     if text.len() == 0 {
         return DoneAnswer::Refused(Refusal::BadForm(0));
     }
-    if text[0] != 2 {
+    if text[0] != STX {
         return DoneAnswer::Refused(Refusal::BadForm(0));
     }
     let star = jedec_fields::internal::next_star(text, 0);

@@ -12,11 +12,11 @@ use mathlib.Core.Option.{Option}
 use mathlib.Core.Option.Option.{none, some}
 use Prim.Native.Nat.{ℕ, zero, suc, _+_, _*_, _-_, _/_, _%_, _^_, _≤_, _<_}
 use native.Mathlib.Omega.{arith}
-use native.Mathlib.Nat.{mod-lt, mod-one, suc-add, suc-mul, add-zero, zero-add, mod-eq-of-lt}
+use native.Mathlib.Nat.{mod-lt, mod-one, suc-add, suc-mul, add-zero, mod-eq-of-lt}
 use lib.Bits.{bitAnd, and-block, and-mask}
 use lib.Dec.{eqb}
 use lib.ListN.{length, getD, take, drop, replicate, length-drop, drop-of-length-le, take-append-drop}
-use lib.Seq.{take-nil, drop-cons, drop-drop, getD-drop}
+use lib.Seq.{take-add, drop-cons, drop-drop, getD-drop}
 use lib.Pow.{pow-pos, high, low, mod-mod-pow, mod-pow-add}
 use borrow.Author.Tests.{eqb-true}
 use Rattle.cells.specs.Cells.{cut, join}
@@ -193,12 +193,6 @@ module _ (a c xs : List ℕ) (e : statesIn a ≡ some xs) where
   unfolding both
   states-none f = rw (states-both a c, e, f)
 
--- bytes taken in two parts
-pub take-more : (k j : ℕ) (l : List ℕ) → take (k + j) l ≡ take k l ++ take j (drop k l)
-take-more zero j l = rw (zero-add j)
-take-more (suc k) j [] = rw (suc-add k j) (sym (take-nil j))
-take-more (suc k) j (x ∷ l) = rw (suc-add k j) (ap (λ (r : List ℕ). x ∷ r) (take-more k j l))
-
 -- first bytes that write none leave the rest no say
 pub none-first : (k : ℕ) (bytes : List ℕ) → statesIn (take k bytes) ≡ none → statesIn bytes ≡ none
 unfolding both
@@ -266,7 +260,7 @@ with-blank : (bytes : List ℕ) (at k z : ℕ) (states : List ℕ) → IsBlankAt
 with-blank bytes at k z states b e =
     let behind : drop k (drop at bytes) ≡ drop (at + k) bytes = drop-drop k at bytes in
     let blank : statesIn (take z (drop k (drop at bytes))) ≡ some [] = rw (behind, b .is) (blank-written (drop (at + k) bytes)) in
-    rw (take-more k z (drop at bytes)) (states-append (take k (drop at bytes)) (take z (drop k (drop at bytes))) states e [] blank) ∙ ap some (append-nil states)
+    rw (take-add k z (drop at bytes)) (states-append (take k (drop at bytes)) (take z (drop k (drop at bytes))) states e [] blank) ∙ ap some (append-nil states)
 
 module _ (bytes : List ℕ) (at : ℕ) where
   -- the first of eight bits

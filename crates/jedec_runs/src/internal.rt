@@ -55,7 +55,7 @@ pub fn states_at(bytes: &[u8], at: usize) -> usize
         }
     }
     let b = bytes[at];
-    if (b == 48) | (b == 49) {
+    if (b == b'0') | (b == b'1') {
         return 1;
     }
     0

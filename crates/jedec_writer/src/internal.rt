@@ -30,6 +30,11 @@ const AFTER_SUM: u64 = 0x03_0A2A;
 
 const SPACE: u64 = 0x20;
 
+// The digit 0, and the character ten before A.
+const DIGIT_0: u64 = b'0' as u64;
+
+const BEFORE_A: u64 = b'A' as u64 - 10;
+
 // The eight characters of seven bits and a 0. A product by 1 + 2^7 + 2^14 + .. has bit k of the seven at bit 8k.
 fn seven_states(bits: u64) -> u64
     ensures { λ r. ⌜ (r ≡ number (bitsText 8 (bits % 2 ^ 7))) × (r < 2 ^ 62) ⌝ }
@@ -281,9 +286,9 @@ fn hex_digit(x: u64) -> u64
     ensures { λ r. ⌜ (r ≡ hexDigit x) × (r < 128) ⌝ }
 {
     if x <= 9 {
-        return 48 + x;
+        return DIGIT_0 + x;
     }
-    55 + x
+    BEFORE_A + x
 }
 
 // The four upper-case digits of a sum.

@@ -43,20 +43,22 @@ fn lengths(d: Device, text: &[u8], image: &mut [u8]) {
     vectors::end_line();
 }
 
+const ETX: u8 = 3;
+
 // A byte to put in another's place: one that means something in a text.
 fn another(k: u64) -> u8 {
     if k == 0 {
-        48
+        b'0'
     } else if k == 1 {
-        49
+        b'1'
     } else if k == 2 {
-        42
+        b'*'
     } else if k == 3 {
-        32
+        b' '
     } else if k == 4 {
-        3
+        ETX
     } else {
-        57
+        b'9'
     }
 }
 

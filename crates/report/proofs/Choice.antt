@@ -1,8 +1,8 @@
--- Laws of the block count for a text: what a field reads, and the first QF field from an offset on.
+-- Laws of the block count for a text: the first QF field from an offset on.
 -- Assumes nothing.
 use mathlib.Core.Path.{_≡_, refl, sym, _∙_, ap}
 use mathlib.Core.Bool.{true}
-use mathlib.Core.List.{List}
+use mathlib.Core.List.{List, [], _∷_}
 use mathlib.Core.Option.{Option, orElse}
 use mathlib.Core.Option.Option.{none, some}
 use Prim.Native.Nat.{ℕ, suc, _+_, _-_, _^_, _≤_, _<_}
@@ -11,21 +11,20 @@ use native.Mathlib.Nat.{zero-add}
 use native.Mathlib.Numerals.{add-one}
 use lib.ListN.{length, take, drop}
 use lib.Seq.{length-take-le}
+use types.Run.{OneOf, miss}
+use denote.Enum.Declared.{tagOf}
 use borrow.Author.Tests.{eq-eqb, ne-eqb}
 use Rattle.part.specs.Device.{known, fuseCount}
 use Rattle.jedec.specs.Cut.{pieces, Cut, fieldsFrom}
-use Rattle.jedec.specs.Judge.{Judged, judge}
-use Rattle.jedec_fields.specs.Fields.{numberRead, judgedAfter, Says, untilStar, fieldsAt, cutOf, Inside, Stands}
-use Rattle.jedec_fields.specs.declared.Digits.{Digits}
-use Rattle.jedec_fields.specs.declared.Digits.the-variants as digits
+use Rattle.jedec.specs.Judge.{judge}
+use Rattle.jedec_fields.specs.Fields.{judgedAfter, Says, untilStar, fieldsAt, cutOf, Inside, Stands}
 use Rattle.jedec_fields.specs.declared.FieldSays.{FieldSays}
-use Rattle.jedec_fields.specs.declared.Next.{Next}
-use Rattle.jedec_fields.specs.declared.Next.the-variants as next
+use Rattle.jedec_fields.specs.declared.FieldSays.the-variants as says
+use Rattle.jedec_fields.specs.declared.NextSays.{NextSays}
+use Rattle.jedec_fields.specs.declared.NextSays.the-variants as next
+use Rattle.jedec_fields.proofs.FieldSays.{the-type}
 use Rattle.jedec_fields.proofs.Fields.{Cuts, pieces-star, Uncut, pieces-none}
 use Rattle.report.specs.Report.{ofBlocks, fuseCountIn, firstCount, blocksBy, blocksFor}
-
-pub field-reads : (after : List ℕ) (j : Judged) (r k : FieldSays) (o : Option ℕ) → Says after j r → r ≡ k → fuseCountIn (judgedAfter after k) ≡ o → o ≡ fuseCountIn j
-field-reads after j r k o s e f = sym f ∙ rw (← e) (ap fuseCountIn (s .is))
 
 -- four blocks or two
 pub four-known : known (ofBlocks 4) ≡ true
@@ -38,14 +37,23 @@ reads-four count x e f = sym (rw (eq-eqb count (fuseCount (ofBlocks 4)) (f ∙ e
 pub reads-other : (count x : ℕ) → x ≡ fuseCount (ofBlocks 4) → (count ≡ x → ⊥) → 2 ≡ blocksBy (some count)
 reads-other count x e f = sym (rw (ne-eqb count (fuseCount (ofBlocks 4)) (λ g. f (g ∙ sym e))))
 
+-- a field that is no QF field, as the code tells it: by the number of its kind
+no-qf : (after : List ℕ) (fs : FieldSays) → OneOf (1 ∷ 2 ∷ 3 ∷ 4 ∷ 5 ∷ []) (tagOf the-type fs) → fuseCountIn (judgedAfter after fs) ≡ none
+no-qf after (says.Count n) h = absurd (miss (1 ∷ 2 ∷ 3 ∷ 4 ∷ 5 ∷ []) 0 tt h)
+no-qf after (says.Start s) h = refl
+no-qf after (says.List first skip many) h = refl
+no-qf after (says.Sum x) h = refl
+no-qf after says.Skipped h = refl
+no-qf after says.Bad h = refl
+
 -- the first QF field of some fields
 abbrev pub first : Cut → Option ℕ
 first cut = firstCount (cut .fields)
 
 module _ (text : List ℕ) (from at : ℕ) (e : first (fieldsAt at (drop at text)) ≡ first (fieldsAt from (drop from text)))
-    (n : Next) (s : Stands text at n) where
-  by-next : (m : Next) → n ≡ m → first (cutOf text m) ≡ first (fieldsAt from (drop from text))
-  by-next m w = ap (λ (k : Next). first (cutOf text k)) (sym w) ∙ ap first (s .cut) ∙ e
+    (n : NextSays) (s : Stands text at n) where
+  by-next : (m : NextSays) → n ≡ m → first (cutOf text m) ≡ first (fieldsAt from (drop from text))
+  by-next m w = ap (λ (k : NextSays). first (cutOf text k)) (sym w) ∙ ap first (s .cut) ∙ e
 
   pub text-ends : n ≡ next.Early → 2 ≡ blocksBy (firstCount (fieldsAt from (drop from text) .fields))
   unfolding firstCount
@@ -55,15 +63,9 @@ module _ (text : List ℕ) (from at : ℕ) (e : first (fieldsAt at (drop at text
   unfolding firstCount
   fields-end etx w = ap blocksBy (by-next (next.End etx) w)
 
-  module _ (start star : ℕ) (w : n ≡ next.Field start star) where
-    there : Inside text at (next.Field start star)
+  module _ (start star : ℕ) (fs : FieldSays) (w : n ≡ next.Field start star fs) where
+    there : Inside text at (next.Field start star fs)
     there = rw w at (s .inside)
-
-    pub start-first : start ≤ star
-    start-first = there .1
-
-    pub star-there : star ≤ length text
-    star-there = omega (arith, there .2)
 
     pub next-there : star + 1 ≤ length text
     next-there = omega (arith, there .2)
@@ -77,18 +79,20 @@ module _ (text : List ℕ) (from at : ℕ) (e : first (fieldsAt at (drop at text
     abbrev field : List ℕ
     field = take (star - start) (drop start text)
 
-    module _ (d : Digits) (f : numberRead d ≡ fuseCountIn (judge (take (star - start) (drop start text)))) where
-      pub a-count : (count r : ℕ) → d ≡ digits.Number count → r ≡ blocksBy (some count) → r ≡ blocksBy (firstCount (fieldsAt from (drop from text) .fields))
-      unfolding firstCount orElse
-      a-count count r g h =
-          let reads : fuseCountIn (judge field) ≡ some count = sym f ∙ ap numberRead g in
-          h ∙ ap blocksBy (rw reads at (by-next (next.Field start star) w))
+    judged : Says (drop 1 (take (star - start) (drop start text))) (judge (take (star - start) (drop start text))) fs
+    judged = rw w at (s .judged)
 
-      pub no-count : d ≡ digits.Wrong → first (fieldsAt (star + 1) (drop (star + 1) text)) ≡ first (fieldsAt from (drop from text))
-      unfolding firstCount orElse
-      no-count g =
-          let reads : fuseCountIn (judge field) ≡ none = sym f ∙ ap numberRead g in
-          rw reads at (by-next (next.Field start star) w)
+    pub a-count : (count r : ℕ) → fs ≡ says.Count count → r ≡ blocksBy (some count) → r ≡ blocksBy (firstCount (fieldsAt from (drop from text) .fields))
+    unfolding firstCount orElse
+    a-count count r g h =
+        let reads : fuseCountIn (judge field) ≡ some count = ap fuseCountIn (sym (judged .is)) ∙ ap (λ (k : FieldSays). fuseCountIn (judgedAfter (drop 1 field) k)) g in
+        h ∙ ap blocksBy (rw reads at (by-next (next.Field start star fs) w))
+
+    pub no-count : OneOf (1 ∷ 2 ∷ 3 ∷ 4 ∷ 5 ∷ []) (tagOf the-type fs) → first (fieldsAt (star + 1) (drop (star + 1) text)) ≡ first (fieldsAt from (drop from text))
+    unfolding firstCount orElse
+    no-count h =
+        let reads : fuseCountIn (judge field) ≡ none = ap fuseCountIn (sym (judged .is)) ∙ no-qf (drop 1 field) fs h in
+        rw reads at (by-next (next.Field start star fs) w)
 
 -- the fields of a text start behind its first `*`
 module _ (text : List ℕ) (star : ℕ) (e : star ≡ 0 + untilStar (drop 0 text)) where

@@ -12,14 +12,12 @@ ghost use Rattle.part.specs.Device.{known, fuseCount, imageBytes};
 ghost use Rattle.image.specs.Image.{zerosBelow};
 ghost use Rattle.part.specs.Outcome.{Written};
 ghost use Rattle.jedec.specs.Characters.{decimalDigit, digitsOf, countDigits, fourHex};
-ghost use Rattle.jedec.specs.Judge.{judge};
 ghost use Rattle.jedec.specs.Meaning.{meaning};
-ghost use Rattle.jedec_fields.specs.Fields.{numberRead, fieldsAt};
-ghost use Rattle.report.specs.Report.{fuseCountIn, firstCount, blocksBy, blocksFor, wordSum, line, countLines, refusalLine, linesOf, reportOf, bytesPut, atStart};
+ghost use Rattle.jedec_fields.specs.Fields.{fieldsAt};
+ghost use Rattle.report.specs.Report.{firstCount, blocksBy, blocksFor, wordSum, line, countLines, refusalLine, linesOf, reportOf, bytesPut, atStart};
 ghost use Rattle.report.specs.Put.{Put};
-use jedec_fields::Digits;
 use jedec_fields::FieldSays;
-use jedec_fields::Next;
+use jedec_fields::NextSays;
 use part::Device;
 use part::DoneAnswer;
 use part::NumberAnswer;
@@ -53,7 +51,7 @@ fn put_digits(x: u32, count: usize, out: &mut [u8], at: usize)
     let mut i = count;
     while 0 < i {
         i -= 1;
-        out[at + i] = 48 + (rest % 10) as u8;
+        out[at + i] = b'0' + (rest % 10) as u8;
         rest = rest / 10;
     }
 }
@@ -121,25 +119,6 @@ fn put_counts(d: Device, image: &[u8], out: &mut [u8]) -> usize
     put_sum(image::internal::sum_of(image), out, three)
 }
 
-// What a field reads as a QF field, or `Wrong` for any other.
-fn count_in(field: &[u8]) -> Digits
-    ensures { λ r. ⌜ numberRead r ≡ fuseCountIn (judge (now (field .entry))) ⌝ }
-{
-    let says = jedec_fields::internal::judge_field(field);
-    match says {
-        FieldSays::Count(count) => Digits::Number(count),
-        FieldSays::Start(_) => Digits::Wrong,
-        FieldSays::List {
-            first: _,
-            skip: _,
-            count: _,
-        } => Digits::Wrong,
-        FieldSays::Sum(_) => Digits::Wrong,
-        FieldSays::Skipped => Digits::Wrong,
-        FieldSays::Bad => Digits::Wrong,
-    }
-}
-
 // The block count where the first QF field reads a number.
 fn blocks_by(count: u32) -> u32
     ensures { λ r. ⌜ r ≡ blocksBy (some count) ⌝ }
@@ -157,13 +136,16 @@ fn blocks_from(text: &[u8], from: usize) -> u32
 {
     let mut at = from;
     loop {
-        let next = jedec_fields::internal::next_field(text, at);
+        let next = jedec_fields::internal::next_judged(text, at);
         match next {
-            Next::Early => return 2,
-            Next::End(_) => return 2,
-            Next::Field { start, star } => {
-                let read = count_in(&text[start..star]);
-                if let Digits::Number(count) = read {
+            NextSays::Early => return 2,
+            NextSays::End(_) => return 2,
+            NextSays::Field {
+                start: _,
+                star,
+                says,
+            } => {
+                if let FieldSays::Count(count) = says {
                     return blocks_by(count);
                 }
                 at = star + 1;

@@ -9,7 +9,8 @@ use lib.Dec.{eqb}
 use lib.ListN.{length, getD, take, drop}
 use borrow.Author.Tests.{eq-eqb, ne-eqb}
 use Rattle.jedec.specs.Characters.{sumIn}
-use Rattle.jedec.specs.Judge.{Judged, orBad, startIn, listIn, afterQ, byLetters}
+use Rattle.jedec.specs.Cut.{startsWith}
+use Rattle.jedec.specs.Judge.{Judged, orBad, startIn, afterQ, byLetters}
 use Rattle.jedec.specs.Judge.Judged.{sum}
 use Rattle.jedec_fields.specs.Fields.{Says}
 use Rattle.jedec_fields.specs.declared.FieldSays.{FieldSays}
@@ -51,29 +52,20 @@ module _ (r : FieldSays) where
         go [] h n nq e = absurd (h refl)
         go (b ∷ field) h n nq e = rw (n, ne-eqb b 81 nq, eq-eqb b 70 e)
 
-    module _ (nf : getD field 0 0 ≡ 70 → ⊥) where
-      an-l : getD field 0 0 ≡ 76 → Says (take (length field - 1) (drop 1 field)) (listIn (take (length field - 1) (drop 1 field))) r → Says (drop 1 field) (byLetters field) r
-      an-l e s = passed field listIn (byLetters field) r s (go field h n nq nf e)
+    module _ (nf : getD field 0 0 ≡ 70 → ⊥) (nl : startsWith 76 field ≡ false) where
+      a-c : getD field 0 0 ≡ 67 → Says (take (length field - 1) (drop 1 field)) (orBad (sumIn (take (length field - 1) (drop 1 field))) sum) r
+          → Says (drop 1 field) (byLetters field) r
+      a-c e s = passed field (λ bytes. orBad (sumIn bytes) sum) (byLetters field) r s (go field h n nq nf nl e)
         where
           go : (field : List ℕ) → (length field ≡ 0 → ⊥) → (eqb (getD field 0 0) 78 || eqb (getD field 0 0) 74 || eqb (getD field 0 0) 88) ≡ false
-              → (getD field 0 0 ≡ 81 → ⊥) → (getD field 0 0 ≡ 70 → ⊥) → getD field 0 0 ≡ 76 → listIn (drop 1 field) ≡ byLetters field
-          go [] h n nq nf e = absurd (h refl)
-          go (b ∷ field) h n nq nf e = rw (n, ne-eqb b 81 nq, ne-eqb b 70 nf, eq-eqb b 76 e)
-
-      module _ (nl : getD field 0 0 ≡ 76 → ⊥) where
-        a-c : getD field 0 0 ≡ 67 → Says (take (length field - 1) (drop 1 field)) (orBad (sumIn (take (length field - 1) (drop 1 field))) sum) r
-            → Says (drop 1 field) (byLetters field) r
-        a-c e s = passed field (λ bytes. orBad (sumIn bytes) sum) (byLetters field) r s (go field h n nq nf nl e)
-          where
-            go : (field : List ℕ) → (length field ≡ 0 → ⊥) → (eqb (getD field 0 0) 78 || eqb (getD field 0 0) 74 || eqb (getD field 0 0) 88) ≡ false
-                → (getD field 0 0 ≡ 81 → ⊥) → (getD field 0 0 ≡ 70 → ⊥) → (getD field 0 0 ≡ 76 → ⊥) → getD field 0 0 ≡ 67 → orBad (sumIn (drop 1 field)) sum ≡ byLetters field
-            go [] h n nq nf nl e = absurd (h refl)
-            go (b ∷ field) h n nq nf nl e = rw (n, ne-eqb b 81 nq, ne-eqb b 70 nf, ne-eqb b 76 nl, eq-eqb b 67 e)
+              → (getD field 0 0 ≡ 81 → ⊥) → (getD field 0 0 ≡ 70 → ⊥) → startsWith 76 field ≡ false → getD field 0 0 ≡ 67 → orBad (sumIn (drop 1 field)) sum ≡ byLetters field
+          go [] h n nq nf nl e = absurd (h refl)
+          go (b ∷ field) h n nq nf nl e = rw (n, ne-eqb b 81 nq, ne-eqb b 70 nf, nl, eq-eqb b 67 e)
 
 another : (field : List ℕ) → (length field ≡ 0 → ⊥) → (eqb (getD field 0 0) 78 || eqb (getD field 0 0) 74 || eqb (getD field 0 0) 88) ≡ false
-    → (getD field 0 0 ≡ 81 → ⊥) → (getD field 0 0 ≡ 70 → ⊥) → (getD field 0 0 ≡ 76 → ⊥) → (getD field 0 0 ≡ 67 → ⊥) → Says (drop 1 field) (byLetters field) Bad
+    → (getD field 0 0 ≡ 81 → ⊥) → (getD field 0 0 ≡ 70 → ⊥) → startsWith 76 field ≡ false → (getD field 0 0 ≡ 67 → ⊥) → Says (drop 1 field) (byLetters field) Bad
 another [] h n nq nf nl nc = absurd (h refl)
-another (b ∷ field) h n nq nf nl nc = record { is = rw (n, ne-eqb b 81 nq, ne-eqb b 70 nf, ne-eqb b 76 nl, ne-eqb b 67 nc); fits = tt }
+another (b ∷ field) h n nq nf nl nc = record { is = rw (n, ne-eqb b 81 nq, ne-eqb b 70 nf, nl, ne-eqb b 67 nc); fits = tt }
 
 returns : tie.Need-returns
 returns c = search (needs, nothing-there)
@@ -114,21 +106,6 @@ start-in-requires c κs = search needs
 returns-4 : tie.Need-returns-4
 returns-4 c = search (needs, an-f)
 
-sub-list-in : tie.Need-sub-list-in
-sub-list-in c = search needs
-
-part-list-in-start : tie.Need-part-list-in-start
-part-list-in-start c = search needs
-
-part-list-in-end : tie.Need-part-list-in-end
-part-list-in-end c = search needs
-
-list-in-requires : tie.Need-list-in-requires
-list-in-requires c κs = search needs
-
-returns-5 : tie.Need-returns-5
-returns-5 c = search (needs, an-l)
-
 sub-after-c : tie.Need-sub-after-c
 sub-after-c c = search needs
 
@@ -141,11 +118,11 @@ part-after-c-end c = search needs
 after-c-requires : tie.Need-after-c-requires
 after-c-requires c κs = search needs
 
-returns-6 : tie.Need-returns-6
-returns-6 c = search (needs, a-c)
+returns-5 : tie.Need-returns-5
+returns-5 c = search (needs, a-c)
 
-returns-7 : tie.Need-returns-7
-returns-7 c = search (needs, another)
+returns-6 : tie.Need-returns-6
+returns-6 c = search (needs, another)
 
 pub by-letters-spec : {M : Type 1} → statement M
 by-letters-spec =
@@ -164,14 +141,9 @@ by-letters-spec =
     part-start-in-end
     start-in-requires
     returns-4
-    sub-list-in
-    part-list-in-start
-    part-list-in-end
-    list-in-requires
-    returns-5
     sub-after-c
     part-after-c-start
     part-after-c-end
     after-c-requires
-    returns-6
-    returns-7)
+    returns-5
+    returns-6)

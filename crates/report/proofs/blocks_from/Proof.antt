@@ -4,7 +4,7 @@ use mathlib.Core.Path.{_≡_}
 use Prim.Native.Nat.{_-_, _≤_}
 use lib.ListN.{length, drop}
 use Rattle.jedec_fields.specs.Fields.{fieldsAt}
-use Rattle.report.proofs.Choice.{first, text-ends, fields-end, start-first, star-there, next-there, next-fits, falls, a-count, no-count}
+use Rattle.report.proofs.Choice.{first, text-ends, fields-end, next-there, next-fits, falls, a-count, no-count}
 use borrow.Author.Needs.{needs}
 use Rattle.report.proofs.blocks_from.Statement.{statement}
 use Rattle.report.proofs.blocks_from.Tie as tie
@@ -18,8 +18,8 @@ abbrev μ-loop : tie.MeasureT-loop
 loop-holds : tie.Need-loop-holds Inv-loop μ-loop
 loop-holds c = search needs
 
-next-field-requires : tie.Need-next-field-requires Inv-loop μ-loop
-next-field-requires c κs = search needs
+next-judged-requires : tie.Need-next-judged-requires Inv-loop μ-loop
+next-judged-requires c κs = search needs
 
 enum-told : tie.Need-enum-told Inv-loop μ-loop
 enum-told c = search needs
@@ -36,29 +36,14 @@ returns-2 c = search (needs, fields-end)
 enum-known-next : tie.Need-enum-known-next Inv-loop μ-loop
 enum-known-next c = search needs
 
-sub-count-in : tie.Need-sub-count-in Inv-loop μ-loop
-sub-count-in c = search (needs, start-first)
-
-part-count-in-start : tie.Need-part-count-in-start Inv-loop μ-loop
-part-count-in-start c = search (needs, start-first)
-
-part-count-in-end : tie.Need-part-count-in-end Inv-loop μ-loop
-part-count-in-end c = search (needs, star-there)
-
-count-in-requires : tie.Need-count-in-requires Inv-loop μ-loop
-count-in-requires c κs = search needs
-
-enum-known-read : tie.Need-enum-known-read Inv-loop μ-loop
-enum-known-read c = search needs
+enum-known-says : tie.Need-enum-known-says Inv-loop μ-loop
+enum-known-says c = search needs
 
 blocks-by-requires : tie.Need-blocks-by-requires Inv-loop μ-loop
 blocks-by-requires c κs = search needs
 
 returns-3 : tie.Need-returns-3 Inv-loop μ-loop
 returns-3 c = search (needs, a-count)
-
-enum-told-3 : tie.Need-enum-told-3 Inv-loop μ-loop
-enum-told-3 c = search needs
 
 add-at : tie.Need-add-at Inv-loop μ-loop
 add-at c = record { fits = search (needs, next-fits) }
@@ -76,20 +61,15 @@ blocks-from-spec =
     Inv-loop
     μ-loop
     loop-holds
-    next-field-requires
+    next-judged-requires
     enum-told
     returns
     enum-told-2
     returns-2
     enum-known-next
-    sub-count-in
-    part-count-in-start
-    part-count-in-end
-    count-in-requires
-    enum-known-read
+    enum-known-says
     blocks-by-requires
     returns-3
-    enum-told-3
     add-at
     loop-less
     loop-again)

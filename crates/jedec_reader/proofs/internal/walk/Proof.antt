@@ -14,12 +14,11 @@ use Rattle.jedec.specs.Cut.{Cut}
 use Rattle.jedec.specs.Judge.{judge}
 use Rattle.jedec.specs.Rules.{Known, nothingKnown, inOrder, after, allFields, misplaced, stateGiven, imageWith}
 use Rattle.jedec.specs.Meaning.{withEnd, withFields, ofCut}
-use Rattle.jedec_fields.specs.Fields.{judgedAfter, SaysFits, Says, fieldsAt, cutOf, Inside, nextOf, JudgedStands}
+use Rattle.jedec_fields.specs.Fields.{judgedAfter, SaysFits, Says, fieldsAt, cutOf, Inside, Stands}
 use Rattle.jedec_fields.specs.declared.FieldSays.{FieldSays}
 use Rattle.jedec_fields.specs.declared.FieldSays.the-variants as says
 use Rattle.jedec_fields.specs.declared.NextSays.{NextSays}
-use Rattle.jedec_fields.specs.declared.NextSays.the-variants as next-says
-use Rattle.jedec_fields.specs.declared.Next.the-variants as next
+use Rattle.jedec_fields.specs.declared.NextSays.the-variants as next
 use Rattle.jedec.specs.Form.{lastEnd}
 use Rattle.jedec.proofs.States.{image-length}
 use Rattle.jedec_image.proofs.Images.{start-holds}
@@ -69,26 +68,26 @@ module _ (fuses : ℕ) (text : List ℕ) (from : ℕ) (image₀ image : List ℕ
   of-size : length image ≡ (fuses + 7) / 8
   of-size = r .size
 
-  module _ (n : NextSays) (s : JudgedStands text at n) where
+  module _ (n : NextSays) (s : Stands text at n) where
     -- the outcome by what stands next
-    by-next : (m : NextSays) → n ≡ m → ofRest fuses text (r .k) (cutOf text (nextOf m)) ≡ ofCut fuses text (fieldsAt from (drop from text))
-    by-next m w = ap (ofRest fuses text (r .k)) (ap (λ (x : NextSays). cutOf text (nextOf x)) (sym w) ∙ s .stands .cut) ∙ r .rest
+    by-next : (m : NextSays) → n ≡ m → ofRest fuses text (r .k) (cutOf text m) ≡ ofCut fuses text (fieldsAt from (drop from text))
+    by-next m w = ap (ofRest fuses text (r .k)) (ap (cutOf text) (sym w) ∙ s .cut) ∙ r .rest
 
-    early : n ≡ next-says.Early → TextRead (ofCut fuses text (fieldsAt from (drop from text))) (refused 7 (length text)) image
+    early : n ≡ next.Early → TextRead (ofCut fuses text (fieldsAt from (drop from text))) (refused 7 (length text)) image
     unfolding allFields
-    early w = refused-reads _ 7 (length text) image (sym (by-next next-says.Early w))
+    early w = refused-reads _ 7 (length text) image (sym (by-next next.Early w))
 
-    etx-there : (etx : ℕ) → n ≡ next-says.End etx → etx < length text
-    etx-there etx w = rw w at (s .stands .inside)
+    etx-there : (etx : ℕ) → n ≡ next.End etx → etx < length text
+    etx-there etx w = rw w at (s .inside)
 
-    the-end : (etx : ℕ) (answer : Outcome (Unit {0})) → n ≡ next-says.End etx → ((k : Known) → ProgressKnows fuses p k image → TextRead (withEnd fuses text k (some etx)) answer image)
+    the-end : (etx : ℕ) (answer : Outcome (Unit {0})) → n ≡ next.End etx → ((k : Known) → ProgressKnows fuses p k image → TextRead (withEnd fuses text k (some etx)) answer image)
         → TextRead (ofCut fuses text (fieldsAt from (drop from text))) answer image
     unfolding allFields
-    the-end etx answer w f = rw (← by-next (next-says.End etx) w) (f (r .k) (r .given))
+    the-end etx answer w f = rw (← by-next (next.End etx) w) (f (r .k) (r .given))
 
-    module _ (start star : ℕ) (fs : FieldSays) (w : n ≡ next-says.Field start star fs) where
-      there : Inside text at (next.Field start star)
-      there = rw w at (s .stands .inside)
+    module _ (start star : ℕ) (fs : FieldSays) (w : n ≡ next.Field start star fs) where
+      there : Inside text at (next.Field start star fs)
+      there = rw w at (s .inside)
 
       start-first : start ≤ star
       start-first = there .1
@@ -118,7 +117,7 @@ module _ (fuses : ℕ) (text : List ℕ) (from : ℕ) (image₀ image : List ℕ
       unfolding allFields
       a-bad-field t e h =
           let bad : inOrder (r .k) (judge field) ≡ false = sym order ∙ sym e ∙ not-true t h in
-          refused-reads _ 7 start image (sym (by-next (next-says.Field start star fs) w) ∙ rw bad)
+          refused-reads _ 7 start image (sym (by-next (next.Field start star fs) w) ∙ rw bad)
 
       few-states : length text ≤ 1048576 → Few fs
       few-states l = few fs (j .fits)
@@ -150,7 +149,7 @@ module _ (fuses : ℕ) (text : List ℕ) (from : ℕ) (image₀ image : List ℕ
               size = long ∙ r .size;
               same = long ∙ r .same;
               inside = omega (arith, there .2);
-              rest = (rw good at (by-next (next-says.Field start star fs) w));
+              rest = (rw good at (by-next (next.Field start star fs) w));
             }
 
 abbrev Inv-loop : tie.InvT-loop
