@@ -85,7 +85,9 @@ module _ (d : Device) where
 
   fuse-sum : (image : List ℕ) → WordFits itself (fuseSum d image)
   unfolding fuseSum sum16
-  fuse-sum image = chosen (WordFits itself) (known d) (omega arith, omega arith) (λ k. chosen (WordFits itself) (eqb (length image) (imageBytes d)) (omega arith, omega arith) (λ e. omega arith))
+  fuse-sum image =
+      chosen (WordFits itself) (known d) (omega arith, omega arith)
+      (λ k. chosen (WordFits itself) (eqb (length image) (imageBytes d)) (omega arith, omega arith) (λ e. omega arith))
 
   zeros-few : (image : List ℕ) (n : ℕ) → zerosBelow image n ≤ n
   unfolding zerosBelow
@@ -95,13 +97,15 @@ module _ (d : Device) where
   zero-count : (image : List ℕ) → WordFits itself (zeroCount d image)
   unfolding zeroCount
   zero-count image =
-      chosen (WordFits itself) (known d) (omega arith, omega arith) (λ k. chosen (WordFits itself) (eqb (length image) (imageBytes d)) (omega arith, omega arith) (λ e. omega (arith, zeros-few image (fuseCount d), fuses-small d k)))
+      chosen (WordFits itself) (known d) (omega arith, omega arith) (λ k. chosen (WordFits itself) (eqb (length image) (imageBytes d))
+      (omega arith, omega arith) (λ e. omega (arith, zeros-few image (fuseCount d), fuses-small d k)))
 
   image-to-readout : (image target : List ℕ) → WordFits noResult (toReadout d image target)
   unfolding toReadout
   image-to-readout image target =
       chosen (WordFits noResult) (known d) (omega arith, omega arith)
-      (λ k. chosen (WordFits noResult) (eqb (length image) (imageBytes d)) (omega arith, omega arith) (λ e. chosen (WordFits noResult) (eqb (length target) (readoutBytes d)) (omega arith, omega arith) (λ f. omega arith)))
+      (λ k. chosen (WordFits noResult) (eqb (length image) (imageBytes d)) (omega arith, omega arith)
+      (λ e. chosen (WordFits noResult) (eqb (length target) (readoutBytes d)) (omega arith, omega arith) (λ f. omega arith)))
 
   readout-to-image : (readout target : List ℕ) → WordFits noResult (toImage d readout target)
   unfolding toImage
@@ -112,7 +116,8 @@ module _ (d : Device) where
       (λ e.
       chosen (WordFits noResult) (eqb (length target) (imageBytes d)) (omega arith, omega arith)
       (λ f.
-      by-cases (WordFits noResult) (firstStray d readout) (readoutBytes d) (λ l. (omega arith, omega (arith, bytes-between d Readout k))) (λ g. omega arith))))
+      by-cases (WordFits noResult) (firstStray d readout) (readoutBytes d)
+      (λ l. (omega arith, omega (arith, bytes-between d Readout k))) (λ g. omega arith))))
 
   text-small : known d ≡ true → textBytes d < 2 ^ 56
   text-small k = omega (arith, text-few d k)
@@ -121,16 +126,20 @@ module _ (d : Device) where
   unfolding toText
   image-to-text image room =
       chosen (WordFits itself) (known d) (omega arith, omega arith)
-      (λ k. chosen (WordFits itself) (eqb (length image) (imageBytes d)) (omega arith, omega arith) (λ e. by-cases (WordFits itself) room (textBytes d) (λ l. (omega arith, text-small k)) (λ g. text-small k)))
+      (λ k. chosen (WordFits itself) (eqb (length image) (imageBytes d)) (omega arith, omega arith)
+      (λ e. by-cases (WordFits itself) room (textBytes d) (λ l. (omega arith, text-small k)) (λ g. text-small k)))
 
   of-meaning : (text : List ℕ) (o : Outcome (List ℕ)) → meaning (fuseCount d) text ≡ o → WordFits noResult (verdict o)
   of-meaning text (accepted image) e = omega arith
-  of-meaning text (refused number value) e = let its = values-small (fuseCount d) text number value e in (omega (arith, its .0), omega (arith, its .2))
+  of-meaning text (refused number value) e =
+      let its = values-small (fuseCount d) text number value e in
+      (omega (arith, its .0), omega (arith, its .2))
 
   text-to-image : (text target : List ℕ) → WordFits noResult (toImageFromText d text target)
   unfolding toImageFromText
   text-to-image text target =
-      chosen (WordFits noResult) (known d) (omega arith, omega arith) (λ k. chosen (WordFits noResult) (eqb (length target) (imageBytes d)) (omega arith, omega arith) (λ e. of-meaning text (meaning (fuseCount d) text) refl))
+      chosen (WordFits noResult) (known d) (omega arith, omega arith) (λ k. chosen (WordFits noResult) (eqb (length target) (imageBytes d))
+      (omega arith, omega arith) (λ e. of-meaning text (meaning (fuseCount d) text) refl))
 
   setting-count : WordFits itself (countOfSettings d)
   unfolding countOfSettings
@@ -166,7 +175,8 @@ module _ (d : Device) where
   unfolding settingAtFuse
   setting-at-fuse fuse =
       chosen (WordFitsOrNone (settingAndBit d)) (known d) (omega arith, omega arith)
-      (λ k. by-cases (WordFitsOrNone (settingAndBit d)) fuse (fuseCount d) (λ l. named k fuse (settingAt d fuse) refl) (λ g. (omega arith, omega arith)))
+      (λ k. by-cases (WordFitsOrNone (settingAndBit d)) fuse (fuseCount d) (λ l. named k fuse (settingAt d fuse) refl)
+      (λ g. (omega arith, omega arith)))
 
   -- by number: refusals 1, 2, 4, and then 6 with an index below the length
   module _ (layout : Layout) (bytes : List ℕ) (setting : ℕ) where
@@ -174,11 +184,14 @@ module _ (d : Device) where
     unfolding patternAt
     pattern-small l =
         let s = settingOf d setting in
-        lt-of-lt-of-le (gathered-small (λ b. stateOf d layout bytes (fuseOf d s b)) (λ b. state-small d layout bytes (fuseOf d s b)) (bitsOf s)) (pow-mono {j = 56} (omega (arith, bits-few d s (number-again d setting l .0))))
+        lt-of-lt-of-le (gathered-small (λ b. stateOf d layout bytes (fuseOf d s b)) (λ b. state-small d layout bytes (fuseOf d s b))
+        (bitsOf s)) (pow-mono {j = 56} (omega (arith, bits-few d s (number-again d setting l .0))))
 
-    if-clean : {A : Type 0} (result : A → ℕ) (answer : Outcome A) → known d ≡ true → WordFits result answer → WordFits result (ifClean d layout bytes (settingOf d setting) answer)
+    if-clean : {A : Type 0} (result : A → ℕ) (answer : Outcome A) → known d ≡ true → WordFits result answer
+        → WordFits result (ifClean d layout bytes (settingOf d setting) answer)
     if-clean result answer k fits =
-        by-cases (WordFits result) (strayIn d layout bytes (settingOf d setting)) (bytesOf d layout) (λ l. (omega arith, omega (arith, bytes-between d layout k))) (λ g. fits)
+        by-cases (WordFits result) (strayIn d layout bytes (settingOf d setting)) (bytesOf d layout)
+        (λ l. (omega arith, omega (arith, bytes-between d layout k))) (λ g. fits)
 
     read : WordFits itself (readPattern d layout bytes setting)
     unfolding readPattern
@@ -199,7 +212,8 @@ module _ (d : Device) where
         chosen (WordFits noResult) (eqb (length bytes) (bytesOf d layout)) (omega arith, omega arith)
         (λ e.
         by-cases (WordFits noResult) setting (countOf d)
-        (λ l. by-cases (WordFits noResult) pattern (2 ^ bitsOf (settingOf d setting)) (λ m. if-clean noResult (accepted tt) k (omega arith)) (λ g. (omega arith, omega arith)))
+        (λ l. by-cases (WordFits noResult) pattern (2 ^ bitsOf (settingOf d setting)) (λ m. if-clean noResult (accepted tt) k (omega arith))
+        (λ g. (omega arith, omega arith)))
         (λ g. (omega arith, omega arith))))
 
 pub each-fits : EachFits

@@ -1,5 +1,5 @@
--- How an answer is packed into one 64-bit word: the refusal's number in bits 56 to 63 (0: accepted), and its value, or the
--- result, in the low 56 bits.
+-- How an answer is packed into one 64-bit word: the refusal's number in bits 56 to 63 (0: accepted), and its value, or
+-- the result, in the low 56 bits.
 use mathlib.Core.Path.{_≡_}
 use Prim.Native.Nat.{ℕ, _+_, _*_, _-_, _/_, _%_, _^_, _<_}
 use mathlib.Core.Option.{Option}
@@ -56,7 +56,8 @@ resultIn word = word % 2 ^ 56
 -- an accepted answer is read as refusal 0 and its result, a refused one as its number, which is not 0, and its value
 abbrev pub WordReads : {A : Type 0} → (A → ℕ) → Outcome A → (word : ℕ) → Type 0
 WordReads result (accepted x) word = (refusalIn word ≡ 0) × (resultIn word ≡ result x)
-WordReads result (refused number value) word = (0 < refusalIn word) × (refusalIn word ≡ number) × (resultIn word ≡ value)
+WordReads result (refused number value) word =
+    (0 < refusalIn word) × (refusalIn word ≡ number) × (resultIn word ≡ value)
 
 -- where the result, or the value, has 56 bits, and no refusal has the number 0
 abbrev pub WordFits : {A : Type 0} → (A → ℕ) → Outcome A → Type 0

@@ -1,5 +1,5 @@
--- Every answer of the interface fits its word, so that a caller reads it back by `unpacked` and `unpacked-none` (proofs/Words.antt).
--- A field for each definition that the contracts of src/lib.rt pack.
+-- Every answer of the interface fits its word, so that a caller reads it back by `unpacked` and `unpacked-none`
+-- (proofs/Words.antt). A field for each definition that the contracts of src/lib.rt pack.
 use Prim.Native.Nat.{ℕ}
 use mathlib.Core.Bool.{Bool}
 use mathlib.Core.List.{List}
@@ -25,7 +25,10 @@ pub record EachFits : Type 0 where
   pub image-to-text : (d : Device) (image : List ℕ) (room : ℕ) → WordFits itself (toText d image room)
   pub text-to-image : (d : Device) (text target : List ℕ) → WordFits noResult (toImageFromText d text target)
   pub setting-count : (d : Device) → WordFits itself (countOfSettings d)
-  pub setting-fuse : (d : Device) (setting bit : ℕ) → WordFitsOrNone itself (through (settingOfNumber d setting) (λ s. fuseOfBit d s bit))
+  pub setting-fuse : (d : Device) (setting bit : ℕ)
+      → WordFitsOrNone itself (through (settingOfNumber d setting) (λ s. fuseOfBit d s bit))
   pub setting-at-fuse : (d : Device) (fuse : ℕ) → WordFitsOrNone (settingAndBit d) (settingAtFuse d fuse)
-  pub read : (d : Device) (layout : Layout) (bytes : List ℕ) (setting : ℕ) → WordFits itself (readPattern d layout bytes setting)
-  pub set : (d : Device) (layout : Layout) (bytes : List ℕ) (setting pattern : ℕ) → WordFits noResult (setPattern d layout bytes setting pattern)
+  pub read : (d : Device) (layout : Layout) (bytes : List ℕ) (setting : ℕ)
+      → WordFits itself (readPattern d layout bytes setting)
+  pub set : (d : Device) (layout : Layout) (bytes : List ℕ) (setting pattern : ℕ)
+      → WordFits noResult (setPattern d layout bytes setting pattern)

@@ -1,8 +1,9 @@
-// The C interface, declared in include/xc9500.h: numbers are u32, a slice is a pointer and a length, every answer is one u64.
-// Each function only calls its library function and packs the answer: specs/Packed.antt says how.
+// The C interface, declared in include/xc9500.h: numbers are u32, a slice is a pointer and a length, every answer is
+// one u64. Each function only calls its library function and packs the answer: specs/Packed.antt says how.
 ghost use mathlib.Core.Path.{_≡_};
 ghost use lib.ListN.{length};
-ghost use Rattle.part.specs.Answer.{refusalNumber, refusalValue, addressOutcome, fuseOutcome, numberOutcome, doneOutcome};
+ghost use Rattle.part.specs.Answer.{refusalNumber, refusalValue, addressOutcome, fuseOutcome, numberOutcome};
+ghost use Rattle.part.specs.Answer.{doneOutcome};
 ghost use Rattle.part.specs.Convert.{addressOfFuse, fuseOfAddress};
 ghost use Rattle.image.specs.Image.{fuseSum, zeroCount};
 ghost use Rattle.part.specs.Outcome.{written};
@@ -14,7 +15,8 @@ ghost use Rattle.jedec_writer.specs.Pattern.{toText, withText};
 ghost use Rattle.jedec_reader.specs.Reader.{toImageFromText, imageIn};
 ghost use Rattle.setting_bits.specs.declared.Layout.the-variants.{Image, Readout};
 ghost use Rattle.edit_by_number.specs.ByNumber.{readPattern, setPattern, withNumbered};
-ghost use Rattle.capi.specs.Packed.{packed, refusalWord, device, addressAndBit, itself, noResult, orNone, settingAndBit, through};
+ghost use Rattle.capi.specs.Packed.{packed, refusalWord, device, addressAndBit, itself, noResult, orNone};
+ghost use Rattle.capi.specs.Packed.{settingAndBit, through};
 use part::AddressAnswer;
 use part::Device;
 use part::DeviceAddress;
@@ -126,8 +128,10 @@ pub extern "C" fn xc9500_image_to_readout(
     image: &[u8],
     readout: &mut [u8],
 ) -> u64
-    ensures { λ w. ⌜ w ≡ packed noResult (toReadout (device blocks class) (now (image .entry)) (now (readout .entry))) ⌝ }
-    ensures { λ _. ⌜ now (readout .exit) ≡ written (toReadout (device blocks class) (now (image .entry)) (now (readout .entry))) (readoutOf (device blocks class) (now (image .entry))) (now (readout .entry)) ⌝ }
+    ensures { λ w.
+        ⌜ w ≡ packed noResult (toReadout (device blocks class) (now (image .entry)) (now (readout .entry))) ⌝ }
+    ensures { λ _. ⌜ now (readout .exit) ≡ written (toReadout (device blocks class) (now (image .entry))
+        (now (readout .entry))) (readoutOf (device blocks class) (now (image .entry))) (now (readout .entry)) ⌝ }
 {
     done_word(readout::image_to_readout(Device { blocks, class }, image, readout))
 }
@@ -141,7 +145,8 @@ pub extern "C" fn xc9500_readout_to_image(
     image: &mut [u8],
 ) -> u64
     ensures { λ w. ⌜ w ≡ packed noResult (toImage (device blocks class) (now (readout .entry)) (now (image .entry))) ⌝ }
-    ensures { λ _. ⌜ now (image .exit) ≡ written (toImage (device blocks class) (now (readout .entry)) (now (image .entry))) (imageOf (device blocks class) (now (readout .entry))) (now (image .entry)) ⌝ }
+    ensures { λ _. ⌜ now (image .exit) ≡ written (toImage (device blocks class) (now (readout .entry))
+        (now (image .entry))) (imageOf (device blocks class) (now (readout .entry))) (now (image .entry)) ⌝ }
 {
     done_word(readout::readout_to_image(Device { blocks, class }, readout, image))
 }
@@ -154,8 +159,11 @@ pub extern "C" fn xc9500_image_to_text(
     image: &[u8],
     text: &mut [u8],
 ) -> u64
-    ensures { λ w. ⌜ w ≡ packed itself (toText (device blocks class) (now (image .entry)) (length (now (text .entry)))) ⌝ }
-    ensures { λ _. ⌜ now (text .exit) ≡ written (toText (device blocks class) (now (image .entry)) (length (now (text .entry)))) (withText (device blocks class) (now (image .entry)) (now (text .entry))) (now (text .entry)) ⌝ }
+    ensures { λ w.
+        ⌜ w ≡ packed itself (toText (device blocks class) (now (image .entry)) (length (now (text .entry)))) ⌝ }
+    ensures { λ _.
+        ⌜ now (text .exit) ≡ written (toText (device blocks class) (now (image .entry)) (length (now (text .entry))))
+        (withText (device blocks class) (now (image .entry)) (now (text .entry))) (now (text .entry)) ⌝ }
 {
     number_word(jedec_writer::image_to_text(Device { blocks, class }, image, text))
 }
@@ -168,8 +176,10 @@ pub extern "C" fn xc9500_text_to_image(
     text: &[u8],
     image: &mut [u8],
 ) -> u64
-    ensures { λ w. ⌜ w ≡ packed noResult (toImageFromText (device blocks class) (now (text .entry)) (now (image .entry))) ⌝ }
-    ensures { λ _. ⌜ now (image .exit) ≡ written (toImageFromText (device blocks class) (now (text .entry)) (now (image .entry))) (imageIn (device blocks class) (now (text .entry))) (now (image .entry)) ⌝ }
+    ensures { λ w.
+        ⌜ w ≡ packed noResult (toImageFromText (device blocks class) (now (text .entry)) (now (image .entry))) ⌝ }
+    ensures { λ _. ⌜ now (image .exit) ≡ written (toImageFromText (device blocks class) (now (text .entry))
+        (now (image .entry))) (imageIn (device blocks class) (now (text .entry))) (now (image .entry)) ⌝ }
 {
     done_word(jedec_reader::text_to_image(Device { blocks, class }, text, image))
 }
@@ -185,7 +195,8 @@ pub extern "C" fn xc9500_setting_count(blocks: u32, class: u32) -> u64
 // The fuse of a bit of a setting, by setting number.
 #[no_mangle]
 pub extern "C" fn xc9500_setting_fuse(blocks: u32, class: u32, setting: u32, bit: u32) -> u64
-    ensures { λ w. ⌜ w ≡ packed (orNone itself) (through (settingOfNumber (device blocks class) setting) (λ s. fuseOfBit (device blocks class) s bit)) ⌝ }
+    ensures { λ w. ⌜ w ≡ packed (orNone itself)
+        (through (settingOfNumber (device blocks class) setting) (λ s. fuseOfBit (device blocks class) s bit)) ⌝ }
 {
     let d = Device { blocks, class };
     let answer = settings::setting_of_number(d, SettingNumber(setting));
@@ -198,7 +209,8 @@ pub extern "C" fn xc9500_setting_fuse(blocks: u32, class: u32, setting: u32, bit
 // The number of the setting at a fuse times 32 plus the bit.
 #[no_mangle]
 pub extern "C" fn xc9500_setting_at_fuse(blocks: u32, class: u32, fuse: u32) -> u64
-    ensures { λ w. ⌜ w ≡ packed (orNone (settingAndBit (device blocks class))) (settingAtFuse (device blocks class) fuse) ⌝ }
+    ensures { λ w.
+        ⌜ w ≡ packed (orNone (settingAndBit (device blocks class))) (settingAtFuse (device blocks class) fuse) ⌝ }
 {
     let d = Device { blocks, class };
     let answer = setting_places::setting_at_fuse(d, FuseNumber(fuse));
@@ -233,8 +245,11 @@ pub extern "C" fn xc9500_set_in_image(
     setting: u32,
     pattern: u32,
 ) -> u64
-    ensures { λ w. ⌜ w ≡ packed noResult (setPattern (device blocks class) Image (now (image .entry)) setting pattern) ⌝ }
-    ensures { λ _. ⌜ now (image .exit) ≡ written (setPattern (device blocks class) Image (now (image .entry)) setting pattern) (withNumbered (device blocks class) Image (now (image .entry)) setting pattern) (now (image .entry)) ⌝ }
+    ensures { λ w.
+        ⌜ w ≡ packed noResult (setPattern (device blocks class) Image (now (image .entry)) setting pattern) ⌝ }
+    ensures { λ _.
+        ⌜ now (image .exit) ≡ written (setPattern (device blocks class) Image (now (image .entry)) setting pattern)
+        (withNumbered (device blocks class) Image (now (image .entry)) setting pattern) (now (image .entry)) ⌝ }
 {
     let d = Device { blocks, class };
     done_word(edit_by_number::set_pattern_in_image(d, image, SettingNumber(setting), pattern))
@@ -266,8 +281,11 @@ pub extern "C" fn xc9500_set_in_readout(
     setting: u32,
     pattern: u32,
 ) -> u64
-    ensures { λ w. ⌜ w ≡ packed noResult (setPattern (device blocks class) Readout (now (readout .entry)) setting pattern) ⌝ }
-    ensures { λ _. ⌜ now (readout .exit) ≡ written (setPattern (device blocks class) Readout (now (readout .entry)) setting pattern) (withNumbered (device blocks class) Readout (now (readout .entry)) setting pattern) (now (readout .entry)) ⌝ }
+    ensures { λ w.
+        ⌜ w ≡ packed noResult (setPattern (device blocks class) Readout (now (readout .entry)) setting pattern) ⌝ }
+    ensures { λ _. ⌜ now (readout .exit)
+        ≡ written (setPattern (device blocks class) Readout (now (readout .entry)) setting pattern)
+        (withNumbered (device blocks class) Readout (now (readout .entry)) setting pattern) (now (readout .entry)) ⌝ }
 {
     let d = Device { blocks, class };
     done_word(edit_by_number::set_pattern_in_readout(d, readout, SettingNumber(setting), pattern))

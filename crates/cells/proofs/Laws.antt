@@ -14,7 +14,8 @@ use mathlib.Core.Path.{_≡_, refl, sym, _∙_, ap, ap₂, subst}
 use mathlib.Core.List.{List, [], _∷_, _++_}
 use Prim.Native.Nat.{ℕ, zero, suc, _+_, _*_, _-_, _/_, _%_, _^_, _≤_, _<_}
 use native.Mathlib.Omega.{arith}
-use native.Mathlib.Nat.{div-one, mod-one, add-zero, zero-add, add-suc, suc-add, add-comm, mod-mod, mod-lt, not-suc-le-zero, le-of-suc-le-suc, add-mul, mul-assoc, mul-comm, zero-mul, suc-mul, add-assoc, mul-le-mul, lt-of-lt-of-le}
+use native.Mathlib.Nat.{div-one, mod-one, add-zero, zero-add, add-suc, suc-add, add-comm, mod-mod, mod-lt, not-suc-le-zero}
+use native.Mathlib.Nat.{le-of-suc-le-suc, add-mul, mul-assoc, mul-comm, zero-mul, suc-mul, add-assoc, mul-le-mul, lt-of-lt-of-le}
 use native.Mathlib.Numerals.{one-add}
 use lib.Pow.{pow-pos, pow-mono, pow-add, shr-shr, high, low, mod-pow-add, field, mod-mod-pow}
 use lib.Arith.{digits-lt}
@@ -26,7 +27,8 @@ pub cut-append : (ws vs : List ℕ) (x : ℕ) → cut (ws ++ vs) x ≡ cut ws x 
 unfolding cut total
 cut-append [] vs x = ap (cut vs) (sym (div-one x))
 cut-append (w ∷ ws) vs x =
-    ap (λ (l : List ℕ). x % 2 ^ w ∷ l) (cut-append ws vs (x / 2 ^ w) ∙ ap (λ (y : ℕ). cut ws (x / 2 ^ w) ++ cut vs y) (shr-shr x w (total ws)))
+    ap (λ (l : List ℕ). x % 2 ^ w ∷ l)
+    (cut-append ws vs (x / 2 ^ w) ∙ ap (λ (y : ℕ). cut ws (x / 2 ^ w) ++ cut vs y) (shr-shr x w (total ws)))
 
 pub cut-length : (ws : List ℕ) (x : ℕ) → length (cut ws x) ≡ length ws
 unfolding cut
@@ -53,7 +55,8 @@ cut-low (w ∷ ws) x more =
 -- two digits, where the high one is a sum
 pub regrouped : (a b c t w : ℕ) → (a + b * 2 ^ t) * 2 ^ w + c ≡ a * 2 ^ w + c + b * 2 ^ (w + t)
 regrouped a b c t w =
-    let e : (a + b * 2 ^ t) * 2 ^ w ≡ a * 2 ^ w + b * (2 ^ t * 2 ^ w) = add-mul a (b * 2 ^ t) (2 ^ w) ∙ ap (λ (y : ℕ). a * 2 ^ w + y) (mul-assoc b (2 ^ t) (2 ^ w)) in
+    let e : (a + b * 2 ^ t) * 2 ^ w ≡ a * 2 ^ w + b * (2 ^ t * 2 ^ w) =
+    add-mul a (b * 2 ^ t) (2 ^ w) ∙ ap (λ (y : ℕ). a * 2 ^ w + y) (mul-assoc b (2 ^ t) (2 ^ w)) in
     let f : b * (2 ^ t * 2 ^ w) ≡ b * 2 ^ (w + t) = ap (λ (y : ℕ). b * y) (mul-comm (2 ^ t) (2 ^ w) ∙ sym (pow-add 2 w t)) in
     omega arith
 
@@ -70,7 +73,8 @@ pub join-small : (ws cells : List ℕ) → join ws cells < 2 ^ total ws
 unfolding join total
 join-small [] cells = omega arith
 join-small (w ∷ ws) cells =
-    rw (pow-add 2 w (total ws), mul-comm (2 ^ w) (2 ^ total ws)) (digits-lt (join-small ws (drop 1 cells)) (mod-lt (getD cells 0 0) (pow-pos w)))
+    rw (pow-add 2 w (total ws), mul-comm (2 ^ w) (2 ^ total ws))
+    (digits-lt (join-small ws (drop 1 cells)) (mod-lt (getD cells 0 0) (pow-pos w)))
 
 pub join-cut : (ws : List ℕ) (x : ℕ) → join ws (cut ws x) ≡ x % 2 ^ total ws
 unfolding join cut total
@@ -85,7 +89,8 @@ cut-join [] cells k h = absurd (not-suc-le-zero h)
 cut-join (w ∷ ws) cells zero h = low (join ws (drop 1 cells)) w (mod-lt (getD cells 0 0) (pow-pos w))
 cut-join (w ∷ ws) cells (suc k) h =
     rw (high (join ws (drop 1 cells)) w (mod-lt (getD cells 0 0) (pow-pos w)))
-    (cut-join ws (drop 1 cells) k (le-of-suc-le-suc h) ∙ ap (λ (y : ℕ). y % 2 ^ getD ws k 0) (getD-drop 1 cells k 0 ∙ ap (λ (i : ℕ). getD cells i 0) (one-add k)))
+    (cut-join ws (drop 1 cells) k (le-of-suc-le-suc h)
+    ∙ ap (λ (y : ℕ). y % 2 ^ getD ws k 0) (getD-drop 1 cells k 0 ∙ ap (λ (i : ℕ). getD cells i 0) (one-add k)))
 
 pub total-replicate : (k w : ℕ) → total (replicate k w) ≡ k * w
 unfolding total
@@ -100,23 +105,27 @@ total-append (w ∷ ws) vs = ap (λ (x : ℕ). w + x) (total-append ws vs) ∙ s
 pub total-repeat : (k : ℕ) (ws : List ℕ) → total (repeat k ws) ≡ k * total ws
 unfolding total repeat
 total-repeat zero ws = sym (zero-mul (total ws))
-total-repeat (suc k) ws = total-append ws (repeat k ws) ∙ rw (total-repeat k ws) (add-comm (total ws) (k * total ws) ∙ sym (suc-mul k (total ws)))
+total-repeat (suc k) ws =
+    total-append ws (repeat k ws) ∙ rw (total-repeat k ws) (add-comm (total ws) (k * total ws) ∙ sym (suc-mul k (total ws)))
 
 pub length-repeat : (k : ℕ) (ws : List ℕ) → length (repeat k ws) ≡ k * length ws
 unfolding repeat
 length-repeat zero ws = sym (zero-mul (length ws))
-length-repeat (suc k) ws = length-append ws (repeat k ws) ∙ rw (length-repeat k ws) (add-comm (length ws) (k * length ws) ∙ sym (suc-mul k (length ws)))
+length-repeat (suc k) ws =
+    length-append ws (repeat k ws) ∙ rw (length-repeat k ws) (add-comm (length ws) (k * length ws) ∙ sym (suc-mul k (length ws)))
 
 -- at most so many cells of at most 8 bits have at most so many bytes
 pub join-few : (k width most : ℕ) (cells : List ℕ) → k ≤ most → width ≤ 8 → join (replicate k width) cells < 2 ^ (most * 8)
 join-few k width most cells hk hw =
     lt-of-lt-of-le (join-small (replicate k width) cells)
-    (pow-mono {i = total (replicate k width)} {j = most * 8} (rw (total-replicate k width) (mul-le-mul {n₁ = k} {m₁ = width} {n₂ = most} {m₂ = 8} hk hw)))
+    (pow-mono {i = total (replicate k width)} {j = most * 8}
+    (rw (total-replicate k width) (mul-le-mul {n₁ = k} {m₁ = width} {n₂ = most} {m₂ = 8} hk hw)))
 
 pub sets-append : {A : Type 0} (l : List A) (i : ℕ) (vs us : List A) → sets l i (vs ++ us) ≡ sets (sets l i vs) (i + length vs) us
 sets-append l i [] us = ap (λ (k : ℕ). sets l k us) (sym (add-zero i))
 sets-append l i (v ∷ vs) us =
-    sets-append (set l i v) (suc i) vs us ∙ ap (λ (k : ℕ). sets (sets (set l i v) (suc i) vs) k us) (suc-add i (length vs) ∙ sym (add-suc i (length vs)))
+    sets-append (set l i v) (suc i) vs us
+    ∙ ap (λ (k : ℕ). sets (sets (set l i v) (suc i) vs) k us) (suc-add i (length vs) ∙ sym (add-suc i (length vs)))
 
 pub cut-sets : (out ws vs : List ℕ) (at x n t : ℕ) → length ws ≡ n → total ws ≡ t
     → sets (sets out at (cut ws x)) (at + n) (cut vs (x / 2 ^ t)) ≡ sets out at (cut (ws ++ vs) x)
@@ -126,7 +135,8 @@ cut-sets out ws vs at x n t e f =
 replicate-add : (n m a : ℕ) → replicate (n + m) a ≡ replicate n a ++ replicate m a
 replicate-add n m a = sym (replicate-append-replicate n m a)
 
-pub word-at : (bytes : List ℕ) (p k : ℕ) → p + k ≤ length bytes → join (replicate k 8) (drop p bytes) ≡ number bytes / 2 ^ (p * 8) % 2 ^ (k * 8)
+pub word-at : (bytes : List ℕ) (p k : ℕ) → p + k ≤ length bytes
+    → join (replicate k 8) (drop p bytes) ≡ number bytes / 2 ^ (p * 8) % 2 ^ (k * 8)
 unfolding number
 word-at bytes p k h =
     let rest = length bytes - (p + k) in
@@ -134,8 +144,13 @@ word-at bytes p k h =
     let a = join (replicate p 8) bytes in
     let b = join (replicate k 8) (drop p bytes) in
     let c = join (replicate rest 8) (drop k (drop p bytes)) in
-    let inner : join (replicate (k + rest) 8) (drop p bytes) ≡ c * 2 ^ (k * 8) + b = ap (λ (ws : List ℕ). join ws (drop p bytes)) (replicate-add k rest 8) ∙ join-append (replicate k 8) (replicate rest 8) (drop p bytes) ∙ rw (length-replicate {A = ℕ} k 8, total-replicate k 8) (add-comm _ _) in
-    let outer : join (replicate (length bytes) 8) bytes ≡ (c * 2 ^ (k * 8) + b) * 2 ^ (p * 8) + a = ap (λ (n : ℕ). join (replicate n 8) bytes) whole ∙ ap (λ (ws : List ℕ). join ws bytes) (replicate-add p (k + rest) 8) ∙ join-append (replicate p 8) (replicate (k + rest) 8) bytes ∙ rw (length-replicate {A = ℕ} p 8, total-replicate p 8, inner) (add-comm _ _) in
+    let inner : join (replicate (k + rest) 8) (drop p bytes) ≡ c * 2 ^ (k * 8) + b =
+    ap (λ (ws : List ℕ). join ws (drop p bytes)) (replicate-add k rest 8) ∙ join-append (replicate k 8) (replicate rest 8) (drop p bytes)
+    ∙ rw (length-replicate {A = ℕ} k 8, total-replicate k 8) (add-comm _ _) in
+    let outer : join (replicate (length bytes) 8) bytes ≡ (c * 2 ^ (k * 8) + b) * 2 ^ (p * 8) + a =
+    ap (λ (n : ℕ). join (replicate n 8) bytes) whole ∙ ap (λ (ws : List ℕ). join ws bytes) (replicate-add p (k + rest) 8)
+    ∙ join-append (replicate p 8) (replicate (k + rest) 8) bytes
+    ∙ rw (length-replicate {A = ℕ} p 8, total-replicate p 8, inner) (add-comm _ _) in
     let small-a : a < 2 ^ (p * 8) = subst (λ (t : ℕ). a < 2 ^ t) (total-replicate p 8) (join-small (replicate p 8) bytes) in
     let small-b : b < 2 ^ (k * 8) = subst (λ (t : ℕ). b < 2 ^ t) (total-replicate k 8) (join-small (replicate k 8) (drop p bytes)) in
     sym (rw outer (ap (λ (y : ℕ). y % 2 ^ (k * 8)) (high (c * 2 ^ (k * 8) + b) (p * 8) small-a) ∙ low c (k * 8) small-b))

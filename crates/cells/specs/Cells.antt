@@ -1,5 +1,5 @@
--- A number cut into cells of given widths, lowest bits first, and cells joined into a number. An image is a number cut into
--- cells of 8 bits; a readout is the same number cut into cells of the bytes' widths.
+-- A number cut into cells of given widths, lowest bits first, and cells joined into a number. An image is a number cut
+-- into cells of 8 bits; a readout is the same number cut into cells of the bytes' widths.
 use Prim.Native.Nat.{ℕ, zero, suc, _+_, _*_, _/_, _%_, _^_}
 use mathlib.Core.List.{List, [], _∷_, _++_}
 use lib.ListN.{length, getD, drop, replicate}

@@ -16,9 +16,11 @@ use Rattle.edit.specs.Edit.{strayIn, readIn, setIn, withValue}
 use Rattle.demand.specs.Cases.{OeMuxCase, Order}
 
 pub oe-mux-case : OeMuxCase
-unfolding readIn setIn withValue strayIn strayAt strayAmong patternAt withBits withPattern known imageBytes readoutBytes fuseCount placeOfFuse byteOfIndex hasSetting bitsOf placeOf fuseOf kindOf named same candidate patternIn state bitAt withBit putBit gathered
+unfolding readIn setIn withValue strayIn strayAt strayAmong patternAt withBits withPattern known imageBytes readoutBytes fuseCount
+    placeOfFuse byteOfIndex hasSetting bitsOf placeOf fuseOf kindOf named same candidate patternIn state bitAt withBit putBit gathered
 oe-mux-case = (refl, refl, refl, refl, refl)
 
 pub order : Order
-unfolding readIn setIn withValue strayIn strayAt strayAmong patternAt withBits withPattern known imageBytes readoutBytes fuseCount placeOfFuse byteOfIndex hasSetting bitsOf placeOf fuseOf kindOf named same candidate patternIn state bitAt withBit putBit gathered
+unfolding readIn setIn withValue strayIn strayAt strayAmong patternAt withBits withPattern known imageBytes readoutBytes fuseCount
+    placeOfFuse byteOfIndex hasSetting bitsOf placeOf fuseOf kindOf named same candidate patternIn state bitAt withBit putBit gathered
 order = (refl, refl, refl, refl, refl, refl)

@@ -1,5 +1,6 @@
--- What `both_ways` ensures: for whatever it was given, each answer and each slice is what its definition gives (`Ran`); and for any known
--- device, image, setting and value and slices of the right lengths demand 3 holds of them (`Made` and `DemandByName` of crate `edit`).
+-- What `both_ways` ensures: for whatever it was given, each answer and each slice is what its definition gives (`Ran`);
+-- and for any known device, image, setting and value and slices of the right lengths demand 3 holds of them (`Made` and
+-- `DemandByName` of crate `edit`).
 use mathlib.Core.Path.{_≡_}
 use mathlib.Core.Bool.{cond}
 use mathlib.Core.List.{List}
@@ -32,20 +33,26 @@ abbrev pub copied : (bytes kept : List ℕ) → List ℕ
 copied bytes kept = cond (eqb (length kept) (length bytes)) bytes kept
 
 -- .. an image converted, the readout so copied, and a setting read in both ..
-pub record Begun (d : Device) (image readout readout' kept kept' : List ℕ) (t : Setting) (r : BeforeAnswer) : Type 0 where
+pub record Begun (d : Device) (image readout readout' kept kept' : List ℕ) (t : Setting)
+    (r : BeforeAnswer) : Type 0 where
   pub converted : Written (toReadout d image readout) (doneOutcome (r .converted)) (readoutOf d image) readout readout'
   pub keeps : kept' ≡ copied readout' kept
   pub read : ReadInBoth d image readout' t (r .other)
 
 -- .. a setting set in both ..
-pub record SetInBoth (d : Device) (image image' readout readout' : List ℕ) (s : Setting) (v : Value) (r : BothDone) : Type 0 where
+pub record SetInBoth (d : Device) (image image' readout readout' : List ℕ) (s : Setting) (v : Value)
+    (r : BothDone) : Type 0 where
   pub in-image : Written (setIn d Image image s v) (doneOutcome (r .image)) (withValue d Image image s v) image image'
-  pub in-readout : Written (setIn d Readout readout s v) (doneOutcome (r .readout)) (withValue d Readout readout s v) readout readout'
+  pub in-readout : Written (setIn d Readout readout s v) (doneOutcome (r .readout))
+      (withValue d Readout readout s v) readout readout'
 
 -- .. and both converted
-pub record BothConverted (d : Device) (image readout its-readout its-readout' its-image its-image' : List ℕ) (r : BothDone) : Type 0 where
-  pub of-image : Written (toReadout d image its-readout) (doneOutcome (r .image)) (readoutOf d image) its-readout its-readout'
-  pub of-readout : Written (toImage d readout its-image) (doneOutcome (r .readout)) (imageOf d readout) its-image its-image'
+pub record BothConverted (d : Device) (image readout its-readout its-readout' its-image its-image' : List ℕ)
+    (r : BothDone) : Type 0 where
+  pub of-image : Written (toReadout d image its-readout) (doneOutcome (r .image))
+      (readoutOf d image) its-readout its-readout'
+  pub of-readout : Written (toImage d readout its-image) (doneOutcome (r .readout))
+      (imageOf d readout) its-image its-image'
 
 -- the calls of `both_ways`: what they answered, and what its five slices then held
 abbrev pub callsOf : BothAnswer → (image readout kept its-readout its-image : List ℕ) → Calls Value
@@ -69,10 +76,13 @@ callsOf r image readout kept its-readout its-image = record {
 }
 
 -- these steps one after the other, whatever is refused
-pub record Ran (d : Device) (image readout kept its-readout its-image : List ℕ) (s : Setting) (v : Value) (t : Setting) (r : BothAnswer)
+pub record Ran (d : Device) (image readout kept its-readout its-image : List ℕ) (s : Setting) (v : Value)
+    (t : Setting) (r : BothAnswer)
     (image' readout' kept' its-readout' its-image' : List ℕ) : Type 0 where
-  pub begun : Begun d image readout (written (toReadout d image readout) (readoutOf d image) readout) kept kept' t (r .before)
-  pub set : SetInBoth d image image' (written (toReadout d image readout) (readoutOf d image) readout) readout' s v (r .set)
+  pub begun : Begun d image readout
+      (written (toReadout d image readout) (readoutOf d image) readout) kept kept' t (r .before)
+  pub set : SetInBoth d image image'
+      (written (toReadout d image readout) (readoutOf d image) readout) readout' s v (r .set)
   pub converted : BothConverted d image' readout' its-readout its-readout' its-image its-image' (r .converted)
   pub read : ReadInBoth d image' readout' s (r .read)
   pub other : ReadInBoth d image' readout' t (r .other)
@@ -84,8 +94,8 @@ pub record RightLengths (d : Device) (readout kept its-readout its-image : List 
   pub its-readout-size : length its-readout ≡ readoutBytes d
   pub its-image-size : length its-image ≡ imageBytes d
 
-abbrev pub BothWays : Device → (image readout kept its-readout its-image : List ℕ) → Setting → Value → (t : Setting) → BothAnswer
-    → (image' readout' kept' its-readout' its-image' : List ℕ) → Type 0
+abbrev pub BothWays : Device → (image readout kept its-readout its-image : List ℕ) → Setting → Value
+    → (t : Setting) → BothAnswer → (image' readout' kept' its-readout' its-image' : List ℕ) → Type 0
 BothWays d image readout kept its-readout its-image s v t r image' readout' kept' its-readout' its-image' =
     Ran d image readout kept its-readout its-image s v t r image' readout' kept' its-readout' its-image'
     × ((pattern : ℕ) → Taken d image s v pattern → RightLengths d readout kept its-readout its-image

@@ -1,5 +1,6 @@
-// Demand 3 as a run of calls: a setting is set in an image and straight in its readout, both are converted, and settings are read before and after.
-// The records that its contract cites stand in specs/Demand.antt of crate `edit` and in specs/BothWays.antt.
+// Demand 3 as a run of calls: a setting is set in an image and straight in its readout, both are converted, and
+// settings are read before and after. The records that its contract cites stand in specs/Demand.antt of crate
+// `edit` and in specs/BothWays.antt.
 ghost use mathlib.Core.Path.{_≡_};
 ghost use Rattle.demand.specs.BothWays.{ReadInBoth, copied, Begun, SetInBoth, BothConverted, BothWays};
 use part::Device;
@@ -65,7 +66,8 @@ pub fn begin(
     kept: &mut [u8],
     t: Setting,
 ) -> BeforeAnswer
-    ensures { λ r. ⌜ Begun d (now (image .entry)) (now (readout .entry)) (now (readout .exit)) (now (kept .entry)) (now (kept .exit)) t r ⌝ }
+    ensures { λ r. ⌜ Begun d (now (image .entry)) (now (readout .entry)) (now (readout .exit)) (now (kept .entry))
+        (now (kept .exit)) t r ⌝ }
 {
     let converted = readout::image_to_readout(d, image, readout);
     keep(readout, kept);
@@ -75,7 +77,8 @@ pub fn begin(
 
 // A setting set to a value in an image and straight in a readout.
 pub fn set_both(d: Device, image: &mut [u8], readout: &mut [u8], s: Setting, v: Value) -> BothDone
-    ensures { λ r. ⌜ SetInBoth d (now (image .entry)) (now (image .exit)) (now (readout .entry)) (now (readout .exit)) s v r ⌝ }
+    ensures { λ r.
+        ⌜ SetInBoth d (now (image .entry)) (now (image .exit)) (now (readout .entry)) (now (readout .exit)) s v r ⌝ }
 {
     let in_image = edit::set_in_image(d, image, s, v);
     let in_readout = edit::set_in_readout(d, readout, s, v);
@@ -93,7 +96,8 @@ pub fn convert_both(
     its_readout: &mut [u8],
     its_image: &mut [u8],
 ) -> BothDone
-    ensures { λ r. ⌜ BothConverted d (now (image .entry)) (now (readout .entry)) (now («its_readout» .entry)) (now («its_readout» .exit)) (now («its_image» .entry)) (now («its_image» .exit)) r ⌝ }
+    ensures { λ r. ⌜ BothConverted d (now (image .entry)) (now (readout .entry)) (now («its_readout» .entry))
+        (now («its_readout» .exit)) (now («its_image» .entry)) (now («its_image» .exit)) r ⌝ }
 {
     let to_readout = readout::image_to_readout(d, image, its_readout);
     let to_image = readout::readout_to_image(d, readout, its_image);
@@ -103,9 +107,10 @@ pub fn convert_both(
     }
 }
 
-// Demand 3, run on slices that the caller passes: an image is converted to a readout, which is copied to `kept`; setting `t` is read in
-// both; setting `s` is set to `v` in the image and straight in the readout; the changed image is converted to `its_readout` and the changed
-// readout to `its_image`; `s` and `t` are read in both. Where a call is refused, the calls after it are made all the same.
+// Demand 3, run on slices that the caller passes: an image is converted to a readout, which is copied to `kept`;
+// setting `t` is read in both; setting `s` is set to `v` in the image and straight in the readout; the changed image is
+// converted to `its_readout` and the changed readout to `its_image`; `s` and `t` are read in both. Where a call is
+// refused, the calls after it are made all the same.
 pub fn both_ways(
     d: Device,
     image: &mut [u8],
@@ -117,7 +122,9 @@ pub fn both_ways(
     v: Value,
     t: Setting,
 ) -> BothAnswer
-    ensures { λ r. ⌜ BothWays d (now (image .entry)) (now (readout .entry)) (now (kept .entry)) (now («its_readout» .entry)) (now («its_image» .entry)) s v t r (now (image .exit)) (now (readout .exit)) (now (kept .exit)) (now («its_readout» .exit)) (now («its_image» .exit)) ⌝ }
+    ensures { λ r. ⌜ BothWays d (now (image .entry)) (now (readout .entry)) (now (kept .entry))
+        (now («its_readout» .entry)) (now («its_image» .entry)) s v t r (now (image .exit)) (now (readout .exit))
+        (now (kept .exit)) (now («its_readout» .exit)) (now («its_image» .exit)) ⌝ }
 {
     let before = begin(d, image, readout, kept, t);
     let set = set_both(d, image, readout, s, v);

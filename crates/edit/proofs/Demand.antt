@@ -95,6 +95,6 @@ module _ (d : Device) (image : List ℕ) (s : Setting) (v : Value) (t : Setting)
       (made .others-after .0 ∙ rw image-after)
       (made .others-after .1 ∙ rw readout-after)
 
-pub of-calls : (d : Device) (image : List ℕ) (s : Setting) (v : Value) (pattern : ℕ) (t : Setting) (c : Calls Value) → Taken d image s v pattern
-    → Made d image s v t c → DemandByName d image s v pattern t c
+pub of-calls : (d : Device) (image : List ℕ) (s : Setting) (v : Value) (pattern : ℕ) (t : Setting) (c : Calls Value)
+    → Taken d image s v pattern → Made d image s v t c → DemandByName d image s v pattern t c
 of-calls d image s v pattern t c taken made = rw (same-calls d image s v t c made) (holds d image s v pattern taken t)

@@ -34,7 +34,8 @@ pub use Rattle.setting_bits.proofs.Edits.{some-fuse}
 pub use Rattle.edit.proofs.NotRefused.{value-iff}
 pub use Rattle.edit.proofs.Demand.{holds, of-calls}
 
-module _ (d : Device) (k : known d ≡ true) (s : Setting) (h : hasSetting d s ≡ true) (v : Value) (pattern : ℕ) (p : patternIn (kindOf d s) v ≡ some pattern) where
+module _ (d : Device) (k : known d ≡ true) (s : Setting) (h : hasSetting d s ≡ true) (v : Value) (pattern : ℕ)
+    (p : patternIn (kindOf d s) v ≡ some pattern) where
   reads-set : (layout : Layout) (bytes : List ℕ) → length bytes ≡ bytesOf d layout → Clean d layout (withPattern d layout bytes s pattern) s
       → readIn d layout (withValue d layout bytes s v) s ≡ accepted v
   unfolding withValue
@@ -52,7 +53,8 @@ module _ (d : Device) (k : known d ≡ true) (s : Setting) (h : hasSetting d s �
       → readIn d Readout (withValue d Readout readout s v) s ≡ accepted v
   read-after-set readout e clean =
       reads-set Readout readout e
-      (readout-clean d _ _ (clean-through d (withPattern d Readout readout s pattern) s (bitsOf s) (λ b l. set-clean d k readout e s h pattern (byteOf d Readout (fuseOf d s b)) (clean b l))))
+      (readout-clean d _ _ (clean-through d (withPattern d Readout readout s pattern) s (bitsOf s)
+      (λ b l. set-clean d k readout e s h pattern (byteOf d Readout (fuseOf d s b)) (clean b l))))
 
   pub other-bits : (layout : Layout) (bytes : List ℕ) → length bytes ≡ bytesOf d layout → (i j : ℕ)
       → ((b : ℕ) → b < bitsOf s → (i ≡ byteOf d layout (fuseOf d s b)) × (j ≡ bitIn d layout (fuseOf d s b)) → ⊥)

@@ -17,7 +17,8 @@ use Rattle.edit.specs.Demand.{Taken}
 use Rattle.edit.proofs.NotRefused.{its-pattern}
 use Rattle.edit.proofs.SameReadout.{start, same-readout}
 
-module _ (d : Device) (image : List ℕ) (s : Setting) (v : Value) (pattern : ℕ) (taken : Taken d image s v pattern) (b : ℕ) (l : b < bitsOf s) where
+module _ (d : Device) (image : List ℕ) (s : Setting) (v : Value) (pattern : ℕ) (taken : Taken d image s v pattern) (b : ℕ)
+    (l : b < bitsOf s) where
   in-image : stateOf d Image (withValue d Image image s v) (fuseOf d s b) ≡ bitOf pattern b
   unfolding withValue
   in-image = rw (its-pattern taken) (set-fuses d (taken .device) Image _ (start d image s v pattern taken .size) s (taken .setting) _ b l)

@@ -34,7 +34,8 @@ pub value-iff : (d : Device) (s : Setting) (v : Value) (pattern : ℕ) → hasSe
     → (patternIn (kindOf d s) v ≡ some pattern) ↔ ((pattern < 2 ^ bitsOf s) × (valueOf d s pattern ≡ v))
 value-iff d s v pattern h = rw (← kind-bits d s h) (values.pattern-iff (kindOf d s) v pattern)
 
-pub its-pattern : {d : Device} {image : List ℕ} {s : Setting} {v : Value} {pattern : ℕ} → Taken d image s v pattern → patternIn (kindOf d s) v ≡ some pattern
+pub its-pattern : {d : Device} {image : List ℕ} {s : Setting} {v : Value} {pattern : ℕ} → Taken d image s v pattern
+    → patternIn (kindOf d s) v ≡ some pattern
 its-pattern {d} {image} {s} {v} {pattern} taken = value-iff d s v pattern (taken .setting) .1 (taken .fits, taken .value)
 
 -- no byte that holds the setting has a bit above its width
@@ -42,7 +43,8 @@ abbrev pub Clean : Device → Layout → List ℕ → Setting → Type 0
 Clean d layout bytes t = strayIn d layout bytes t ≡ bytesOf d layout
 
 -- setting is not refused where the device, the length, the setting and the value are right and no byte has such a bit
-sets : (d : Device) (layout : Layout) (bytes : List ℕ) (t : Setting) (v : Value) (pattern : ℕ) → known d ≡ true → length bytes ≡ bytesOf d layout
+sets : (d : Device) (layout : Layout) (bytes : List ℕ) (t : Setting) (v : Value) (pattern : ℕ) → known d ≡ true
+    → length bytes ≡ bytesOf d layout
     → hasSetting d t ≡ true → patternIn (kindOf d t) v ≡ some pattern → Clean d layout bytes t → setIn d layout bytes t v ≡ accepted tt
 unfolding setIn
 sets d layout bytes t v pattern k e h p clean =
@@ -53,7 +55,8 @@ pub its-length : (d : Device) (image : List ℕ) → length (readoutOf d image) 
 unfolding readoutOf
 its-length d image = from-length d _
 
-pub its-bits : (d : Device) (image : List ℕ) (t : Setting) → known d ≡ true → hasSetting d t ≡ true → strayAmong d (readoutOf d image) t (bitsOf t) ≡ readoutBytes d
+pub its-bits : (d : Device) (image : List ℕ) (t : Setting) → known d ≡ true → hasSetting d t ≡ true
+    → strayAmong d (readoutOf d image) t (bitsOf t) ≡ readoutBytes d
 its-bits d image t k h =
     clean-through d (readoutOf d image) t (bitsOf t)
     (λ b l. readout-accepted d image (byteOf d Readout (fuseOf d t b)) (inside d Readout (fuseOf d t b) k (fuse-below d k t h b l)))

@@ -22,7 +22,9 @@ module _ (d : Device) (image : List ℕ) (s : Setting) (v : Value) (pattern : �
     (f : ℕ) (l : f < fuseCount d) (apart : (b : ℕ) → b < bitsOf s → fuseOf d s b ≢ f) where
   in-image : stateOf d Image (withValue d Image image s v) f ≡ stateOf d Image image f
   unfolding withValue
-  in-image = rw (its-pattern taken) (set-other-fuses d (taken .device) Image _ (start d image s v pattern taken .size) s (taken .setting) _ f l apart)
+  in-image =
+      rw (its-pattern taken)
+      (set-other-fuses d (taken .device) Image _ (start d image s v pattern taken .size) s (taken .setting) _ f l apart)
 
   pub other-fuses : (stateOf d Image (withValue d Image image s v) f ≡ stateOf d Image image f)
       × (stateOf d Readout (withValue d Readout (readoutOf d image) s v) f ≡ stateOf d Readout (readoutOf d image) f)

@@ -28,13 +28,23 @@ module _ (d : Device) (image : List ℕ) (s : Setting) (v : Value) (pattern : �
     (t : Setting) (h : hasSetting d t ≡ true) (ne : t ≢ s) where
   stands : patternAt d Image (withValue d Image image s v) t ≡ patternAt d Image image t
   unfolding withValue
-  stands = rw (its-pattern taken) (set-others-read d (taken .device) Image _ (start d image s v pattern taken .size) s (taken .setting) _ t h ne)
+  stands =
+      rw (its-pattern taken) (set-others-read d (taken .device) Image _ (start d image s v pattern taken .size) s (taken .setting) _ t h ne)
 
   in-image : readIn d Image (withValue d Image image s v) t ≡ readIn d Image image t
   unfolding readIn
   in-image =
       let after = withValue d Image image s v in
-      rw (taken .device, eq-eqb (length after) (imageBytes d) (changed d image s v pattern taken .size), eq-eqb (length image) (imageBytes d) (taken .size), h, image-clean d after t, image-clean d image t, le-ltb (imageBytes d) (imageBytes d) (omega arith), stands)
+      rw (
+        taken .device,
+        eq-eqb (length after) (imageBytes d) (changed d image s v pattern taken .size),
+        eq-eqb (length image) (imageBytes d) (taken .size),
+        h,
+        image-clean d after t,
+        image-clean d image t,
+        le-ltb (imageBytes d) (imageBytes d) (omega arith),
+        stands,
+      )
 
   pub others-as-before : (readIn d Image (withValue d Image image s v) t ≡ readIn d Image image t)
       × (readIn d Readout (withValue d Readout (readoutOf d image) s v) t ≡ readIn d Readout (readoutOf d image) t)

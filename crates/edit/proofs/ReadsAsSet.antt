@@ -36,8 +36,10 @@ readout-clean d bytes t e = e
 
 -- reading answers the value of the pattern that stands there, where the device, the length and the setting are right and no byte of the
 -- setting has a bit above its width ..
-pub reads : (d : Device) (layout : Layout) (bytes : List ℕ) (t : Setting) (pattern : ℕ) (v : Value) → known d ≡ true → length bytes ≡ bytesOf d layout
-    → hasSetting d t ≡ true → Clean d layout bytes t → patternAt d layout bytes t ≡ pattern → valueOf d t pattern ≡ v → readIn d layout bytes t ≡ accepted v
+pub reads : (d : Device) (layout : Layout) (bytes : List ℕ) (t : Setting) (pattern : ℕ) (v : Value) → known d ≡ true
+    → length bytes ≡ bytesOf d layout
+    → hasSetting d t ≡ true → Clean d layout bytes t → patternAt d layout bytes t ≡ pattern → valueOf d t pattern ≡ v
+    → readIn d layout bytes t ≡ accepted v
 unfolding readIn
 reads d layout bytes t pattern v k e h clean p means =
     rw (k, eq-eqb (length bytes) (bytesOf d layout) e, h, clean, le-ltb (bytesOf d layout) (bytesOf d layout) (omega arith), p, means)
@@ -47,12 +49,24 @@ pub same-reading : (d : Device) (image : List ℕ) (t : Setting) → known d ≡
     → readIn d Readout (readoutOf d image) t ≡ readIn d Image image t
 unfolding readIn
 same-reading d image t k e h =
-    rw (k, eq-eqb (length image) (imageBytes d) e, eq-eqb (length (readoutOf d image)) (readoutBytes d) (its-length d image), h, image-clean d image t, readout-clean d (readoutOf d image) t (its-bits d image t k h), le-ltb (imageBytes d) (imageBytes d) (omega arith), le-ltb (readoutBytes d) (readoutBytes d) (omega arith), same-pattern d image k t h)
+    rw (
+      k,
+      eq-eqb (length image) (imageBytes d) e,
+      eq-eqb (length (readoutOf d image)) (readoutBytes d) (its-length d image),
+      h,
+      image-clean d image t,
+      readout-clean d (readoutOf d image) t (its-bits d image t k h),
+      le-ltb (imageBytes d) (imageBytes d) (omega arith),
+      le-ltb (readoutBytes d) (readoutBytes d) (omega arith),
+      same-pattern d image k t h,
+    )
 
 module _ (d : Device) (image : List ℕ) (s : Setting) (v : Value) (pattern : ℕ) (taken : Taken d image s v pattern) where
   stands : patternAt d Image (withValue d Image image s v) s ≡ pattern
   unfolding withValue
-  stands = rw (its-pattern taken) (set-reads d (taken .device) Image _ (start d image s v pattern taken .size) s (taken .setting) _ (taken .fits))
+  stands =
+      rw (its-pattern taken)
+      (set-reads d (taken .device) Image _ (start d image s v pattern taken .size) s (taken .setting) _ (taken .fits))
 
   in-image : readIn d Image (withValue d Image image s v) s ≡ accepted v
   in-image =

@@ -1,5 +1,5 @@
--- Demand 3, whole, in its own words: a field for each of its sentences, in their order, over document 01's places and values and the
--- conversions; it speaks of the definitions that the contracts of the operations cite, and of calls.
+-- Demand 3, whole, in its own words: a field for each of its sentences, in their order, over document 01's places and
+-- values and the conversions; it speaks of the definitions that the contracts of the operations cite, and of calls.
 use mathlib.Core.Path.{_≡_}
 use mathlib.Core.Logic.{_≢_}
 use mathlib.Core.Bool.{true}
@@ -22,8 +22,9 @@ use Rattle.setting_bits.specs.declared.Layout.the-variants.{Image, Readout}
 use Rattle.setting_bits.specs.SettingBits.{stateOf}
 use Rattle.edit.specs.Edit.{readIn, setIn, withValue}
 
--- "take any known device, any image of it, the readout of that image, any setting of that device and any value of that setting": what 003's
--- list for the setting gives a pattern of its bits; by `value-iff` (proofs/Laws.antt) no other pattern has this value
+-- "take any known device, any image of it, the readout of that image, any setting of that device and any value of
+-- that setting": what 003's list for the setting gives a pattern of its bits; by `value-iff` (proofs/Laws.antt)
+-- no other pattern has this value
 pub record Taken (d : Device) (image : List ℕ) (s : Setting) (v : Value) (pattern : ℕ) : Type 0 where
   pub device : known d ≡ true
   pub size : length image ≡ imageBytes d
@@ -32,9 +33,10 @@ pub record Taken (d : Device) (image : List ℕ) (s : Setting) (v : Value) (patt
   pub fits : pattern < 2 ^ bitsOf s
   pub value : valueOf d s pattern ≡ v
 
--- What the calls gave: the answer of the conversion of the image and the readout that it made; the answers of setting in the image and
--- in the readout, and the bytes after that; the answers of the conversions of the changed image and of the changed readout, and their
--- results; the answers of reading the setting in both, and of reading another setting in both before and after the change.
+-- What the calls gave: the answer of the conversion of the image and the readout that it made; the answers of setting
+-- in the image and in the readout, and the bytes after that; the answers of the conversions of the changed image and of
+-- the changed readout, and their results; the answers of reading the setting in both, and of reading another setting in
+-- both before and after the change.
 pub record Calls (A : Type 0) : Type 0 where
   pub converted : Outcome (Unit {0})
   pub readout-before : List ℕ
@@ -53,9 +55,10 @@ pub record Calls (A : Type 0) : Type 0 where
   pub other-image : Outcome A
   pub other-readout : Outcome A
 
--- What the definitions give where setting answers `set` and leaves `changed`, and a setting that is called `s` is read by `read`. The answer
--- of a conversion depends on its target by the length alone, which is that of its result.
-abbrev pub callsBy : {S A : Type 0} → Device → (set : Layout → List ℕ → Outcome (Unit {0})) → (changed : Layout → List ℕ → List ℕ)
+-- What the definitions give where setting answers `set` and leaves `changed`, and a setting that is called `s` is read
+-- by `read`. The answer of a conversion depends on its target by the length alone, which is that of its result.
+abbrev pub callsBy : {S A : Type 0} → Device → (set : Layout → List ℕ → Outcome (Unit {0}))
+    → (changed : Layout → List ℕ → List ℕ)
     → (read : Layout → List ℕ → S → Outcome A) → (image : List ℕ) → (s t : S) → Calls A
 callsBy d set changed read image s t = record {
   converted = toReadout d image (readoutOf d image);
@@ -76,10 +79,11 @@ callsBy d set changed read image s t = record {
   other-readout = read Readout (changed Readout (readoutOf d image)) t;
 }
 
--- Demand 3, of given calls. A setting is called `s`: by its name and indices, or by its number; `has` says which of these the device has,
--- `read` reads one, `v` is what it is set to, `pattern` the states that `v` needs, and `fuse b` for b below `bits` are the fuses listed for
--- it. `t` is the other setting that the calls read.
-pub record Demand3 {S A : Type 0} (d : Device) (has : S → Type 0) (read : Layout → List ℕ → S → Outcome A) (image : List ℕ)
+-- Demand 3, of given calls. A setting is called `s`: by its name and indices, or by its number; `has` says which of
+-- these the device has, `read` reads one, `v` is what it is set to, `pattern` the states that `v` needs, and `fuse b`
+-- for b below `bits` are the fuses listed for it. `t` is the other setting that the calls read.
+pub record Demand3 {S A : Type 0} (d : Device) (has : S → Type 0)
+    (read : Layout → List ℕ → S → Outcome A) (image : List ℕ)
     (s : S) (v : A) (pattern bits : ℕ) (fuse : ℕ → ℕ) (t : S) (c : Calls A) : Type 0 where
   -- "Set it in the image, or set it straight in the readout's few bytes. Neither is refused."
   pub not-refused : (c .set-image ≡ accepted tt) × (c .set-readout ≡ accepted tt)
@@ -110,9 +114,11 @@ pub record Demand3 {S A : Type 0} (d : Device) (has : S → Type 0) (read : Layo
 -- The operations by setting and value: what the definitions give, and the demand of some calls of them.
 abbrev pub callsByName : Device → (image : List ℕ) → Setting → Value → (t : Setting) → Calls Value
 callsByName d image s v t =
-    callsBy d (λ layout bytes. setIn d layout bytes s v) (λ layout bytes. withValue d layout bytes s v) (readIn d) image s t
+    callsBy d (λ layout bytes. setIn d layout bytes s v)
+    (λ layout bytes. withValue d layout bytes s v) (readIn d) image s t
 
-abbrev pub DemandByName : Device → (image : List ℕ) → Setting → Value → (pattern : ℕ) → (t : Setting) → Calls Value → Type 0
+abbrev pub DemandByName : Device → (image : List ℕ) → Setting → Value → (pattern : ℕ)
+    → (t : Setting) → Calls Value → Type 0
 DemandByName d image s v pattern t c =
     Demand3 d (λ u. hasSetting d u ≡ true) (readIn d) image s v pattern (bitsOf s) (fuseOf d s) t c
 
@@ -121,9 +127,12 @@ pub record Made (d : Device) (image : List ℕ) (s : Setting) (v : Value) (t : S
   pub conversion : (c .converted ≡ toReadout d image (c .readout-before)) × (c .readout-before ≡ readoutOf d image)
   pub answers : (c .set-image ≡ setIn d Image image s v) × (c .set-readout ≡ setIn d Readout (c .readout-before) s v)
   pub changes : (c .image ≡ withValue d Image image s v) × (c .readout ≡ withValue d Readout (c .readout-before) s v)
-  pub image-converted : (c .converted-image ≡ toReadout d (c .image) (c .its-readout)) × (c .its-readout ≡ readoutOf d (c .image))
-  pub readout-converted : (c .converted-readout ≡ toImage d (c .readout) (c .its-image)) × (c .its-image ≡ imageOf d (c .readout))
+  pub image-converted : (c .converted-image ≡ toReadout d (c .image) (c .its-readout))
+      × (c .its-readout ≡ readoutOf d (c .image))
+  pub readout-converted :
+      (c .converted-readout ≡ toImage d (c .readout) (c .its-image)) × (c .its-image ≡ imageOf d (c .readout))
   pub readings : (c .read-image ≡ readIn d Image (c .image) s) × (c .read-readout ≡ readIn d Readout (c .readout) s)
   pub others-before : (c .other-image-before ≡ readIn d Image image t)
       × (c .other-readout-before ≡ readIn d Readout (c .readout-before) t)
-  pub others-after : (c .other-image ≡ readIn d Image (c .image) t) × (c .other-readout ≡ readIn d Readout (c .readout) t)
+  pub others-after : (c .other-image ≡ readIn d Image (c .image) t)
+      × (c .other-readout ≡ readIn d Readout (c .readout) t)

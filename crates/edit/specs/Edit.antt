@@ -1,5 +1,6 @@
--- Reading and setting a setting, in an image and in a readout: unless refused, setting puts a value's states there and changes no other
--- bit; reading answers the value whose states stand there. Document 01, "What the statements must settle" and the refusals.
+-- Reading and setting a setting, in an image and in a readout: unless refused, setting puts a value's states there
+-- and changes no other bit; reading answers the value whose states stand there. Document 01, "What the statements
+-- must settle" and the refusals.
 use Prim.Native.Nat.{ℕ}
 use mathlib.Core.Bool.{cond}
 use mathlib.Core.List.{List}
@@ -21,14 +22,16 @@ use Rattle.setting_bits.specs.declared.Layout.{Layout}
 use Rattle.setting_bits.specs.declared.Layout.the-variants.{Image, Readout}
 use Rattle.setting_bits.specs.SettingBits.{bytesOf, patternAt, withPattern, strayOf}
 
--- the lowest index of a byte that holds the setting and has a bit above its width, or the length: an image has no such bits
+-- the lowest index of a byte that holds the setting and has a bit above its width, or the
+-- length: an image has no such bits
 unfoldable pub strayIn : Device → Layout → List ℕ → Setting → ℕ
 strayIn d Image bytes s = imageBytes d
 strayIn d Readout bytes s = strayOf d bytes s
 
 -- refusal 6 exactly where a byte that holds the setting has a bit above its width: the lowest such index
 abbrev pub ifClean : {A : Type 0} → Device → Layout → List ℕ → Setting → Outcome A → Outcome A
-ifClean d layout bytes s answer = cond (ltb (strayIn d layout bytes s) (bytesOf d layout)) (refused 6 (strayIn d layout bytes s)) answer
+ifClean d layout bytes s answer =
+    cond (ltb (strayIn d layout bytes s) (bytesOf d layout)) (refused 6 (strayIn d layout bytes s)) answer
 
 -- refusals 1, 2, 4, in that order
 abbrev pub ifThere : {A : Type 0} → Device → Layout → List ℕ → Setting → Outcome A → Outcome A
@@ -37,7 +40,8 @@ ifThere d layout bytes s answer =
 
 -- reading a setting: 1, 2, 4, 6
 unfoldable pub readIn : Device → Layout → List ℕ → Setting → Outcome Value
-readIn d layout bytes s = ifThere d layout bytes s (ifClean d layout bytes s (accepted (valueOf d s (patternAt d layout bytes s))))
+readIn d layout bytes s =
+    ifThere d layout bytes s (ifClean d layout bytes s (accepted (valueOf d s (patternAt d layout bytes s))))
 
 -- refusal 5 exactly where the setting has no such value
 abbrev pub ifValue : {A : Type 0} → Option ℕ → Outcome A → Outcome A
@@ -46,7 +50,8 @@ ifValue (some pattern) answer = answer
 
 -- setting it to a value: 1, 2, 4, 5, 6
 unfoldable pub setIn : Device → Layout → List ℕ → Setting → Value → Outcome (Unit {0})
-setIn d layout bytes s v = ifThere d layout bytes s (ifValue (patternIn (kindOf d s) v) (ifClean d layout bytes s (accepted tt)))
+setIn d layout bytes s v =
+    ifThere d layout bytes s (ifValue (patternIn (kindOf d s) v) (ifClean d layout bytes s (accepted tt)))
 
 abbrev pub patternOr0 : Option ℕ → ℕ
 patternOr0 none = 0

@@ -19,7 +19,8 @@ use settings::Setting;
 use values::Value;
 use values::internal::Found;
 
-// The lowest index of a byte that holds the setting and has a bit above its width, or the length: an image has no such bits.
+// The lowest index of a byte that holds the setting and has a bit above its width, or the
+// length: an image has no such bits.
 pub fn stray_in(d: Device, layout: Layout, bytes: &[u8], s: Setting) -> usize
     requires { ⌜ (known d ≡ true) × (hasSetting d s ≡ true) × (length (now bytes) ≡ bytesOf d layout) ⌝ }
     ensures { λ r. ⌜ r ≡ strayIn d layout (now (bytes .entry)) s ⌝ }
@@ -55,7 +56,8 @@ pub fn read(d: Device, layout: Layout, bytes: &[u8], s: Setting) -> ValueAnswer
 
 // A setting set to a value. Refused: 1, 2, 4, 5, 6.
 pub fn set(d: Device, layout: Layout, bytes: &mut [u8], s: Setting, v: Value) -> DoneAnswer
-    ensures { λ r. ⌜ Written (setIn d layout (now (bytes .entry)) s v) (doneOutcome r) (withValue d layout (now (bytes .entry)) s v) (now (bytes .entry)) (now (bytes .exit)) ⌝ }
+    ensures { λ r. ⌜ Written (setIn d layout (now (bytes .entry)) s v) (doneOutcome r)
+        (withValue d layout (now (bytes .entry)) s v) (now (bytes .entry)) (now (bytes .exit)) ⌝ }
 {
     if !part::is_known(d) {
         return DoneAnswer::Refused(Refusal::UnknownDevice);

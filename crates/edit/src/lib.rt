@@ -24,7 +24,8 @@ pub fn read_in_image(d: Device, image: &[u8], s: Setting) -> ValueAnswer
 
 // A setting set to a value in an image. Refused: 1, 2, 4, 5.
 pub fn set_in_image(d: Device, image: &mut [u8], s: Setting, v: Value) -> DoneAnswer
-    ensures { λ r. ⌜ Written (setIn d Image (now (image .entry)) s v) (doneOutcome r) (withValue d Image (now (image .entry)) s v) (now (image .entry)) (now (image .exit)) ⌝ }
+    ensures { λ r. ⌜ Written (setIn d Image (now (image .entry)) s v) (doneOutcome r)
+        (withValue d Image (now (image .entry)) s v) (now (image .entry)) (now (image .exit)) ⌝ }
 {
     internal::set(d, Layout::Image, image, s, v)
 }
@@ -38,7 +39,8 @@ pub fn read_in_readout(d: Device, readout: &[u8], s: Setting) -> ValueAnswer
 
 // A setting set to a value in a readout, in the bytes that hold it. Refused: 1, 2, 4, 5, 6.
 pub fn set_in_readout(d: Device, readout: &mut [u8], s: Setting, v: Value) -> DoneAnswer
-    ensures { λ r. ⌜ Written (setIn d Readout (now (readout .entry)) s v) (doneOutcome r) (withValue d Readout (now (readout .entry)) s v) (now (readout .entry)) (now (readout .exit)) ⌝ }
+    ensures { λ r. ⌜ Written (setIn d Readout (now (readout .entry)) s v) (doneOutcome r)
+        (withValue d Readout (now (readout .entry)) s v) (now (readout .entry)) (now (readout .exit)) ⌝ }
 {
     internal::set(d, Layout::Readout, readout, s, v)
 }

@@ -41,25 +41,43 @@ module _ (d : Device) (layout : Layout) (bytes : List ℕ) (size : ℕ) (e : siz
 
 -- what setting must give: the outcome's answer, and the bytes that go with it
 abbrev pub PatternGives : Device → Layout → List ℕ → (x pattern : ℕ) → Outcome (Unit {0}) → List ℕ → Type 0
-PatternGives d layout bytes x pattern answer after = Written (setPattern d layout bytes x pattern) answer (withNumbered d layout bytes x pattern) bytes after
+PatternGives d layout bytes x pattern answer after =
+    Written (setPattern d layout bytes x pattern) answer (withNumbered d layout bytes x pattern) bytes after
 
 pub refusal : (d : Device) (layout : Layout) (bytes : List ℕ) (x pattern n v : ℕ) → refused n v ≡ setPattern d layout bytes x pattern
     → PatternGives d layout bytes x pattern (refused n v) bytes
-refusal d layout bytes x pattern n v e = says (setPattern d layout bytes x pattern) (refused n v) (withNumbered d layout bytes x pattern) bytes e
+refusal d layout bytes x pattern n v e =
+    says (setPattern d layout bytes x pattern) (refused n v) (withNumbered d layout bytes x pattern) bytes e
 
 -- for a device, a length and a number that there are
-module _ (d : Device) (layout : Layout) (bytes : List ℕ) (x : ℕ) (k : known d ≡ true) (n : length bytes ≡ bytesOf d layout) (l : x < countOf d)
+module _ (d : Device) (layout : Layout) (bytes : List ℕ) (x : ℕ) (k : known d ≡ true)
+    (n : length bytes ≡ bytesOf d layout) (l : x < countOf d)
     (s : Setting) (g : s ≡ settingOf d x) where
   module _ (stray : ℕ) (q : strayIn d layout bytes s ≡ stray) where
     pub reads-stray : stray < length bytes → refused 6 stray ≡ readPattern d layout bytes x
     unfolding readPattern
     reads-stray m =
-        rw (k, eq-eqb (length bytes) (bytesOf d layout) n, lt-ltb x (countOf d) l, ← g, q, lt-ltb stray (bytesOf d layout) (omega (arith, n)))
+        rw (
+          k,
+          eq-eqb (length bytes) (bytesOf d layout) n,
+          lt-ltb x (countOf d) l,
+          ← g,
+          q,
+          lt-ltb stray (bytesOf d layout) (omega (arith, n)),
+        )
 
     pub reads-clean : (p : ℕ) → length bytes ≤ stray → p ≡ patternAt d layout bytes s → accepted p ≡ readPattern d layout bytes x
     unfolding readPattern
     reads-clean p m w =
-        rw (k, eq-eqb (length bytes) (bytesOf d layout) n, lt-ltb x (countOf d) l, ← g, q, le-ltb stray (bytesOf d layout) (omega (arith, n)), w)
+        rw (
+          k,
+          eq-eqb (length bytes) (bytesOf d layout) n,
+          lt-ltb x (countOf d) l,
+          ← g,
+          q,
+          le-ltb stray (bytesOf d layout) (omega (arith, n)),
+          w,
+        )
 
   module _ (pattern : ℕ) where
     pub sets-none : ltb pattern (2 ^ bitsOf s) ≡ false → PatternGives d layout bytes x pattern (refused 5 0) bytes
@@ -73,11 +91,28 @@ module _ (d : Device) (layout : Layout) (bytes : List ℕ) (x : ℕ) (k : known 
       unfolding setPattern
       sets-stray m =
           refusal d layout bytes x pattern 6 stray
-          (rw (k, eq-eqb (length bytes) (bytesOf d layout) n, lt-ltb x (countOf d) l, ← g, t, q, lt-ltb stray (bytesOf d layout) (omega (arith, n))))
+          (rw (
+            k,
+            eq-eqb (length bytes) (bytesOf d layout) n,
+            lt-ltb x (countOf d) l,
+            ← g,
+            t,
+            q,
+            lt-ltb stray (bytesOf d layout) (omega (arith, n)),
+          ))
 
-      pub sets-clean : (after : List ℕ) → length bytes ≤ stray → after ≡ withPattern d layout bytes s pattern → PatternGives d layout bytes x pattern (accepted tt) after
+      pub sets-clean : (after : List ℕ) → length bytes ≤ stray → after ≡ withPattern d layout bytes s pattern
+          → PatternGives d layout bytes x pattern (accepted tt) after
       unfolding setPattern withNumbered
       sets-clean after m z =
           let same : accepted tt ≡ setPattern d layout bytes x pattern =
-          rw (k, eq-eqb (length bytes) (bytesOf d layout) n, lt-ltb x (countOf d) l, ← g, t, q, le-ltb stray (bytesOf d layout) (omega (arith, n))) in
+          rw (
+            k,
+            eq-eqb (length bytes) (bytesOf d layout) n,
+            lt-ltb x (countOf d) l,
+            ← g,
+            t,
+            q,
+            le-ltb stray (bytesOf d layout) (omega (arith, n)),
+          ) in
           record { answers = same; holds = rw (← same, ← g) z }

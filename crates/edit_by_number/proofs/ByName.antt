@@ -43,15 +43,23 @@ module _ (d : Device) (k : known d ≡ true) (layout : Layout) (bytes : List ℕ
   unfolding s
   there = number-again d number below .0
 
-  pub reads-numbered : readIn d layout bytes (settingOf d number) ≡ mapped (valueOf d (settingOf d number)) (readPattern d layout bytes number)
+  pub reads-numbered : readIn d layout bytes (settingOf d number)
+      ≡ mapped (valueOf d (settingOf d number)) (readPattern d layout bytes number)
   unfolding readPattern readIn s
   reads-numbered =
       let value = valueOf d (settingOf d number) in
-      rw (lt-ltb number (countOf d) below, there, mapped-cond value (known d) _ _, mapped-cond value (eqb (length bytes) (bytesOf d layout)) _ _, mapped-cond value (ltb (strayIn d layout bytes (settingOf d number)) (bytesOf d layout)) _ _)
+      rw (
+        lt-ltb number (countOf d) below,
+        there,
+        mapped-cond value (known d) _ _,
+        mapped-cond value (eqb (length bytes) (bytesOf d layout)) _ _,
+        mapped-cond value (ltb (strayIn d layout bytes (settingOf d number)) (bytesOf d layout)) _ _,
+      )
 
   pub sets-numbered : (pattern : ℕ) → pattern < 2 ^ bitsOf (settingOf d number)
       → (setPattern d layout bytes number pattern ≡ setIn d layout bytes (settingOf d number) (valueOf d (settingOf d number) pattern))
-      × (withNumbered d layout bytes number pattern ≡ withValue d layout bytes (settingOf d number) (valueOf d (settingOf d number) pattern))
+      × (withNumbered d layout bytes number pattern
+      ≡ withValue d layout bytes (settingOf d number) (valueOf d (settingOf d number) pattern))
   unfolding setPattern setIn withNumbered withValue s
   sets-numbered pattern fits =
       let value : patternIn (kindOf d (settingOf d number)) (valueOf d (settingOf d number) pattern) ≡ some pattern =

@@ -64,7 +64,8 @@ module _ (d : Device) (x : ℕ) (l : x < start d wireAnds) where
 
   index-in : known d ≡ true → (layout : Layout) (bytes : List ℕ) → length bytes ≡ bytesOf d layout
       → (index : ℕ) → index ≡ byteOf d layout (fuseOf d (settingOf d x) 0) → index < length bytes
-  index-in k layout bytes n index i = rw (n, i) (inside d layout (fuseOf d (settingOf d x) 0) k (fuse-below d k (settingOf d x) its 0 bit-0))
+  index-in k layout bytes n index i =
+      rw (n, i) (inside d layout (fuseOf d (settingOf d x) 0) k (fuse-below d k (settingOf d x) its 0 bit-0))
 
   module _ (k : known d ≡ true) (p : Place) (e : p ≡ placeOf (settingOf d x) 0) where
     pub place-there : hasPlace d p ≡ true
@@ -87,8 +88,10 @@ module _ (d : Device) (x : ℕ) (l : x < start d wireAnds) where
           → strayIn d layout bytes (settingOf d x) ≡ cond (t && not (eqb above 0)) index (bytesOf d layout)
       found w above t v a r = rw r (stray-of-one d layout bytes (settingOf d x) k its one-bit p e index w above at-index v a)
 
-module _ (d : Device) (x : ℕ) (l : x < start d wireAnds) (k : known d ≡ true) (layout : Layout) (bytes : List ℕ) (n : length bytes ≡ bytesOf d layout)
-    (index bit : ℕ) (t : Bool) (i : index ≡ byteOf d layout (fuseOf d (settingOf d x) 0)) (j : bit ≡ bitIn d layout (fuseOf d (settingOf d x) 0))
+module _ (d : Device) (x : ℕ) (l : x < start d wireAnds) (k : known d ≡ true) (layout : Layout) (bytes : List ℕ)
+    (n : length bytes ≡ bytesOf d layout)
+    (index bit : ℕ) (t : Bool) (i : index ≡ byteOf d layout (fuseOf d (settingOf d x) 0))
+    (j : bit ≡ bitIn d layout (fuseOf d (settingOf d x) 0))
     (q : strayIn d layout bytes (settingOf d x) ≡ cond t index (bytesOf d layout)) where
   pub bit-in : bit < 8
   bit-in = rw j (bit-small d k (settingOf d x) (its d x l) 0 (bit-0 d x l) layout)
@@ -126,13 +129,15 @@ module _ (d : Device) (x : ℕ) (l : x < start d wireAnds) (k : known d ≡ true
     pub set-stray : t ≡ true → PatternGives d layout bytes x pattern (refused 6 index) bytes
     set-stray s = sets-stray d layout bytes x k n (number-there d x l) (settingOf d x) refl pattern fits index (stray-if true s) there
 
-    pub set-state : (after : List ℕ) → t ≡ false → after ≡ withBit bytes index bit pattern → PatternGives d layout bytes x pattern (accepted tt) after
+    pub set-state : (after : List ℕ) → t ≡ false → after ≡ withBit bytes index bit pattern
+        → PatternGives d layout bytes x pattern (accepted tt) after
     set-state after s g =
         sets-clean d layout bytes x k n (number-there d x l) (settingOf d x) refl pattern fits (bytesOf d layout) (stray-if false s)
         after (omega (arith, n)) (its-bytes pattern after low g)
 
 -- what the operations ask first
-pub its-literal : (d : Device) (layout : Layout) (size x : ℕ) (t : Bool) → t ≡ (known d && eqb size (bytesOf d layout) && ltb x (start d wireAnds)) → t ≡ true
+pub its-literal : (d : Device) (layout : Layout) (size x : ℕ) (t : Bool)
+    → t ≡ (known d && eqb size (bytesOf d layout) && ltb x (start d wireAnds)) → t ≡ true
     → (known d ≡ true) × (size ≡ bytesOf d layout) × (x < start d wireAnds)
 its-literal d layout size x t e h =
     let all : (known d && eqb size (bytesOf d layout) && ltb x (start d wireAnds)) ≡ true = sym e ∙ h in

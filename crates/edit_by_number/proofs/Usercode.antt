@@ -29,21 +29,23 @@ pub has-usercode : (d : Device) → hasSetting d usercode ≡ true
 unfolding hasSetting
 has-usercode d = lt-ltb (globalIndex (foes d) field.Usercode) (globalFields (foes d)) (omega arith)
 
-clean : (d : Device) (layout : Layout) (bytes : List ℕ) → known d ≡ true → length bytes ≡ bytesOf d layout → ((i : ℕ) → getD bytes i 0 < 2 ^ 8)
-    → strayIn d layout bytes usercode ≡ bytesOf d layout
+clean : (d : Device) (layout : Layout) (bytes : List ℕ) → known d ≡ true → length bytes ≡ bytesOf d layout
+    → ((i : ℕ) → getD bytes i 0 < 2 ^ 8) → strayIn d layout bytes usercode ≡ bytesOf d layout
 unfolding strayIn
 clean d Image bytes k n small = refl
 clean d Readout bytes k n small =
     sym (none-stray d k usercode (has-usercode d) bytes small n (of-global d k usercode (has-usercode d) field.Usercode refl)) ∙ n
 
-module _ (d : Device) (layout : Layout) (bytes : List ℕ) (x count size last : ℕ) (k : known d ≡ true) (e : size ≡ bytesOf d layout) (m : length bytes ≡ size)
+module _ (d : Device) (layout : Layout) (bytes : List ℕ) (x count size last : ℕ) (k : known d ≡ true) (e : size ≡ bytesOf d layout)
+    (m : length bytes ≡ size)
     (f : count ≡ countOf d) (l : x < count) (g : last ≡ numberOf d usercode) (q : x ≡ last) (small : (i : ℕ) → getD bytes i 0 < 2 ^ 8) where
   its : usercode ≡ settingOf d x
   its = sym (ap (settingOf d) (q ∙ g) ∙ setting-again d usercode (has-usercode d))
 
   pub reads-code : (p : ℕ) → p ≡ patternAt d layout bytes usercode → accepted p ≡ readPattern d layout bytes x
   reads-code p w =
-      reads-clean d layout bytes x k (m ∙ e) (omega arith) usercode its (bytesOf d layout) (clean d layout bytes k (m ∙ e) small) p (omega (arith, m)) w
+      reads-clean d layout bytes x k (m ∙ e) (omega arith) usercode its (bytesOf d layout)
+      (clean d layout bytes k (m ∙ e) small) p (omega (arith, m)) w
 
   pub sets-code : (pattern : ℕ) (after : List ℕ) → pattern < 2 ^ 32 → after ≡ withPattern d layout bytes usercode pattern
       → PatternGives d layout bytes x pattern (accepted tt) after

@@ -1,5 +1,6 @@
--- Demand 3 of the operations by setting number and pattern: the same sentences (`Demand3` in specs/Demand.antt of crate `edit`), where a
--- setting is called by its number and what it reads as is its pattern. The law is `holds-by-number` in proofs/Laws.antt.
+-- Demand 3 of the operations by setting number and pattern: the same sentences (`Demand3` in specs/Demand.antt of
+-- crate `edit`), where a setting is called by its number and what it reads as is its pattern. The law is
+-- `holds-by-number` in proofs/Laws.antt.
 use mathlib.Core.Path.{_≡_}
 use mathlib.Core.Bool.{true}
 use mathlib.Core.List.{List}
@@ -23,8 +24,10 @@ pub record NumberTaken (d : Device) (image : List ℕ) (number pattern : ℕ) : 
 -- what the definitions give, and the demand of it; `other` is the number of another setting that is read
 abbrev pub callsByNumber : Device → (image : List ℕ) → (number pattern other : ℕ) → Calls ℕ
 callsByNumber d image number pattern other =
-    callsBy d (λ layout bytes. setPattern d layout bytes number pattern) (λ layout bytes. withNumbered d layout bytes number pattern) (readPattern d) image number other
+    callsBy d (λ layout bytes. setPattern d layout bytes number pattern)
+    (λ layout bytes. withNumbered d layout bytes number pattern) (readPattern d) image number other
 
 abbrev pub DemandByNumber : Device → (image : List ℕ) → (number pattern other : ℕ) → Calls ℕ → Type 0
 DemandByNumber d image number pattern other c =
-    Demand3 d (λ u. u < countOf d) (readPattern d) image number pattern pattern (bitsOf (settingOf d number)) (fuseOf d (settingOf d number)) other c
+    Demand3 d (λ u. u < countOf d) (readPattern d) image number pattern pattern (bitsOf (settingOf d number))
+    (fuseOf d (settingOf d number)) other c

@@ -1,5 +1,5 @@
-// Reading and setting by setting number and pattern in an image or a readout alike: what the operations need, and no caller.
-// A literal and USERCODE go by their numbers, the others through the setting that the number stands for.
+// Reading and setting by setting number and pattern in an image or a readout alike: what the operations need, and no
+// caller. A literal and USERCODE go by their numbers, the others through the setting that the number stands for.
 ghost use mathlib.Core.Path.{_≡_};
 ghost use mathlib.Core.Bool.{true, cond, _&&_};
 ghost use Prim.Native.Nat.{_<_};
@@ -30,7 +30,9 @@ struct LiteralSpot {
 
 fn literal_spot(d: Device, layout: Layout, bytes: &[u8], number: SettingNumber) -> LiteralSpot
     requires { ⌜ (known d ≡ true) × (length (now bytes) ≡ bytesOf d layout) × (number .0 < start d wireAnds) ⌝ }
-    ensures { λ r. ⌜ (r .index ≡ byteOf d layout (fuseOf d (settingOf d (number .0)) 0)) × (r .bit ≡ bitIn d layout (fuseOf d (settingOf d (number .0)) 0)) × (strayIn d layout (now (bytes .entry)) (settingOf d (number .0)) ≡ cond (r .stray) (r .index) (bytesOf d layout)) ⌝ }
+    ensures { λ r. ⌜ (r .index ≡ byteOf d layout (fuseOf d (settingOf d (number .0)) 0))
+        × (r .bit ≡ bitIn d layout (fuseOf d (settingOf d (number .0)) 0)) × (strayIn d layout (now (bytes .entry))
+        (settingOf d (number .0)) ≡ cond (r .stray) (r .index) (bytesOf d layout)) ⌝ }
 {
     let place = setting_places::internal::place_of_literal(d, number);
     let spot = setting_bits::internal::spot_at(d, layout, place);
@@ -45,8 +47,8 @@ fn literal_spot(d: Device, layout: Layout, bytes: &[u8], number: SettingNumber) 
     }
 }
 
-// Whether the number is that of a literal of a known device, and the bytes have its length. Most settings are literals; the operations ask this first,
-// so that the way of a literal is compiled into each of them.
+// Whether the number is that of a literal of a known device, and the bytes have its length. Most settings are literals;
+// the operations ask this first, so that the way of a literal is compiled into each of them.
 pub fn is_literal(d: Device, layout: Layout, length: usize, number: SettingNumber) -> bool
     ensures { λ r. ⌜ r ≡ (known d && eqb length (bytesOf d layout) && ltb (number .0) (start d wireAnds)) ⌝ }
 {
@@ -82,7 +84,8 @@ pub fn set_literal(
     pattern: u32,
 ) -> DoneAnswer
     requires { ⌜ (known d ≡ true) × (length (now bytes) ≡ bytesOf d layout) × (number .0 < start d wireAnds) ⌝ }
-    ensures { λ r. ⌜ Written (setPattern d layout (now (bytes .entry)) (number .0) pattern) (doneOutcome r) (withNumbered d layout (now (bytes .entry)) (number .0) pattern) (now (bytes .entry)) (now (bytes .exit)) ⌝ }
+    ensures { λ r. ⌜ Written (setPattern d layout (now (bytes .entry)) (number .0) pattern) (doneOutcome r)
+        (withNumbered d layout (now (bytes .entry)) (number .0) pattern) (now (bytes .entry)) (now (bytes .exit)) ⌝ }
 {
     if 1 < pattern {
         return DoneAnswer::Refused(Refusal::NoSuchValue);
@@ -133,7 +136,8 @@ pub fn set_numbered(
     number: SettingNumber,
     pattern: u32,
 ) -> DoneAnswer
-    ensures { λ r. ⌜ Written (setPattern d layout (now (bytes .entry)) (number .0) pattern) (doneOutcome r) (withNumbered d layout (now (bytes .entry)) (number .0) pattern) (now (bytes .entry)) (now (bytes .exit)) ⌝ }
+    ensures { λ r. ⌜ Written (setPattern d layout (now (bytes .entry)) (number .0) pattern) (doneOutcome r)
+        (withNumbered d layout (now (bytes .entry)) (number .0) pattern) (now (bytes .entry)) (now (bytes .exit)) ⌝ }
 {
     if !part::is_known(d) {
         return DoneAnswer::Refused(Refusal::UnknownDevice);

@@ -30,7 +30,8 @@ pub fn set_pattern_in_image(
     number: SettingNumber,
     pattern: u32,
 ) -> DoneAnswer
-    ensures { λ r. ⌜ Written (setPattern d Image (now (image .entry)) (number .0) pattern) (doneOutcome r) (withNumbered d Image (now (image .entry)) (number .0) pattern) (now (image .entry)) (now (image .exit)) ⌝ }
+    ensures { λ r. ⌜ Written (setPattern d Image (now (image .entry)) (number .0) pattern) (doneOutcome r)
+        (withNumbered d Image (now (image .entry)) (number .0) pattern) (now (image .entry)) (now (image .exit)) ⌝ }
 {
     if internal::is_literal(d, Layout::Image, image.len(), number) {
         return internal::set_literal(d, Layout::Image, image, number, pattern);
@@ -55,7 +56,9 @@ pub fn set_pattern_in_readout(
     number: SettingNumber,
     pattern: u32,
 ) -> DoneAnswer
-    ensures { λ r. ⌜ Written (setPattern d Readout (now (readout .entry)) (number .0) pattern) (doneOutcome r) (withNumbered d Readout (now (readout .entry)) (number .0) pattern) (now (readout .entry)) (now (readout .exit)) ⌝ }
+    ensures { λ r. ⌜ Written (setPattern d Readout (now (readout .entry)) (number .0) pattern) (doneOutcome r)
+        (withNumbered d Readout (now (readout .entry)) (number .0) pattern) (now (readout .entry))
+        (now (readout .exit)) ⌝ }
 {
     if internal::is_literal(d, Layout::Readout, readout.len(), number) {
         return internal::set_literal(d, Layout::Readout, readout, number, pattern);

@@ -1,5 +1,5 @@
-// Runs demand 3's calls, `demand::both_ways`, on each device: many settings and values, with another setting read before and after.
-// Prints a digest of the answers and of each slice.
+// Runs demand 3's calls, `demand::both_ways`, on each device: many settings and values, with another setting read
+// before and after. Prints a digest of the answers and of each slice.
 use demand::BothAnswer;
 use demand::BothDone;
 use demand::BothRead;

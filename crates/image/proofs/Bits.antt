@@ -24,7 +24,8 @@ pub bit-low : (n w b : ℕ) → b < w → bitOf (n % 2 ^ w) b ≡ bitOf n b
 bit-low n w b h =
     let e : w ≡ w - suc b + suc b = omega arith in
     let f : suc b ≡ 1 + b = omega arith in
-    let inner : n % 2 ^ w % 2 ^ (1 + b) ≡ n % 2 ^ (1 + b) = ap (λ (k : ℕ). n % 2 ^ k % 2 ^ (1 + b)) e ∙ ap (λ (k : ℕ). n % 2 ^ (w - suc b + suc b) % 2 ^ k) (sym f) ∙ mod-mod-pow n (w - suc b) (suc b) ∙ ap (λ (k : ℕ). n % 2 ^ k) f in
+    let inner : n % 2 ^ w % 2 ^ (1 + b) ≡ n % 2 ^ (1 + b) = ap (λ (k : ℕ). n % 2 ^ k % 2 ^ (1 + b)) e
+    ∙ ap (λ (k : ℕ). n % 2 ^ (w - suc b + suc b) % 2 ^ k) (sym f) ∙ mod-mod-pow n (w - suc b) (suc b) ∙ ap (λ (k : ℕ). n % 2 ^ k) f in
     sym (field (n % 2 ^ w) 1 b) ∙ ap (λ (x : ℕ). x / 2 ^ b) inner ∙ field n 1 b
 
 -- a bit at or above the width is a bit of the high part
@@ -51,7 +52,8 @@ module _ (x b s : ℕ) (bit : s < 2) where
       let e : j ≡ b + (1 + (j - b - 1)) = omega arith in
       let halves : (x / 2 ^ b / 2 * 2 + s) / 2 ≡ x / 2 ^ b / 2 = omega arith in
       rw e
-      (bit-high (putBit x b s) b (1 + (j - b - 1)) ∙ rw (put-split .0) (bit-high (x / 2 ^ b / 2 * 2 + s) 1 (j - b - 1) ∙ rw halves (sym (bit-high (x / 2 ^ b) 1 (j - b - 1)) ∙ sym (bit-high x b (1 + (j - b - 1)))))))
+      (bit-high (putBit x b s) b (1 + (j - b - 1)) ∙ rw (put-split .0) (bit-high (x / 2 ^ b / 2 * 2 + s) 1 (j - b - 1)
+      ∙ rw halves (sym (bit-high (x / 2 ^ b) 1 (j - b - 1)) ∙ sym (bit-high x b (1 + (j - b - 1)))))))
 
   pub put-small : (k : ℕ) → x < 2 ^ k → b < k → putBit x b s < 2 ^ k
   unfolding putBit
@@ -77,7 +79,8 @@ module _ (bytes : List ℕ) (index b s : ℕ) (there : index < length bytes) (bi
     where
       same-or : Dec (i ≡ index) → bitOf (getD (set bytes index (putBit (getD bytes index 0) b s)) i 0) j ≡ bitOf (getD bytes i 0) j
       same-or (yes e) =
-          rw (e, getD-set-same bytes index (putBit (getD bytes index 0) b s) 0 there) (put-other (getD bytes index 0) b s bit j (λ f. ne (e, f)))
+          rw (e, getD-set-same bytes index (putBit (getD bytes index 0) b s) 0 there)
+          (put-other (getD bytes index 0) b s bit j (λ f. ne (e, f)))
       same-or (no n) = rw (getD-set-other bytes index i (putBit (getD bytes index 0) b s) 0 n)
 
   pub with-length : length (withBit bytes index b s) ≡ length bytes

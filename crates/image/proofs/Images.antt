@@ -36,10 +36,12 @@ module _ (d : Device) (f g : ℕ → ℕ) (same : (fuse : ℕ) → fuse < fuseCo
       (λ index h.
       let below : index < n = rw (tabulate-length n (λ i. gathered (λ bit. f (i * 8 + bit)) 8)) at h in
       tabulate-at n _ index below
-      ∙ gathered-same (λ bit. f (index * 8 + bit)) (λ bit. g (index * 8 + bit)) 8 (λ bit hb. same (index * 8 + bit) (omega (arith, image-whole d k)))
+      ∙ gathered-same (λ bit. f (index * 8 + bit)) (λ bit. g (index * 8 + bit)) 8
+      (λ bit hb. same (index * 8 + bit) (omega (arith, image-whole d k)))
       ∙ sym (tabulate-at n _ index below))
 
-pub image-own : (d : Device) (image : List ℕ) → length image ≡ imageBytes d → ((i : ℕ) → getD image i 0 < 2 ^ 8) → imageFrom d (state image) ≡ image
+pub image-own : (d : Device) (image : List ℕ) → length image ≡ imageBytes d → ((i : ℕ) → getD image i 0 < 2 ^ 8)
+    → imageFrom d (state image) ≡ image
 unfolding imageFrom state bitAt
 image-own d image e small =
     let n = imageBytes d in

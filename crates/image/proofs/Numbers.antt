@@ -39,4 +39,5 @@ number-bit image fuse h =
     let n = length image in
     let e : fuse / 8 * 8 + fuse % 8 ≡ fuse = omega arith in
     subst (λ (f : ℕ). bitOf (join (replicate n 8) image) f ≡ bitOf (getD image (fuse / 8) 0) (fuse % 8)) e
-    (joined-bit (replicate n 8) image (fuse / 8) 8 (fuse / 8 * 8) (fuse % 8) (rw (length-replicate {A = ℕ} n 8) (omega arith)) (at-replicate n 8 (fuse / 8) (omega arith)) (omega arith))
+    (joined-bit (replicate n 8) image (fuse / 8) 8 (fuse / 8 * 8) (fuse % 8) (rw (length-replicate {A = ℕ} n 8) (omega arith))
+    (at-replicate n 8 (fuse / 8) (omega arith)) (omega arith))

@@ -51,7 +51,8 @@ module _ (x b states : ℕ) (two : states < 4) where
   pub pair-small : x < 2 ^ 8 → b < 7 → putPair x b states < 2 ^ 8
   pair-small h l =
       rw (← put-pair)
-      (put-small (putBit x b (states % 2)) (b + 1) (states / 2) (omega arith) 8 (put-small x b (states % 2) (omega arith) 8 h (omega arith)) (omega arith))
+      (put-small (putBit x b (states % 2)) (b + 1) (states / 2) (omega arith) 8
+      (put-small x b (states % 2) (omega arith) 8 h (omega arith)) (omega arith))
 
 -- a list with two neighbouring bits of one byte put in place
 pub with-pair : (bytes : List ℕ) (index b states : ℕ) → index < length bytes → states < 4

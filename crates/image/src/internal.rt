@@ -38,7 +38,8 @@ pub fn pair_of(bytes: &[u8], index: usize, bit: u32) -> u32
 // Two neighbouring bits of a byte put in place.
 pub fn set_pair(bytes: &mut [u8], index: usize, bit: u32, states: u32)
     requires { ⌜ (index < length (now bytes)) × (bit < 7) × (states < 4) ⌝ }
-    ensures { λ _. ⌜ now (bytes .exit) ≡ withBit (withBit (now (bytes .entry)) index bit (states % 2)) index (bit + 1) (states / 2) ⌝ }
+    ensures { λ _. ⌜ now (bytes .exit)
+        ≡ withBit (withBit (now (bytes .entry)) index bit (states % 2)) index (bit + 1) (states / 2) ⌝ }
 {
     let x = bytes[index];
     let old = (x >> bit) % 4;
@@ -54,7 +55,8 @@ fn two_bytes(bytes: &[u8], i: usize) -> u16
     bytes[i] as u16 + bytes[i + 1] as u16 * 256
 }
 
-// .. in which the second counts 256 times: 256 of the seconds come off, and one comes back. 65281 is 1 - 256 modulo 2^16.
+// .. in which the second counts 256 times: 256 of the seconds come off, and one comes
+// back. 65281 is 1 - 256 modulo 2^16.
 fn counted_once(pairs: u16, seconds: u16) -> u16
     ensures { λ r. ⌜ r ≡ (pairs + seconds * 65281) % 2 ^ 16 ⌝ }
 {
@@ -62,7 +64,8 @@ fn counted_once(pairs: u16, seconds: u16) -> u16
     std::num::wrapping_add_u16(firsts, seconds)
 }
 
-// The sum of the bytes, of which the low 16 bits are kept. Two bytes are added as one number: so eight of these are added at a time.
+// The sum of the bytes, of which the low 16 bits are kept. Two bytes are added as one number: so
+// eight of these are added at a time.
 pub fn sum_of(bytes: &[u8]) -> u16
     ensures { λ r. ⌜ r ≡ sum16 (now (bytes .entry)) ⌝ }
 {

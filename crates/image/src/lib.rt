@@ -1,5 +1,5 @@
-// The fuse image: the fuse sum and the zero count over it. The state of a fuse and the change of one stand in `internal`.
-// The definitions stand in specs/Image.antt.
+// The fuse image: the fuse sum and the zero count over it. The state of a fuse and the change of one stand in
+// `internal`. The definitions stand in specs/Image.antt.
 ghost use mathlib.Core.Path.{_≡_};
 ghost use Rattle.part.specs.Answer.{numberOutcome};
 ghost use Rattle.image.specs.Image.{fuseSum, zeroCount};

@@ -30,7 +30,8 @@ only-first : imageWith 18144 (stateGiven 0 (record { at = 10; first = 0; states 
 unfolding imageWith tabulate gathered stateGiven
 only-first = refl
 
-first-of-three : imageWith 18144 (stateGiven 0 (record { at = 10; first = 0; states = 1 ∷ [] } ∷ record { at = 15; first = 1; states = 0 ∷ [] } ∷ record { at = 20; first = 5; states = 0 ∷ [] } ∷ [])) ≡ onlyFirst
+first-of-three : imageWith 18144 (stateGiven 0 (record { at = 10; first = 0; states = 1 ∷ [] }
+    ∷ record { at = 15; first = 1; states = 0 ∷ [] } ∷ record { at = 20; first = 5; states = 0 ∷ [] } ∷ [])) ≡ onlyFirst
 unfolding imageWith tabulate gathered stateGiven
 first-of-three = refl
 
@@ -43,11 +44,13 @@ unfolding imageWith tabulate gathered stateGiven
 only-last = refl
 
 pub accepted-texts : AllHold acceptedTexts
-unfolding meaning concluded pieces blanksBefore fieldsFrom holdsMark tailFrom unbroken statesIn listIn judge allFields misplaced digitsRead numberIn sumIn byteSum sum16
+unfolding meaning concluded pieces blanksBefore fieldsFrom holdsMark tailFrom unbroken statesIn listIn judge allFields misplaced digitsRead
+    numberIn sumIn byteSum sum16
 accepted-texts = rw (all-ones, only-first, first-of-three, all-zeros, all-but-first, only-last)
 
 pub refused-texts : AllHold refusedTexts
-unfolding meaning concluded pieces blanksBefore fieldsFrom holdsMark tailFrom unbroken statesIn listIn judge allFields misplaced digitsRead numberIn sumIn byteSum sum16
+unfolding meaning concluded pieces blanksBefore fieldsFrom holdsMark tailFrom unbroken statesIn listIn judge allFields misplaced digitsRead
+    numberIn sumIn byteSum sum16
 refused-texts = rw all-ones
 
 pub written-text : WrittenText

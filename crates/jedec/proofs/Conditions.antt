@@ -1,4 +1,5 @@
--- A text is of document 01's form or refused 7, and accepted exactly if its counts and sums are right too (`GoodForm`, `Accepted` in specs/Form.antt).
+-- A text is of document 01's form or refused 7, and accepted exactly if its counts and sums are right too (`GoodForm`,
+-- `Accepted` in specs/Form.antt).
 -- Assumes nothing.
 use mathlib.Core.Path.{_≡_, refl, sym, _∙_, ap}
 use mathlib.Core.Logic.{_↔_, _⊎_, inl, inr}
@@ -20,7 +21,8 @@ use Rattle.jedec.specs.Cut.{pieces, startsWith, fieldsFrom, holdsMark, T
 use Rattle.jedec.specs.Cut.Tail.{given, wrong}
 use Rattle.jedec.specs.Rules.{At, Known, nothingKnown, Fields, allFields, wrongCount, misplaced, finished}
 use Rattle.jedec.specs.Rules.Fields.{known, badAt}
-use Rattle.jedec.specs.Meaning.{longest, unless, wrongSum, wrongTransmission, concluded, withTail, withEnd, withFields, ofPieces, meaning}
+use Rattle.jedec.specs.Meaning.{longest, unless, wrongSum, wrongTransmission, concluded, withTail, withEnd, withFields, ofPieces}
+use Rattle.jedec.specs.Meaning.{meaning}
 use Rattle.jedec.specs.Form.{Counted, Concluded, GoodForm, Accepted}
 
 -- an answer is no refusal of this number; an accepted text is none
@@ -41,7 +43,8 @@ was : (t : Bool) (n v : ℕ) (other answer : Outcome (List ℕ)) → Not n answe
 was true n v other answer never e = (refl, e)
 was false n v other answer never e = absurd (never v e)
 
-pub no-place : (n : ℕ) (o : Option ℕ) (other answer : Outcome (List ℕ)) → Not n answer → unless n o other ≡ answer → (o ≡ none) × (other ≡ answer)
+pub no-place : (n : ℕ) (o : Option ℕ) (other answer : Outcome (List ℕ)) → Not n answer → unless n o other ≡ answer
+    → (o ≡ none) × (other ≡ answer)
 no-place n none other answer never e = (refl, e)
 no-place n (some at) other answer never e = absurd (never at e)
 
@@ -109,7 +112,8 @@ module _ (fuses : ℕ) (text image : List ℕ) (etx sum : ℕ) (k : Known) where
   concluding : Concluded fuses text image etx sum k → concluded fuses text etx sum k ≡ accepted image
   unfolding concluded
   concluding c =
-      let sums : wrongSum (finished fuses k) (k .sum) ≡ none = sum-none (finished fuses k) (k .sum) (λ x f. c .right-sum x f ∙ ap sum16 (c .its-image)) in
+      let sums : wrongSum (finished fuses k) (k .sum) ≡ none =
+      sum-none (finished fuses k) (k .sum) (λ x f. c .right-sum x f ∙ ap sum16 (c .its-image)) in
       rw (count-none fuses etx k (c .counted), c .in-place, sums, transmission-none text etx sum (c .right-transmission))
       (ap accepted (sym (c .its-image)))
 
@@ -181,7 +185,8 @@ module _ (fuses : ℕ) (text : List ℕ) (answer : Outcome (List ℕ)) (not-7 : 
       let there = was (startsWith stx text) 7 0 _ answer not-7 (short .1) in
       of-pieces (ltb-false longest (length text) (short .0)) (there .0) (pieces text .ended) refl (there .1)
 
-pub form-means : (fuses : ℕ) (text : List ℕ) (k : Known) (end sum : ℕ) → GoodForm text k end sum → meaning fuses text ≡ concluded fuses text end sum k
+pub form-means : (fuses : ℕ) (text : List ℕ) (k : Known) (end sum : ℕ) → GoodForm text k end sum
+    → meaning fuses text ≡ concluded fuses text end sum k
 unfolding meaning
 form-means fuses text k end sum f =
     rw (le-ltb longest (length text) (f .not-long), f .begins, f .its-pieces, f .good-design, f .good-fields, f .has-end, f .good-tail)

@@ -37,7 +37,8 @@ star-pieces (b ∷ bytes) rest h =
     piece-byte b (both .0) (bytes ++ star ∷ rest) ∙ rw (star-pieces bytes rest (both .1))
 
 -- blanks before a field
-pub blanks-before : (blanks bytes : List ℕ) → all isBlank blanks ≡ true → blanksBefore bytes ≡ 0 → blanksBefore (blanks ++ bytes) ≡ length blanks
+pub blanks-before : (blanks bytes : List ℕ) → all isBlank blanks ≡ true → blanksBefore bytes ≡ 0
+    → blanksBefore (blanks ++ bytes) ≡ length blanks
 unfolding all blanksBefore
 blanks-before [] bytes h none = none
 blanks-before (b ∷ blanks) bytes h none =
@@ -81,7 +82,8 @@ blank-no-star (b ∷ bytes) h =
     one b h = rw (ne-eqb b star (λ e. true≢false (sym (rw e at h))))
 
 -- a piece with a field is no end, and the one with ETX after blanks is
-pub no-end : (at : ℕ) (p : Part) → all isBlank (p .blanks) ≡ true → starts (p .bytes) ≡ true → (other : Cut) → orEnd at (p .blanks ++ p .bytes) other ≡ other
+pub no-end : (at : ℕ) (p : Part) → all isBlank (p .blanks) ≡ true → starts (p .bytes) ≡ true → (other : Cut)
+    → orEnd at (p .blanks ++ p .bytes) other ≡ other
 no-end at p blank begins other =
     let s = starting (p .bytes) begins in
     rw (blanks-before (p .blanks) (p .bytes) blank (s .no-blank), drop-append-seam (p .blanks) (p .bytes), s .no-etx)
@@ -126,7 +128,8 @@ module _ (gap tail : List ℕ) (blank : all isBlank gap ≡ true) (no-star : all
   parts-last at [] right = rw last-pieces (last-cut at)
   parts-last at (p ∷ parts) right =
       let piece = p .blanks ++ p .bytes in
-      let regrouped : partsText (p ∷ parts) ++ last ≡ piece ++ (star ∷ (partsText parts ++ last)) = append-assoc piece (star ∷ partsText parts) last in
+      let regrouped : partsText (p ∷ parts) ++ last ≡ piece ++ (star ∷ (partsText parts ++ last)) =
+      append-assoc piece (star ∷ partsText parts) last in
       let no-star-in : all notStar piece ≡ true =
       all-append notStar (p .blanks) (p .bytes) (blank-no-star (p .blanks) (right .0 .blank)) (right .0 .no-star) in
       rw (regrouped, star-pieces piece (partsText parts ++ last) no-star-in)

@@ -19,7 +19,8 @@ use Rattle.jedec.specs.Cut.Tail.{given}
 use Rattle.jedec.specs.Rules.{Known, nothingKnown, allFields}
 use Rattle.jedec.specs.Rules.Fields.{known}
 use Rattle.jedec.specs.Meaning.{longest, meaning}
-use Rattle.jedec.specs.Form.{all, notStar, Part, partsText, fieldsOf, headOf, assembled, RightForm, firstAt, etxAt, Concluded, GoodForm}
+use Rattle.jedec.specs.Form.{all, notStar, Part, partsText, fieldsOf, headOf, assembled, RightForm, firstAt, etxAt, Concluded}
+use Rattle.jedec.specs.Form.{GoodForm}
 use Rattle.jedec.proofs.Conditions.{accepted-iff}
 use Rattle.jedec.proofs.Cutting.{star-pieces, all-append, blank-no-star, parts-cut, end-of}
 
@@ -83,7 +84,8 @@ head-length design parts gap =
       length-append (partsText parts) gap,
     )
 
-module _ (design : List ℕ) (parts : List Part) (gap digits blanks : List ℕ) (sum : ℕ) (right : RightForm design parts gap digits blanks sum) where
+module _ (design : List ℕ) (parts : List Part) (gap digits blanks : List ℕ) (sum : ℕ)
+    (right : RightForm design parts gap digits blanks sum) where
   text : List ℕ
   text = assembled design parts gap digits blanks
 

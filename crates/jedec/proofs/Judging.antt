@@ -17,7 +17,8 @@ use Rattle.part.proofs.Tables.{each-below}
 use Rattle.cells.specs.Cells.{total}
 use Rattle.image.specs.Image.{state}
 use Rattle.image.proofs.Counts.{state-bit}
-use Rattle.jedec.specs.Characters.{letterC, letterF, letterL, letterQ, isBlank, isMark, decimalDigit, hexDigit, decimalValue, digitsOf, countDigits, sevenDigits, fourHex}
+use Rattle.jedec.specs.Characters.{letterC, letterF, letterL, letterQ, isBlank, isMark, decimalDigit, hexDigit, decimalValue}
+use Rattle.jedec.specs.Characters.{digitsOf, countDigits, sevenDigits, fourHex}
 use Rattle.jedec.specs.Cut.{holdsMark}
 use Rattle.jedec.specs.Judge.{Judged, byLetters, unbroken, statesIn, listFrom, listIn, judge}
 use Rattle.jedec.specs.Judge.Judged.{count, start, list, sum}
@@ -64,13 +65,19 @@ all-digits test base positive digit right (suc places) x =
     (rw (right (x % base) (mod-lt x positive)))
 
 decimal-plain : (y : ℕ) → y < 10 → plain (decimalDigit y) ≡ true
-decimal-plain = each-below (λ (y : ℕ). plain (decimalDigit y) ≡ true) 10 (refl, (refl, (refl, (refl, (refl, (refl, (refl, (refl, (refl, (refl, tt))))))))))
+decimal-plain =
+    each-below (λ (y : ℕ). plain (decimalDigit y) ≡ true) 10
+    (refl, (refl, (refl, (refl, (refl, (refl, (refl, (refl, (refl, (refl, tt))))))))))
 
 decimal-no-blank : (y : ℕ) → y < 10 → not (isBlank (decimalDigit y)) ≡ true
-decimal-no-blank = each-below (λ (y : ℕ). not (isBlank (decimalDigit y)) ≡ true) 10 (refl, (refl, (refl, (refl, (refl, (refl, (refl, (refl, (refl, (refl, tt))))))))))
+decimal-no-blank =
+    each-below (λ (y : ℕ). not (isBlank (decimalDigit y)) ≡ true) 10
+    (refl, (refl, (refl, (refl, (refl, (refl, (refl, (refl, (refl, (refl, tt))))))))))
 
 hex-plain : (y : ℕ) → y < 16 → plain (hexDigit y) ≡ true
-hex-plain = each-below (λ (y : ℕ). plain (hexDigit y) ≡ true) 16 (refl, (refl, (refl, (refl, (refl, (refl, (refl, (refl, (refl, (refl, (refl, (refl, (refl, (refl, (refl, (refl, tt))))))))))))))))
+hex-plain =
+    each-below (λ (y : ℕ). plain (hexDigit y) ≡ true) 16
+    (refl, (refl, (refl, (refl, (refl, (refl, (refl, (refl, (refl, (refl, (refl, (refl, (refl, (refl, (refl, (refl, tt))))))))))))))))
 
 pub decimal-digits-plain : (places x : ℕ) → all plain (digitsOf 10 decimalDigit places x) ≡ true
 decimal-digits-plain = all-digits plain 10 (omega arith) decimalDigit decimal-plain
@@ -85,15 +92,20 @@ statesOf image fuse (suc width) = state image fuse ∷ statesOf image (fuse + 1)
 
 pub states-append : (image : List ℕ) (fuse v w : ℕ) → statesOf image fuse (v + w) ≡ statesOf image fuse v ++ statesOf image (fuse + v) w
 unfolding statesOf
-states-append image fuse zero w = let here : fuse + 0 ≡ fuse = omega arith in let none-more : 0 + w ≡ w = omega arith in rw (here, none-more)
+states-append image fuse zero w =
+    let here : fuse + 0 ≡ fuse = omega arith in
+    let none-more : 0 + w ≡ w = omega arith in rw (here, none-more)
 states-append image fuse (suc v) w =
     let more : suc v + w ≡ suc (v + w) = omega arith in
     let there : fuse + suc v ≡ fuse + 1 + v = omega arith in
     rw (more, there) (ap (λ (l : List ℕ). state image fuse ∷ l) (states-append image (fuse + 1) v w))
 
 -- a state's digit
-state-digit : (s : ℕ) → s < 2 → (plain (decimalDigit s) ≡ true) × (isBlank (decimalDigit s) ≡ false) × ((eqb (decimalDigit s) 48 || eqb (decimalDigit s) 49) ≡ true)
-state-digit = each-below (λ (s : ℕ). (plain (decimalDigit s) ≡ true) × (isBlank (decimalDigit s) ≡ false) × ((eqb (decimalDigit s) 48 || eqb (decimalDigit s) 49) ≡ true)) 2 ((refl, refl, refl), ((refl, refl, refl), tt))
+state-digit : (s : ℕ) → s < 2
+    → (plain (decimalDigit s) ≡ true) × (isBlank (decimalDigit s) ≡ false) × ((eqb (decimalDigit s) 48 || eqb (decimalDigit s) 49) ≡ true)
+state-digit =
+    each-below (λ (s : ℕ). (plain (decimalDigit s) ≡ true) × (isBlank (decimalDigit s) ≡ false)
+    × ((eqb (decimalDigit s) 48 || eqb (decimalDigit s) 49) ≡ true)) 2 ((refl, refl, refl), ((refl, refl, refl), tt))
 
 states-plain : (image : List ℕ) (fuse width : ℕ) → all plain (statesText image fuse width) ≡ true
 unfolding all statesText
@@ -104,7 +116,8 @@ pub columns-plain : (image : List ℕ) (fuse : ℕ) (widths : List ℕ) → all 
 unfolding all columnsText
 columns-plain image fuse [] = refl
 columns-plain image fuse (w ∷ widths) =
-    all-append plain (statesText image fuse w) (columnsText image (fuse + w) widths) (states-plain image fuse w) (columns-plain image (fuse + w) widths)
+    all-append plain (statesText image fuse w) (columnsText image (fuse + w) widths) (states-plain image fuse w)
+    (columns-plain image (fuse + w) widths)
 
 -- the states are read back
 states-read : (image : List ℕ) (fuse width : ℕ) (rest : List ℕ) (states : List ℕ) → statesIn rest ≡ some states
@@ -116,11 +129,13 @@ states-read image fuse (suc width) rest states e =
     let own : decimalDigit (state image fuse) - 48 ≡ state image fuse = omega arith in
     rw (d .1, d .2, states-read image (fuse + 1) width rest states e, own)
 
-columns-read : (image : List ℕ) (fuse : ℕ) (widths : List ℕ) → statesIn (columnsText image fuse widths) ≡ some (statesOf image fuse (total widths))
+columns-read : (image : List ℕ) (fuse : ℕ) (widths : List ℕ)
+    → statesIn (columnsText image fuse widths) ≡ some (statesOf image fuse (total widths))
 unfolding statesIn columnsText statesOf total
 columns-read image fuse [] = refl
 columns-read image fuse (w ∷ widths) =
-    states-read image fuse w (columnsText image (fuse + w) widths) (statesOf image (fuse + w) (total widths)) (columns-read image (fuse + w) widths)
+    states-read image fuse w (columnsText image (fuse + w) widths) (statesOf image (fuse + w) (total widths))
+    (columns-read image (fuse + w) widths)
     ∙ ap some (sym (states-append image fuse w (total widths)))
 
 -- the digits end at the first blank
@@ -144,7 +159,8 @@ plain-judged bytes j h e = rw (plain-no-mark bytes h) e
 pub count-judged : (fuses : ℕ) → fuses < 10 ^ 7 → judge (letterQ ∷ letterF ∷ countDigits fuses) ≡ count fuses
 unfolding all
 count-judged fuses h =
-    plain-judged (letterQ ∷ letterF ∷ countDigits fuses) (count fuses) (decimal-digits-plain (decimalDigits fuses) fuses) (rw (count-back fuses h))
+    plain-judged (letterQ ∷ letterF ∷ countDigits fuses) (count fuses) (decimal-digits-plain (decimalDigits fuses) fuses)
+    (rw (count-back fuses h))
 
 pub start-judged : judge (letterF ∷ decimalDigit 0 ∷ []) ≡ start 0
 unfolding all
@@ -163,7 +179,8 @@ unfolding all
 line-plain image fuse widths =
     all-append plain (sevenDigits fuse) (columnsText image fuse widths) (decimal-digits-plain 7 fuse) (columns-plain image fuse widths)
 
-some-listed : (image : List ℕ) (fuse width : ℕ) → 0 < width → listFrom fuse (statesOf image fuse width) ≡ list fuse (statesOf image fuse width)
+some-listed : (image : List ℕ) (fuse width : ℕ) → 0 < width
+    → listFrom fuse (statesOf image fuse width) ≡ list fuse (statesOf image fuse width)
 unfolding statesOf
 some-listed image fuse zero h = absurd (omega arith)
 some-listed image fuse (suc width) h = refl
@@ -176,7 +193,8 @@ line-judged image fuse widths h positive =
     let columns = columnsText image fuse widths in
     let seven : length digits ≡ 7 = digits-length 10 (omega arith) decimalValue decimalDigit 7 fuse in
     let run : unbroken (digits ++ columns) ≡ 7 =
-    run-ends digits columns (all-digits (λ b. not (isBlank b)) 10 (omega arith) decimalDigit decimal-no-blank 7 fuse) (columns-blank image fuse widths) ∙ seven in
+    run-ends digits columns (all-digits (λ b. not (isBlank b)) 10 (omega arith) decimalDigit decimal-no-blank 7 fuse)
+    (columns-blank image fuse widths) ∙ seven in
     plain-judged (lineBytes image fuse widths) _ (line-plain image fuse widths)
     (rw (run, take-at digits columns 7 seven, drop-at digits columns 7 seven, seven-back fuse h, columns-read image fuse widths)
     (some-listed image fuse (total widths) positive))

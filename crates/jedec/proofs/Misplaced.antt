@@ -21,7 +21,8 @@ module _ (fuses : ℕ) where
   unfolding misplaced
   named end l lists (inl early) = rw (lt-ltb (l .first) end early)
   named end l lists (inr past) =
-      compared (l .first) end (λ early. rw (lt-ltb (l .first) end early)) (λ late. rw (le-ltb (l .first) end late, lt-ltb fuses (endOf l) past))
+      compared (l .first) end (λ early. rw (lt-ltb (l .first) end early))
+      (λ late. rw (le-ltb (l .first) end late, lt-ltb fuses (endOf l) past))
 
   -- the first of several is out of place, or it is in place and the first out of place is one of the others
   here : (end : ℕ) (l : Listed) (lists : List Listed) (at : ℕ) → misplaced fuses end (l ∷ lists) ≡ some at → OutOfPlace fuses end l
@@ -54,10 +55,11 @@ module _ (fuses : ℕ) where
       (λ late.
       compared fuses (endOf l)
       (λ past. here end l lists at e (inr past))
-      (λ fits. later end l lists at late fits (first-of (endOf l) lists at (rw (le-ltb (l .first) end late, le-ltb fuses (endOf l) fits) at e))))
+      (λ fits. later end l lists at late fits
+      (first-of (endOf l) lists at (rw (le-ltb (l .first) end late, le-ltb fuses (endOf l) fits) at e))))
 
-  of-first : (end : ℕ) (before : List Listed) (it : Listed) (behind : List Listed) → InPlace fuses end before → OutOfPlace fuses (lastEnd end before) it
-      → misplaced fuses end (before ++ (it ∷ behind)) ≡ some (it .at)
+  of-first : (end : ℕ) (before : List Listed) (it : Listed) (behind : List Listed) → InPlace fuses end before
+      → OutOfPlace fuses (lastEnd end before) it → misplaced fuses end (before ++ (it ∷ behind)) ≡ some (it .at)
   unfolding misplaced lastEnd
   of-first end [] it behind p out = named end it behind out
   of-first end (l ∷ before) it behind p out =
@@ -73,8 +75,8 @@ module _ (fuses : ℕ) where
 other-number : (n at : ℕ) → (n ≡ 9 → ⊥) → Not n (refused 9 at)
 other-number n at other v e = let same : n ≡ 9 = cc in other same
 
-rule-9 : (nine ten eleven : Option ℕ) (image : List ℕ) (at : ℕ) → unless 9 nine (unless 10 ten (unless 11 eleven (accepted image))) ≡ refused 9 at
-    → nine ≡ some at
+rule-9 : (nine ten eleven : Option ℕ) (image : List ℕ) (at : ℕ)
+    → unless 9 nine (unless 10 ten (unless 11 eleven (accepted image))) ≡ refused 9 at → nine ≡ some at
 rule-9 (some v) ten eleven image at e = let same : v ≡ at = cc in rw same
 rule-9 none ten eleven image at e =
     let past-10 = no-place 10 ten _ (refused 9 at) (other-number 10 at (λ s. omega arith)) e in
@@ -82,12 +84,14 @@ rule-9 none ten eleven image at e =
     absurd (not-refused 9 image at (sym (past-11 .1)))
 
 module _ (fuses : ℕ) (text : List ℕ) (at : ℕ) where
-  by-rule-9 : (etx sum : ℕ) (k : Known) → concluded fuses text etx sum k ≡ refused 9 at → Counted fuses k × (misplaced fuses 0 (k .lists) ≡ some at)
+  by-rule-9 : (etx sum : ℕ) (k : Known)
+      → concluded fuses text etx sum k ≡ refused 9 at → Counted fuses k × (misplaced fuses 0 (k .lists) ≡ some at)
   unfolding concluded
   by-rule-9 etx sum k e =
       let past-8 = no-place 8 (wrongCount fuses etx (k .count)) _ (refused 9 at) (other-number 8 at (λ s. omega arith)) e in (
         the-count fuses etx k (past-8 .0),
-        rule-9 (misplaced fuses 0 (k .lists)) (wrongSum (finished fuses k) (k .sum)) (wrongTransmission text etx sum) (finished fuses k) at (past-8 .1),
+        rule-9 (misplaced fuses 0 (k .lists)) (wrongSum (finished fuses k) (k .sum)) (wrongTransmission text etx sum)
+            (finished fuses k) at (past-8 .1),
       )
 
   pub refused-9-iff : (meaning fuses text ≡ refused 9 at) ↔ Refused9 fuses text at

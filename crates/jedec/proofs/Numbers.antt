@@ -12,7 +12,8 @@ use borrow.Author.Tests.{le-leb}
 use Rattle.part.specs.Device.{decimalDigits}
 use Rattle.part.proofs.Facts.{by-cases}
 use Rattle.part.proofs.Tables.{each-below}
-use Rattle.jedec.specs.Characters.{andThen, decimalValue, hexValue, decimalDigit, hexDigit, digitsRead, numberIn, sumIn, digitsOf, countDigits, sevenDigits, fourHex}
+use Rattle.jedec.specs.Characters.{andThen, decimalValue, hexValue, decimalDigit, hexDigit, digitsRead, numberIn, sumIn, digitsOf}
+use Rattle.jedec.specs.Characters.{countDigits, sevenDigits, fourHex}
 
 -- digits after digits
 read-append : (base : ℕ) (value : ℕ → Option ℕ) (x : ℕ) (xs ys : List ℕ)
@@ -21,7 +22,8 @@ unfolding digitsRead
 read-append base value x [] ys = refl
 read-append base value x (b ∷ xs) ys = go (value b) (λ y. read-append base value (x * base + y) xs ys)
   where
-    go : (o : Option ℕ) → ((y : ℕ) → digitsRead base value (x * base + y) (xs ++ ys) ≡ andThen (digitsRead base value (x * base + y) xs) (λ z. digitsRead base value z ys))
+    go : (o : Option ℕ) → ((y : ℕ) → digitsRead base value (x * base + y) (xs ++ ys)
+        ≡ andThen (digitsRead base value (x * base + y) xs) (λ z. digitsRead base value z ys))
         → andThen o (λ y. digitsRead base value (x * base + y) (xs ++ ys))
         ≡ andThen (andThen o (λ y. digitsRead base value (x * base + y) xs)) (λ z. digitsRead base value z ys)
     go none step = refl
@@ -39,16 +41,21 @@ module _ (base : ℕ) (positive : 0 < base) (value : ℕ → Option ℕ) (digit 
   unfolding digitsOf digitsRead
   digits-back back zero x h = ap some (omega (arith, pow-zero base))
   digits-back back (suc count) x h =
-      let higher : x / base < base ^ count = div-lt-iff-lt-mul {k = base} {x = x} {y = base ^ count} positive .1 (omega (arith, pow-suc base count)) in
+      let higher : x / base < base ^ count =
+      div-lt-iff-lt-mul {k = base} {x = x} {y = base ^ count} positive .1 (omega (arith, pow-suc base count)) in
       read-append base value 0 (digitsOf base digit count (x / base)) (digit (x % base) ∷ [])
       ∙ rw (digits-back back count (x / base) higher, back (x % base) (mod-lt x positive)) (ap some (div-add-mod' x base))
 
 -- digits of the two kinds
 decimal-digit : (y : ℕ) → y < 10 → decimalValue (decimalDigit y) ≡ some y
-decimal-digit = each-below (λ (y : ℕ). decimalValue (decimalDigit y) ≡ some y) 10 (refl, (refl, (refl, (refl, (refl, (refl, (refl, (refl, (refl, (refl, tt))))))))))
+decimal-digit =
+    each-below (λ (y : ℕ). decimalValue (decimalDigit y) ≡ some y) 10
+    (refl, (refl, (refl, (refl, (refl, (refl, (refl, (refl, (refl, (refl, tt))))))))))
 
 hex-digit : (y : ℕ) → y < 16 → hexValue (hexDigit y) ≡ some y
-hex-digit = each-below (λ (y : ℕ). hexValue (hexDigit y) ≡ some y) 16 (refl, (refl, (refl, (refl, (refl, (refl, (refl, (refl, (refl, (refl, (refl, (refl, (refl, (refl, (refl, (refl, tt))))))))))))))))
+hex-digit =
+    each-below (λ (y : ℕ). hexValue (hexDigit y) ≡ some y) 16
+    (refl, (refl, (refl, (refl, (refl, (refl, (refl, (refl, (refl, (refl, (refl, (refl, (refl, (refl, (refl, (refl, tt))))))))))))))))
 
 -- 1 to 7 digits
 pub number-back : (count x : ℕ) → 1 ≤ count → count ≤ 7 → x < 10 ^ count → numberIn (digitsOf 10 decimalDigit count x) ≡ some x

@@ -1,4 +1,5 @@
--- A text is of good form exactly if it is put together from its parts (`GoodForm`, `Assembled` in specs/Form.antt): the way back from the cut.
+-- A text is of good form exactly if it is put together from its parts (`GoodForm`, `Assembled` in
+-- specs/Form.antt): the way back from the cut.
 -- Assumes nothing.
 use mathlib.Core.Path.{_≡_, refl, sym, _∙_, ap}
 use mathlib.Core.Logic.{_↔_}
@@ -20,7 +21,8 @@ use Rattle.jedec.specs.Cut.Tail.{given, wrong}
 use Rattle.jedec.specs.Rules.{Known, nothingKnown, allFields}
 use Rattle.jedec.specs.Rules.Fields.{known}
 use Rattle.jedec.specs.Meaning.{longest, meaning}
-use Rattle.jedec.specs.Form.{all, notStar, Part, starts, RightPart, RightParts, partsText, next, fieldsOf, partsEnd, headOf, firstAt, Concluded, GoodForm, Assembled}
+use Rattle.jedec.specs.Form.{all, notStar, Part, starts, RightPart, RightParts, partsText, next, fieldsOf, partsEnd, headOf, firstAt}
+use Rattle.jedec.specs.Form.{Concluded, GoodForm, Assembled}
 use Rattle.jedec.proofs.Conditions.{accepted-iff}
 use Rattle.jedec.proofs.Cutting.{all-behind, no-end, at-end, one-field}
 use Rattle.jedec.proofs.Forms.{head-length, assembled-form}
@@ -83,7 +85,8 @@ record Parted (at : ℕ) (bytes : List ℕ) (cut : Cut) (end : ℕ) : Type 0 whe
   its-end : end ≡ partsEnd at parts + length gap
 
 -- the piece with ETX, whatever stands behind it
-last-part : (at : ℕ) (gap tail : List ℕ) → all isBlank gap ≡ true → (other : Cut) (end : ℕ) → orEnd at (gap ++ etx ∷ tail) other .end ≡ some end
+last-part : (at : ℕ) (gap tail : List ℕ) → all isBlank gap ≡ true → (other : Cut) (end : ℕ)
+    → orEnd at (gap ++ etx ∷ tail) other .end ≡ some end
     → (bytes behind : List ℕ) → bytes ≡ gap ++ etx ∷ behind → Parted at bytes (orEnd at (gap ++ etx ∷ tail) other) end
 unfolding partsText fieldsOf partsEnd
 last-part at gap tail blank other end e bytes behind is =
@@ -148,7 +151,8 @@ only-blanks [] at read sum e = (cc, refl)
 only-blanks (b ∷ bytes) at read sum e = go (isBlank b) refl e (only-blanks bytes (at + 1) read sum)
   where
     go : (t : Bool) → isBlank b ≡ t → cond t (tailFrom (at + 1) 0 read bytes) (wrong at) ≡ given sum
-        → (tailFrom (at + 1) 0 read bytes ≡ given sum → (read ≡ sum) × (all isBlank bytes ≡ true)) → (read ≡ sum) × (all isBlank (b ∷ bytes) ≡ true)
+        → (tailFrom (at + 1) 0 read bytes ≡ given sum → (read ≡ sum) × (all isBlank bytes ≡ true))
+        → (read ≡ sum) × (all isBlank (b ∷ bytes) ≡ true)
     go true w e others = let o = others e in (o .0, rw w (o .1))
     go false w e others = let z : _≡_ {A = ℕ} 0 1 = cc in absurd (omega arith)
 
@@ -184,7 +188,8 @@ digits-then (suc count) (b ∷ bytes) at read sum e = go (hexValue b) refl e (λ
         }
 
 -- a text whose bytes after the design text are parted so
-module _ (text design others : List ℕ) (cut : Cut) (end : ℕ) (is : text ≡ (stx ∷ design) ++ star ∷ others) (p : Parted (firstAt design) others cut end) where
+module _ (text design others : List ℕ) (cut : Cut) (end : ℕ) (is : text ≡ (stx ∷ design) ++ star ∷ others)
+    (p : Parted (firstAt design) others cut end) where
   by-parts : text ≡ headOf design (p .parts) (p .gap) ++ p .tail
   by-parts = is ∙ ap (λ (r : List ℕ). (stx ∷ design) ++ star ∷ r) (p .its-bytes) ∙ simp append-assoc
 
@@ -221,14 +226,16 @@ module _ (text design others : List ℕ) (cut : Cut) (end : ℕ) (is : text ≡ 
 -- the first piece is STX and the design text
 from-pieces : (text first : List ℕ) (ended : List (List ℕ)) (rest : List ℕ) (k : Known) (end sum : ℕ) → length text ≤ longest
     → startsWith stx text ≡ true → text ≡ first ++ star ∷ joined ended rest → NoStars (first ∷ ended) → holdsMark (drop 1 first) ≡ false
-    → allFields nothingKnown (fieldsFrom (length first + 1) ended rest .fields) ≡ known k → fieldsFrom (length first + 1) ended rest .end ≡ some end
+    → allFields nothingKnown (fieldsFrom (length first + 1) ended rest .fields) ≡ known k
+    → fieldsFrom (length first + 1) ended rest .end ≡ some end
     → tailFrom (end + 1) 4 0 (drop (end + 1) text) ≡ given sum → Assembled text k end sum
 unfolding all
 from-pieces text [] ended rest k end sum short begins is no-star no-mark good has-end tail =
     absurd (true≢false (sym (ap (startsWith stx) (sym is) ∙ begins)))
 from-pieces text (b ∷ design) ended rest k end sum short begins is no-star no-mark good has-end tail =
     let first : b ≡ stx = eqb-true b stx (ap (startsWith stx) (sym is) ∙ begins) in
-    let from-stx : text ≡ (stx ∷ design) ++ star ∷ joined ended rest = is ∙ ap (λ (c : ℕ). c ∷ (design ++ star ∷ joined ended rest)) first in
+    let from-stx : text ≡ (stx ∷ design) ++ star ∷ joined ended rest =
+    is ∙ ap (λ (c : ℕ). c ∷ (design ++ star ∷ joined ended rest)) first in
     let p = parted ended (length (b ∷ design) + 1) rest end (no-star .1) has-end in
     from-parts text design (joined ended rest) _ end from-stx p k sum short
     (and-iff (notStar b) (all notStar design) .0 (no-star .0) .1)
@@ -249,7 +256,8 @@ form-iff text k end sum = (
       (f .good-tail),
   λ a.
       rw (a .its-bytes, a .its-end)
-      (assembled-form (a .design) (a .parts) (a .gap) (a .digits) (a .blanks) sum (a .right-form) k (rw (a .its-bytes) at (a .not-long)) (a .good-fields)),
+      (assembled-form (a .design) (a .parts) (a .gap) (a .digits) (a .blanks) sum (a .right-form) k
+      (rw (a .its-bytes) at (a .not-long)) (a .good-fields)),
 )
 
 pub assembled-iff : (fuses : ℕ) (text image : List ℕ) → (meaning fuses text ≡ accepted image)

@@ -14,11 +14,13 @@ use Rattle.part.specs.Outcome.Outcome.{accepted, refused}
 use Rattle.part.proofs.Facts.{compared, by-cases}
 use Rattle.image.specs.Image.{sum16}
 use Rattle.jedec.specs.Characters.{stx, etx, star, isBlank, hexValue}
-use Rattle.jedec.specs.Cut.{onFirst, pieces, blanksBefore, Field, Cut, startsWith, orEnd, fieldsFrom, holdsMark, Tail, digitOr, tailFrom}
+use Rattle.jedec.specs.Cut.{onFirst, pieces, blanksBefore, Field, Cut, startsWith, orEnd, fieldsFrom, holdsMark, Tail, digitOr}
+use Rattle.jedec.specs.Cut.{tailFrom}
 use Rattle.jedec.specs.Cut.Tail.{given, wrong}
 use Rattle.jedec.specs.Judge.{Judged, judge}
 use Rattle.jedec.specs.Judge.Judged.{count, start, list, sum, skipped, bad}
-use Rattle.jedec.specs.Rules.{At, Listed, Known, nothingKnown, inOrder, after, Fields, allFields, wrongCount, endOf, misplaced, finished}
+use Rattle.jedec.specs.Rules.{At, Listed, Known, nothingKnown, inOrder, after, Fields, allFields, wrongCount, endOf, misplaced}
+use Rattle.jedec.specs.Rules.{finished}
 use Rattle.jedec.specs.Rules.Fields.{known, badAt}
 use Rattle.jedec.specs.Meaning.{longest, unless, wrongSum, concluded, withTail, withEnd, withFields, ofCut, ofPieces, meaning}
 
@@ -81,7 +83,8 @@ fields-small (f ∷ fields) k s h =
     (h .0)
 
 -- the places of 8 to 11
-unless-small : {number : ℕ} {o : Option ℕ} {answer : Outcome (List ℕ)} → 7 ≤ number → number ≤ 11 → PlaceSmall o → Small answer → Small (unless number o answer)
+unless-small : {number : ℕ} {o : Option ℕ} {answer : Outcome (List ℕ)} → 7 ≤ number → number ≤ 11 → PlaceSmall o → Small answer
+    → Small (unless number o answer)
 unless-small low high nowhere s = s
 unless-small low high (place h) s = refusal low high h
 
@@ -105,7 +108,8 @@ concluded-small fuses text end x k h s =
     unless-small {number = 8} (omega arith) (omega arith) (count-small fuses end (k .count) h (s .count))
     (unless-small {number = 9} (omega arith) (omega arith) (lists-small fuses 0 (k .lists) (s .lists))
     (unless-small {number = 10} (omega arith) (omega arith) (sum-small (finished fuses k) (k .sum) (s .sum))
-    (unless-small {number = 11} (omega arith) (omega arith) (chosen PlaceSmall (eqb x 0 || eqb x (sum16 (take (end + 1) text))) nowhere (place h)) described)))
+    (unless-small {number = 11} (omega arith) (omega arith)
+    (chosen PlaceSmall (eqb x 0 || eqb x (sum16 (take (end + 1) text))) nowhere (place h)) described)))
 
 -- after ETX
 abbrev TailSmall : Tail → Type 0
@@ -145,7 +149,9 @@ pieces-size (b ∷ bytes) = go (eqb b star) (pieces bytes .ended) (pieces bytes 
 blanks-few : (bytes : List ℕ) → blanksBefore bytes ≤ length bytes
 unfolding blanksBefore
 blanks-few [] = omega arith
-blanks-few (b ∷ bytes) = let shorter = blanks-few bytes in chosen (λ (n : ℕ). n ≤ suc (length bytes)) (isBlank b) (omega arith) (omega arith)
+blanks-few (b ∷ bytes) =
+    let shorter = blanks-few bytes in
+    chosen (λ (n : ℕ). n ≤ suc (length bytes)) (isBlank b) (omega arith) (omega arith)
 
 etx-there : (k : ℕ) (p : List ℕ) → startsWith etx (drop k p) ≡ true → k < length p
 etx-there k p e = compared k (length p) (λ l. l) (λ g. absurd (true≢false (sym e ∙ ap (startsWith etx) (drop-of-length-le p g))))
@@ -161,11 +167,13 @@ record CutSmall (cut : Cut) : Type 0 where
 or-end-small : (at : ℕ) (p : List ℕ) (cut : Cut) → at + length p ≤ longest → CutSmall cut → CutSmall (orEnd at p cut)
 or-end-small at p cut h s = go (startsWith etx (drop (blanksBefore p) p)) refl
   where
-    go : (t : Bool) → startsWith etx (drop (blanksBefore p) p) ≡ t → CutSmall (cond t (record { fields = []; end = some (at + blanksBefore p) }) cut)
+    go : (t : Bool) → startsWith etx (drop (blanksBefore p) p) ≡ t
+        → CutSmall (cond t (record { fields = []; end = some (at + blanksBefore p) }) cut)
     go true e = record { starts = tt; end = omega (arith, etx-there (blanksBefore p) p e) }
     go false e = s
 
-cut-small : (ended : List (List ℕ)) (at : ℕ) (rest : List ℕ) → at + (size ended + length rest) ≤ longest → CutSmall (fieldsFrom at ended rest)
+cut-small : (ended : List (List ℕ)) (at : ℕ) (rest : List ℕ) → at + (size ended + length rest) ≤ longest
+    → CutSmall (fieldsFrom at ended rest)
 unfolding fieldsFrom size
 cut-small [] at rest h = or-end-small at rest _ (omega arith) (record { starts = tt; end = tt })
 cut-small (p ∷ ps) at rest h =
@@ -189,7 +197,8 @@ module _ (fuses : ℕ) (text : List ℕ) (h : length text ≤ longest) where
 
   cut-then : (cut : Cut) → CutSmall cut → Small (ofCut fuses text cut)
   cut-then cut s =
-      fields-then (cut .end) (allFields nothingKnown (cut .fields)) (fields-small (cut .fields) nothingKnown (record { count = tt; lists = tt; sum = tt }) (s .starts)) (s .end)
+      fields-then (cut .end) (allFields nothingKnown (cut .fields))
+      (fields-small (cut .fields) nothingKnown (record { count = tt; lists = tt; sum = tt }) (s .starts)) (s .end)
 
   pieces-small : (ended : List (List ℕ)) (rest : List ℕ) → size ended + length rest ≡ length text → Small (ofPieces fuses text ended rest)
   unfolding size
@@ -202,9 +211,11 @@ meaning-small : (fuses : ℕ) (text : List ℕ) → Small (meaning fuses text)
 unfolding meaning
 meaning-small fuses text =
     by-cases Small longest (length text) (λ l. seven longest (omega arith)) (λ h.
-    chosen Small (startsWith stx text) (pieces-small fuses text h (pieces text .ended) (pieces text .rest) (pieces-size text)) (seven 0 (omega arith)))
+    chosen Small (startsWith stx text) (pieces-small fuses text h (pieces text .ended) (pieces text .rest) (pieces-size text))
+    (seven 0 (omega arith)))
 
-pub values-small : (fuses : ℕ) (text : List ℕ) (number value : ℕ) → meaning fuses text ≡ refused number value → (7 ≤ number) × (number ≤ 11) × (value ≤ longest)
+pub values-small : (fuses : ℕ) (text : List ℕ) (number value : ℕ) → meaning fuses text ≡ refused number value
+    → (7 ≤ number) × (number ≤ 11) × (value ≤ longest)
 values-small fuses text number value e = go (subst Small e (meaning-small fuses text))
   where
     go : Small (refused number value) → (7 ≤ number) × (number ≤ 11) × (value ≤ longest)

@@ -21,15 +21,18 @@ use Rattle.jedec.specs.Characters.{stx, etx, lf, star, letterC, letterF,
 use Rattle.jedec.specs.Cut.{Field, holdsMark}
 use Rattle.jedec.specs.Judge.{Judged, judge}
 use Rattle.jedec.specs.Judge.Judged.{count, start, sum}
-use Rattle.jedec.specs.Rules.{At, Listed, Known, nothingKnown, inOrder, after, allFields, endOf, misplaced, stateGiven, within, imageWith}
+use Rattle.jedec.specs.Rules.{At, Listed, Known, nothingKnown, inOrder, after, allFields, endOf, misplaced, stateGiven, within}
+use Rattle.jedec.specs.Rules.{imageWith}
 use Rattle.jedec.specs.Rules.Fields.{known}
 use Rattle.jedec.specs.Meaning.{longest, meaning}
 use Rattle.jedec.specs.WrittenText.{lineEnd, linesText, patternFuses, NoneEmpty, footText, upToEtx, textWith}
 use Rattle.jedec.specs.Form as form
-use Rattle.jedec.specs.Form.{all, Part, RightPart, RightParts, partsText, next, fieldsOf, headOf, assembled, RightForm, firstAt, etxAt, Concluded, Image}
+use Rattle.jedec.specs.Form.{all, Part, RightPart, RightParts, partsText, next, fieldsOf, headOf, assembled, RightForm, firstAt}
+use Rattle.jedec.specs.Form.{etxAt, Concluded, Image}
 use Rattle.jedec.proofs.Numbers.{sum-back}
 use Rattle.jedec.proofs.Forms.{head-length, assembled-accepted}
-use Rattle.jedec.proofs.Judging.{plain, plain-no-star, decimal-digits-plain, hex-digits-plain, statesOf, count-judged, start-judged, sum-judged, lineBytes, line-plain, line-judged}
+use Rattle.jedec.proofs.Judging.{plain, plain-no-star, decimal-digits-plain, hex-digits-plain, statesOf, count-judged, start-judged}
+use Rattle.jedec.proofs.Judging.{sum-judged, lineBytes, line-plain, line-judged}
 
 -- the parts of the writer's text: each field stands after the LF of the line before
 part : List ℕ → Part
@@ -59,7 +62,8 @@ lines-shifted image fuse (widths ∷ pattern) rest =
     let line = lineBytes image fuse widths in
     let others = linesText image (fuse + total widths) pattern in
     let parts = partsText (lineParts image (fuse + total widths) pattern) in
-    let regrouped : lf ∷ (((line ++ (star ∷ lf ∷ [])) ++ others) ++ rest) ≡ (lf ∷ line) ++ (star ∷ (lf ∷ (others ++ rest))) = simp append-assoc in
+    let regrouped : lf ∷ (((line ++ (star ∷ lf ∷ [])) ++ others) ++ rest) ≡ (lf ∷ line) ++ (star ∷ (lf ∷ (others ++ rest))) =
+    simp append-assoc in
     regrouped
     ∙ rw (lines-shifted image (fuse + total widths) pattern rest) (sym (append-assoc (lf ∷ line) (star ∷ parts) (lf ∷ rest)))
 
@@ -67,7 +71,8 @@ lines-shifted image fuse (widths ∷ pattern) rest =
 text-shifted : (d l c p : List ℕ) → lf ∷ (l ++ (letterC ∷ c ++ lineEnd ++ etx ∷ [])) ≡ p ++ (lf ∷ (letterC ∷ c ++ lineEnd ++ etx ∷ []))
     → (stx ∷ lineEnd ++ letterQ ∷ letterF ∷ d ++ lineEnd ++ letterF ∷ decimalDigit 0 ∷ lineEnd) ++ l ++ (letterC ∷ c ++ lineEnd ++ etx ∷ [])
     ≡ (stx ∷ [])
-    ++ (star ∷ (((lf ∷ []) ++ (letterQ ∷ letterF ∷ d) ++ star ∷ ((lf ∷ []) ++ (letterF ∷ decimalDigit 0 ∷ []) ++ star ∷ (p ++ ((lf ∷ []) ++ (letterC ∷ c) ++ star ∷ [])))) ++ (lf ∷ [])))
+    ++ (star ∷ (((lf ∷ []) ++ (letterQ ∷ letterF ∷ d) ++ star
+    ∷ ((lf ∷ []) ++ (letterF ∷ decimalDigit 0 ∷ []) ++ star ∷ (p ++ ((lf ∷ []) ++ (letterC ∷ c) ++ star ∷ [])))) ++ (lf ∷ [])))
     ++ (etx ∷ [])
 text-shifted d l c p e =
     let begin : List ℕ → List ℕ = λ z. stx ∷ star ∷ lf ∷ letterQ ∷ letterF ∷ z in
@@ -98,7 +103,8 @@ part-right : (b : ℕ) (bytes : List ℕ) → all plain (b ∷ bytes) ≡ true �
 unfolding part all
 part-right b bytes h s = record { blank = refl; no-star = plain-no-star (b ∷ bytes) h; begins = s }
 
-lines-right : (image : List ℕ) (fuse : ℕ) (pattern : List (List ℕ)) (more : List Part) → RightParts more → RightParts (lineParts image fuse pattern ++ more)
+lines-right : (image : List ℕ) (fuse : ℕ) (pattern : List (List ℕ)) (more : List Part) → RightParts more
+    → RightParts (lineParts image fuse pattern ++ more)
 unfolding lineParts
 lines-right image fuse [] more right = right
 lines-right image fuse (widths ∷ pattern) more right =
@@ -106,8 +112,10 @@ lines-right image fuse (widths ∷ pattern) more right =
 
 parts-right : (fuses : ℕ) (pattern : List (List ℕ)) (image : List ℕ) → RightParts (writtenParts fuses pattern image)
 unfolding writtenParts all
-parts-right fuses pattern image =
-    (part-right _ _ (decimal-digits-plain _ fuses) refl, (part-right _ _ refl refl, lines-right image 0 pattern _ (part-right _ _ (hex-digits-plain 4 (sum16 image)) refl, tt)))
+parts-right fuses pattern image = (
+  part-right _ _ (decimal-digits-plain _ fuses) refl,
+  (part-right _ _ refl refl, lines-right image 0 pattern _ (part-right _ _ (hex-digits-plain 4 (sum16 image)) refl, tt)),
+)
 
 -- the fields are read one after the other
 read-one : (k : Known) (at : ℕ) (bytes : List ℕ) (fields : List Field) (j : Judged) → judge bytes ≡ j → inOrder k j ≡ true
@@ -125,7 +133,8 @@ listsOf at image fuse (widths ∷ pattern) =
 knownWith : At → List Listed → Known
 knownWith q lists = record { count = some q; start = some 0; lists = lists; sum = none }
 
-read-line : (q : At) (image : List ℕ) (at fuse : ℕ) (widths : List ℕ) (lists : List Listed) (fields : List Field) → 0 < total widths → fuse < 10 ^ 7
+read-line : (q : At) (image : List ℕ) (at fuse : ℕ) (widths : List ℕ) (lists : List Listed) (fields : List Field)
+    → 0 < total widths → fuse < 10 ^ 7
     → allFields (knownWith q lists) (record { start = at + 1; bytes = lineBytes image fuse widths } ∷ fields)
     ≡ allFields (knownWith q (lists ++ (record { at = at + 1; first = fuse; states = statesOf image fuse (total widths) } ∷ []))) fields
 unfolding knownWith
@@ -143,7 +152,8 @@ lines-read q image at fuse (widths ∷ pattern) lists more positive h =
     let l : Listed = record { at = at + 1; first = fuse; states = statesOf image fuse (total widths) } in
     read-line q image at fuse widths lists _ (positive .0) (omega arith)
     ∙ lines-read q image (next at p) (fuse + total widths) pattern (lists ++ (l ∷ [])) more (positive .1) (omega arith)
-    ∙ ap (λ (ls : List Listed). allFields (knownWith q ls) (fieldsOf (form.partsEnd (next at p) (lineParts image (fuse + total widths) pattern)) more))
+    ∙ ap (λ (ls : List Listed).
+    allFields (knownWith q ls) (fieldsOf (form.partsEnd (next at p) (lineParts image (fuse + total widths) pattern)) more))
     (append-snoc lists l (listsOf (next at p) image (fuse + total widths) pattern))
 
 states-length : (image : List ℕ) (fuse width : ℕ) → length (statesOf image fuse width) ≡ width
@@ -176,7 +186,13 @@ lines-give at image fuse (widths ∷ pattern) g low high =
     (λ inside.
     let own : fuse + (g - fuse) ≡ g = omega arith in
     let offset : g - fuse < total widths = omega arith in
-    rw (le-leb fuse g low, states-length image fuse (total widths), lt-ltb g (fuse + total widths) inside, states-at image fuse (total widths) (g - fuse) offset, own))
+    rw (
+      le-leb fuse g low,
+      states-length image fuse (total widths),
+      lt-ltb g (fuse + total widths) inside,
+      states-at image fuse (total widths) (g - fuse) offset,
+      own,
+    ))
     (λ past.
     rw (le-leb fuse g low, states-length image fuse (total widths), le-ltb g (fuse + total widths) past)
     (lines-give _ image (fuse + total widths) pattern g past (omega arith)))
@@ -186,8 +202,8 @@ byte-state : (image : List ℕ) (i b : ℕ) → b < 8 → state image (i * 8 + b
 unfolding state bitAt
 byte-state image i b l = let q : (i * 8 + b) / 8 ≡ i = omega arith in let r : (i * 8 + b) % 8 ≡ b = omega arith in rw (q, r)
 
-pub image-given : (fuses : ℕ) (image : List ℕ) → Image fuses image → (states : ℕ → ℕ) → ((fuse : ℕ) → fuse < fuses → states fuse ≡ state image fuse)
-    → imageWith fuses states ≡ image
+pub image-given : (fuses : ℕ) (image : List ℕ) → Image fuses image → (states : ℕ → ℕ)
+    → ((fuse : ℕ) → fuse < fuses → states fuse ≡ state image fuse) → imageWith fuses states ≡ image
 unfolding imageWith
 image-given fuses image its states same =
     ext-getD 0 (tabulate ((fuses + 7) / 8) _) image (tabulate-length ((fuses + 7) / 8) _ ∙ sym (its .size))
@@ -261,10 +277,12 @@ module _ (fuses : ℕ) (pattern : List (List ℕ)) (image : List ℕ) (few : fus
       let sum-part = part (letterC ∷ fourHex (sum16 image)) in
       let others = lineParts image 0 pattern ++ (sum-part ∷ []) in
       let counted : Known = record { count = some q; start = none; lists = []; sum = none } in
-      read-one nothingKnown 3 (letterQ ∷ letterF ∷ countDigits fuses) (fieldsOf (next 2 count-part) (start-part ∷ others)) (count fuses) (count-judged fuses few) refl
+      read-one nothingKnown 3 (letterQ ∷ letterF ∷ countDigits fuses) (fieldsOf (next 2 count-part) (start-part ∷ others)) (count fuses)
+      (count-judged fuses few) refl
       ∙ read-one counted (next 2 count-part + 1) (letterF ∷ decimalDigit 0 ∷ []) (fieldsOf lines-at others) (start 0) start-judged refl
       ∙ lines-read q image lines-at 0 pattern [] (sum-part ∷ []) none-empty (omega (arith, every-fuse))
-      ∙ read-one (knownWith q lists) (form.partsEnd lines-at (lineParts image 0 pattern) + 1) (letterC ∷ fourHex (sum16 image)) [] (sum (sum16 image)) (sum-judged (sum16 image) (mod-lt _ (omega arith))) refl
+      ∙ read-one (knownWith q lists) (form.partsEnd lines-at (lineParts image 0 pattern) + 1) (letterC ∷ fourHex (sum16 image)) []
+      (sum (sum16 image)) (sum-judged (sum16 image) (mod-lt _ (omega arith))) refl
 
   concluded : Concluded fuses (assembled [] parts (lf ∷ []) (fourHex its-sum) []) image (etxAt [] parts (lf ∷ [])) its-sum gives
   unfolding gives q lists its-sum parts
@@ -276,15 +294,19 @@ module _ (fuses : ℕ) (pattern : List (List ℕ)) (image : List ℕ) (few : fus
             sym
             (image-given fuses image its (stateGiven 0 lists)
             (λ f l. lines-give lines-at image 0 pattern f (omega arith) (omega (arith, every-fuse))));
-        right-sum = λ c e. let same : record { at = form.partsEnd lines-at (lineParts image 0 pattern) + 1; value = sum16 image } ≡ c = cc in ap (λ (x : At). x .value) (sym same);
+        right-sum =
+            λ c e. let same : record { at = form.partsEnd lines-at (lineParts image 0 pattern) + 1; value = sum16 image } ≡ c = cc in
+            ap (λ (x : At). x .value) (sym same);
         right-transmission =
             inr
             (ap sum16
             (upto-assembled fuses pattern image
-            ∙ sym (take-at (headOf [] parts (lf ∷ [])) (fourHex its-sum ++ []) (etxAt [] parts (lf ∷ []) + 1) (head-length [] parts (lf ∷ [])))));
+            ∙ sym (take-at (headOf [] parts (lf ∷ [])) (fourHex its-sum ++ []) (etxAt [] parts (lf ∷ []) + 1)
+            (head-length [] parts (lf ∷ [])))));
       }
 
   pub read-back : length (textWith fuses pattern image) ≤ longest → meaning fuses (textWith fuses pattern image) ≡ accepted image
   read-back short =
       rw assembled-text
-      (assembled-accepted [] parts (lf ∷ []) (fourHex its-sum) [] its-sum right-form fuses image gives (rw assembled-text at short) fields-read concluded)
+      (assembled-accepted [] parts (lf ∷ []) (fourHex its-sum) [] its-sum right-form fuses image gives
+      (rw assembled-text at short) fields-read concluded)

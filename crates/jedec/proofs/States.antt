@@ -1,4 +1,5 @@
--- The image of a text in plain terms: when each L is in place, and which state each fuse then has (`InPlace`, `Described` in specs/Form.antt).
+-- The image of a text in plain terms: when each L is in place, and which state each fuse then has (`InPlace`,
+-- `Described` in specs/Form.antt).
 -- Assumes nothing.
 use mathlib.Core.Path.{_≡_, refl, sym, _∙_, ap, subst}
 use mathlib.Core.Logic.{_↔_, inl, inr}
@@ -15,11 +16,13 @@ use Rattle.part.proofs.Facts.{compared, either}
 use Rattle.image.specs.Bits.{bitAt, gathered}
 use Rattle.image.specs.Image.{state}
 use Rattle.image.proofs.Bits.{bit-above, gathered-bit, gathered-small, tabulate-length, tabulate-at}
-use Rattle.jedec.specs.Characters.{isBlank, andThen, numberIn, sumIn, letterC, letterF, letterJ, letterL, letterN, letterP, letterQ, letterV, letterX}
+use Rattle.jedec.specs.Characters.{isBlank, andThen, numberIn, sumIn, letterC, letterF, letterJ, letterL, letterN, letterP, letterQ}
+use Rattle.jedec.specs.Characters.{letterV, letterX}
 use Rattle.jedec.specs.Cut.{Field, holdsMark}
 use Rattle.jedec.specs.Judge.{Judged, orBad, startIn, unbroken, withFirst, statesIn, statesFrom, listIn, afterQ, byLetters, judge}
 use Rattle.jedec.specs.Judge.Judged.{count, start, list, sum, skipped, bad}
-use Rattle.jedec.specs.Rules.{Listed, Known, nothingKnown, inOrder, after, Fields, allFields, endOf, misplaced, startState, stateGiven, within, imageWith, finished}
+use Rattle.jedec.specs.Rules.{Listed, Known, nothingKnown, inOrder, after, Fields, allFields, endOf, misplaced, startState}
+use Rattle.jedec.specs.Rules.{stateGiven, within, imageWith, finished}
 use Rattle.jedec.specs.Rules.Fields.{known, badAt}
 use Rattle.jedec.specs.Form.{InPlace, Each, Outside, Gives, Image, Described}
 use Rattle.jedec.proofs.Places.{chosen}
@@ -35,7 +38,8 @@ module _ (fuses : ℕ) where
       (λ m. let bad : some (l .at) ≡ none = rw (lt-ltb (l .first) end m) at e in let z : _≡_ {A = ℕ} 0 1 = cc in absurd (omega arith))
       (λ g.
       compared fuses (endOf l)
-      (λ m. let bad : some (l .at) ≡ none = rw (le-ltb (l .first) end g, lt-ltb fuses (endOf l) m) at e in let z : _≡_ {A = ℕ} 0 1 = cc in absurd (omega arith))
+      (λ m. let bad : some (l .at) ≡ none = rw (le-ltb (l .first) end g, lt-ltb fuses (endOf l) m) at e in
+      let z : _≡_ {A = ℕ} 0 1 = cc in absurd (omega arith))
       (λ h. (g, h, rw (le-ltb (l .first) end g, le-ltb fuses (endOf l) h) at e)))
 
   all-placed : (end : ℕ) (lists : List Listed) → misplaced fuses end lists ≡ none → InPlace fuses end lists
@@ -80,9 +84,11 @@ states-bits (b ∷ bytes) = chosen ReadBits (isBlank b) (states-bits bytes) (dig
     before-bits h none bits = tt
     before-bits h (some states) bits = more-bits (b - 48) states h bits
 
-    digit : ReadBits (statesIn bytes) → (t : Bool) → (eqb b 48 || eqb b 49) ≡ t → ReadBits (cond t (andThen (statesIn bytes) (withFirst (b - 48))) none)
+    digit : ReadBits (statesIn bytes) → (t : Bool) → (eqb b 48 || eqb b 49) ≡ t
+        → ReadBits (cond t (andThen (statesIn bytes) (withFirst (b - 48))) none)
     digit bits true e =
-        before-bits (either (eqb b 48) (eqb b 49) e (λ z. omega (arith, eqb-true b 48 z)) (λ z. omega (arith, eqb-true b 49 z))) (statesIn bytes) bits
+        before-bits (either (eqb b 48) (eqb b 49) e (λ z. omega (arith, eqb-true b 48 z)) (λ z. omega (arith, eqb-true b 49 z)))
+        (statesIn bytes) bits
     digit bits false e = tt
 
 judged-bits : (bytes : List ℕ) → JudgedBits (judge bytes)
@@ -95,7 +101,9 @@ judged-bits bytes = chosen JudgedBits (holdsMark bytes) tt (by-letters bytes)
 
     after-q : (rest : List ℕ) → JudgedBits (afterQ rest)
     after-q [] = tt
-    after-q (b ∷ rest) = chosen JudgedBits (eqb b letterF) (number (numberIn rest) count (λ x. tt)) (chosen JudgedBits (eqb b letterP || eqb b letterV) tt tt)
+    after-q (b ∷ rest) =
+        chosen JudgedBits (eqb b letterF) (number (numberIn rest) count (λ x. tt))
+        (chosen JudgedBits (eqb b letterP || eqb b letterV) tt tt)
 
     start-state : (rest : List ℕ) → JudgedBits (startIn rest)
     start-state [] = tt
@@ -113,7 +121,8 @@ judged-bits bytes = chosen JudgedBits (holdsMark bytes) tt (by-letters bytes)
         chosen JudgedBits (eqb b letterN || eqb b letterJ || eqb b letterX) tt
         (chosen JudgedBits (eqb b letterQ) (after-q rest)
         (chosen JudgedBits (eqb b letterF) (start-state rest)
-        (chosen JudgedBits (eqb b letterL) (number (numberIn (take (unbroken rest) rest)) _ (some-states (statesIn (drop (unbroken rest) rest)) (states-bits (drop (unbroken rest) rest))))
+        (chosen JudgedBits (eqb b letterL) (number (numberIn (take (unbroken rest) rest)) _
+        (some-states (statesIn (drop (unbroken rest) rest)) (states-bits (drop (unbroken rest) rest))))
         (chosen JudgedBits (eqb b letterC) (number (sumIn rest) sum (λ x. tt)) tt))))
 
 record KnownBits (k : Known) : Type 0 where
@@ -124,7 +133,8 @@ abbrev FieldsBits : Fields → Type 0
 FieldsBits (known k) = KnownBits k
 FieldsBits (badAt at) = Unit {0}
 
-one-more : (lists : List Listed) (l : Listed) → Each (λ m. Bits (m .states)) lists → Bits (l .states) → Each (λ m. Bits (m .states)) (lists ++ (l ∷ []))
+one-more : (lists : List Listed) (l : Listed) → Each (λ m. Bits (m .states)) lists → Bits (l .states)
+    → Each (λ m. Bits (m .states)) (lists ++ (l ∷ []))
 one-more [] l bits h = (h, tt)
 one-more (m ∷ lists) l bits h = (bits .0, one-more lists l (bits .1) h)
 
@@ -149,17 +159,21 @@ module _ (from : ℕ) where
   given-bit : (lists : List Listed) → from < 2 → Each (λ l. Bits (l .states)) lists → (fuse : ℕ) → stateGiven from lists fuse < 2
   unfolding stateGiven
   given-bit [] h bits fuse = h
-  given-bit (l ∷ lists) h bits fuse = chosen (λ x. x < 2) (leb (l .first) fuse && ltb fuse (endOf l)) (bits .0 (fuse - l .first)) (given-bit lists h (bits .1) fuse)
+  given-bit (l ∷ lists) h bits fuse =
+      chosen (λ x. x < 2) (leb (l .first) fuse && ltb fuse (endOf l)) (bits .0 (fuse - l .first)) (given-bit lists h (bits .1) fuse)
 
-  given-before : (l : Listed) (lists : List Listed) (fuse : ℕ) → fuse < l .first → stateGiven from (l ∷ lists) fuse ≡ stateGiven from lists fuse
+  given-before : (l : Listed) (lists : List Listed) (fuse : ℕ) → fuse < l .first
+      → stateGiven from (l ∷ lists) fuse ≡ stateGiven from lists fuse
   unfolding stateGiven
   given-before l lists fuse m = rw (lt-leb (l .first) fuse m)
 
-  given-inside : (l : Listed) (lists : List Listed) (fuse : ℕ) → l .first ≤ fuse → fuse < endOf l → stateGiven from (l ∷ lists) fuse ≡ getD (l .states) (fuse - l .first) 0
+  given-inside : (l : Listed) (lists : List Listed) (fuse : ℕ) → l .first ≤ fuse → fuse < endOf l
+      → stateGiven from (l ∷ lists) fuse ≡ getD (l .states) (fuse - l .first) 0
   unfolding stateGiven
   given-inside l lists fuse g m = rw (le-leb (l .first) fuse g, lt-ltb fuse (endOf l) m)
 
-  given-after : (l : Listed) (lists : List Listed) (fuse : ℕ) → endOf l ≤ fuse → stateGiven from (l ∷ lists) fuse ≡ stateGiven from lists fuse
+  given-after : (l : Listed) (lists : List Listed) (fuse : ℕ) → endOf l ≤ fuse
+      → stateGiven from (l ∷ lists) fuse ≡ stateGiven from lists fuse
   unfolding stateGiven
   given-after l lists fuse m = rw (le-leb (l .first) fuse (omega arith), le-ltb fuse (endOf l) m)
 
@@ -220,7 +234,8 @@ module _ (fuses : ℕ) (states : ℕ → ℕ) (bits : (fuse : ℕ) → states fu
       (λ h.
       let own : fuse / 8 * 8 + fuse % 8 ≡ fuse = omega arith in
       rw (image-at fuses states (fuse / 8) h)
-      (gathered-bit (λ bit. within fuses states (fuse / 8 * 8 + bit)) (λ bit. within-small fuses states bits (fuse / 8 * 8 + bit)) 8 (fuse % 8) (omega arith)
+      (gathered-bit (λ bit. within fuses states (fuse / 8 * 8 + bit)) (λ bit. within-small fuses states bits (fuse / 8 * 8 + bit)) 8
+      (fuse % 8) (omega arith)
       ∙ ap (λ (f : ℕ). within fuses states f) own))
       (λ g.
       let past : fuses ≤ fuse = omega arith in
@@ -237,7 +252,8 @@ module _ (fuses : ℕ) (states : ℕ → ℕ) (bits : (fuse : ℕ) → states fu
         no-more = λ fuse past. state-given fuse ∙ rw (le-ltb fuse fuses past);
       }
 
-module _ (fuses : ℕ) (fields : List Field) (k : Known) (in-order : allFields nothingKnown fields ≡ known k) (in-place : InPlace fuses 0 (k .lists)) where
+module _ (fuses : ℕ) (fields : List Field) (k : Known) (in-order : allFields nothingKnown fields ≡ known k)
+    (in-place : InPlace fuses 0 (k .lists)) where
   bits : (fuse : ℕ) → stateGiven (startState (k .start)) (k .lists) fuse < 2
   bits =
       let b : KnownBits k = subst FieldsBits in-order (fields-bits fields nothingKnown (record { start = omega arith; lists = tt })) in
@@ -257,5 +273,6 @@ module _ (fuses : ℕ) (fields : List Field) (k : Known) (in-order : allFields n
   pub finished-state : (image : List ℕ) → (image ≡ finished fuses k) ↔ Described fuses k image
   finished-state image = (
     λ e. subst (Described fuses k) (sym e) described,
-    λ d. sym (image-given fuses image (d .its) (stateGiven (startState (k .start)) (k .lists)) (λ fuse h. gives-each (startState (k .start)) fuses (state image) fuse (k .lists) (d .listed) (d .others fuse h))),
+    λ d. sym (image-given fuses image (d .its) (stateGiven (startState (k .start)) (k .lists))
+        (λ fuse h. gives-each (startState (k .start)) fuses (state image) fuse (k .lists) (d .listed) (d .others fuse h))),
   )

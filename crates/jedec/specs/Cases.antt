@@ -1,5 +1,6 @@
--- Texts and what they mean for the part of 18144 fuses: document 01's bench section, and points that its words leave room for. A written text, byte by byte.
--- The independent program is held to the same texts (reference/tests/stated_texts.rs).
+-- Texts and what they mean for the part of 18144 fuses: document 01's bench section, and points that its words leave
+-- room for. A written text, byte by byte. The independent program is held to the same texts
+-- (reference/tests/stated_texts.rs).
 use mathlib.Core.Path.{_≡_}
 use mathlib.Core.List.{List, [], _∷_, _++_, map}
 use Prim.Native.Nat.{ℕ}
@@ -56,7 +57,8 @@ acceptedTexts =
     -- skipped fields, anywhere and again
     ∷ is (file "*N*QF18144*J1*QPa*QV*F1*X*CD324*N *" "0000") (accepted allOnes)
     -- an L with blanks of every kind
-    ∷ is (stx ∷ chars "*QF18144*L0 " ++ 9 ∷ 13 ∷ 10 ∷ chars "1 * " ++ etx ∷ chars "0000 " ++ 10 ∷ []) (accepted onlyFirst)
+    ∷ is (stx ∷ chars "*QF18144*L0 " ++ 9 ∷ 13 ∷ 10 ∷ chars "1 * " ++ etx ∷ chars "0000 " ++ 10 ∷ [])
+    (accepted onlyFirst)
     -- L fields that touch, and a gap
     ∷ is (file "*QF18144*L0 1*L1 0*L5 0*" "0000") (accepted onlyFirst)
     -- F0
@@ -211,4 +213,5 @@ refusedTexts =
 abbrev pub WrittenText : Type 0
 WrittenText =
     textWith 8 ((4 ∷ 4 ∷ []) ∷ []) (165 ∷ [])
-    ≡ stx ∷ chars "*" ++ lf ∷ chars "QF8*" ++ lf ∷ chars "F0*" ++ lf ∷ chars "L0000000 1010 0101*" ++ lf ∷ chars "C00A5*" ++ lf ∷ etx ∷ chars "06C7"
+    ≡ stx ∷ chars "*" ++ lf ∷ chars "QF8*" ++ lf ∷ chars "F0*" ++ lf ∷ chars "L0000000 1010 0101*" ++ lf
+    ∷ chars "C00A5*" ++ lf ∷ etx ∷ chars "06C7"

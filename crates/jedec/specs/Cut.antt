@@ -1,5 +1,5 @@
--- How a text is cut: "The text is STX; design text up to `*`; fields, each up to `*`; ETX; four hex digits; then only blanks, which may also
--- stand between fields." What the fields hold is not looked at here.
+-- How a text is cut: "The text is STX; design text up to `*`; fields, each up to `*`; ETX; four hex digits; then only
+-- blanks, which may also stand between fields." What the fields hold is not looked at here.
 use Prim.Native.Nat.{ℕ, zero, suc, _+_, _*_}
 use mathlib.Core.Bool.{Bool, false, cond, _||_}
 use mathlib.Core.List.{List, [], _∷_}
@@ -23,7 +23,8 @@ unfoldable pub pieces : List ℕ → Pieces
 pieces [] = record { ended = []; rest = [] }
 pieces (b ∷ bytes) =
     let after = pieces bytes in
-    cond (eqb b star) (record { ended = [] ∷ after .ended; rest = after .rest }) (onFirst b (after .ended) (after .rest))
+    cond (eqb b star) (record { ended = [] ∷ after .ended; rest = after .rest })
+    (onFirst b (after .ended) (after .rest))
 
 -- how many blanks stand before the first other byte
 unfoldable pub blanksBefore : List ℕ → ℕ
@@ -47,7 +48,8 @@ startsWith b (c ∷ bytes) = eqb c b
 -- the piece at an offset of the text: the ETX after the fields, or else
 abbrev pub orEnd : ℕ → List ℕ → Cut → Cut
 orEnd at piece other =
-    cond (startsWith etx (drop (blanksBefore piece) piece)) (record { fields = []; end = some (at + blanksBefore piece) }) other
+    cond (startsWith etx (drop (blanksBefore piece) piece))
+    (record { fields = []; end = some (at + blanksBefore piece) }) other
 
 abbrev pub withField : ℕ → List ℕ → Cut → Cut
 withField at piece others =
@@ -66,7 +68,8 @@ unfoldable pub holdsMark : List ℕ → Bool
 holdsMark [] = false
 holdsMark (b ∷ bytes) = isMark b || holdsMark bytes
 
--- after ETX: four hex digits and then only blanks give a sum; else the first wrong byte, or the end of a text that ends early
+-- after ETX: four hex digits and then only blanks give a sum; else the first wrong byte, or
+-- the end of a text that ends early
 pub data Tail : Type 0 where
   given : (sum : ℕ) → Tail
   wrong : (at : ℕ) → Tail
@@ -79,4 +82,5 @@ unfoldable pub tailFrom : (at digits sum : ℕ) → List ℕ → Tail
 tailFrom at zero sum [] = given sum
 tailFrom at zero sum (b ∷ bytes) = cond (isBlank b) (tailFrom (at + 1) zero sum bytes) (wrong at)
 tailFrom at (suc digits) sum [] = wrong at
-tailFrom at (suc digits) sum (b ∷ bytes) = digitOr (wrong at) (hexValue b) (λ x. tailFrom (at + 1) digits (sum * 16 + x) bytes)
+tailFrom at (suc digits) sum (b ∷ bytes) =
+    digitOr (wrong at) (hexValue b) (λ x. tailFrom (at + 1) digits (sum * 16 + x) bytes)

@@ -1,5 +1,6 @@
--- A text of document 01's form, put together from its parts, and what it is for a text to be accepted, or refused 9: what the laws speak of.
--- The laws stand in proofs/Laws.antt: those whose names end in -iff, `finished-state`, `assembled-accepted` and `read-back`.
+-- A text of document 01's form, put together from its parts, and what it is for a text to be accepted, or refused 9:
+-- what the laws speak of. The laws stand in proofs/Laws.antt: those whose names end in -iff, `finished-state`,
+-- `assembled-accepted` and `read-back`.
 use Prim.Native.Nat.{ℕ, _+_, _/_, _^_, _<_, _≤_}
 use mathlib.Core.Path.{_≡_}
 use mathlib.Core.Logic.{_⊎_}
@@ -88,8 +89,9 @@ pub record Counted (fuses : ℕ) (k : Known) : Type 0 where
   pub has-count : k .count ≡ some count-field
   pub right-count : count-field .value ≡ fuses
 
--- what a text of good form needs to be accepted with an image: QF gives the count, no L is out of place, C gives the fuse sum of the image, and the transmission
--- sum is 0000 or the sum of the bytes from STX to ETX; `in-place` and `its-image` in plain terms are `InPlace` and `Described` below
+-- what a text of good form needs to be accepted with an image: QF gives the count, no L is out of place, C gives the
+-- fuse sum of the image, and the transmission sum is 0000 or the sum of the bytes from STX to ETX; `in-place` and
+-- `its-image` in plain terms are `InPlace` and `Described` below
 pub record Concluded (fuses : ℕ) (text image : List ℕ) (end sum : ℕ) (k : Known) : Type 0 where
   pub counted : Counted fuses k
   pub in-place : misplaced fuses 0 (k .lists) ≡ none
@@ -97,8 +99,8 @@ pub record Concluded (fuses : ℕ) (text image : List ℕ) (end sum : ℕ) (k : 
   pub right-sum : (c : At) → k .sum ≡ some c → c .value ≡ sum16 image
   pub right-transmission : (sum ≡ 0) ⊎ (sum ≡ sum16 (take (end + 1) text))
 
--- a text of good form, with what its fields give, where its ETX stands, and its transmission sum: it is not too long; STX, a design text
--- without STX and ETX, good fields in order, ETX, four hex digits and blanks
+-- a text of good form, with what its fields give, where its ETX stands, and its transmission sum: it is not too long;
+-- STX, a design text without STX and ETX, good fields in order, ETX, four hex digits and blanks
 pub record GoodForm (text : List ℕ) (gives : Known) (end sum : ℕ) : Type 0 where
   pub not-long : length text ≤ longest
   pub begins : startsWith stx text ≡ true
@@ -106,7 +108,8 @@ pub record GoodForm (text : List ℕ) (gives : Known) (end sum : ℕ) : Type 0 w
   pub ended : List (List ℕ)
   pub its-pieces : pieces text .ended ≡ design ∷ ended
   pub good-design : holdsMark (drop 1 design) ≡ false
-  pub good-fields : allFields nothingKnown (fieldsFrom (length design + 1) ended (pieces text .rest) .fields) ≡ known gives
+  pub good-fields :
+      allFields nothingKnown (fieldsFrom (length design + 1) ended (pieces text .rest) .fields) ≡ known gives
   pub has-end : fieldsFrom (length design + 1) ended (pieces text .rest) .end ≡ some end
   pub good-tail : tailFrom (end + 1) 4 0 (drop (end + 1) text) ≡ given sum
 
@@ -118,8 +121,8 @@ pub record Accepted (fuses : ℕ) (text image : List ℕ) : Type 0 where
   pub form : GoodForm text gives end sum
   pub concluded : Concluded fuses text image end sum gives
 
--- a text put together from its parts, with what its fields give, where its ETX stands, and its transmission sum: it is not too long, its parts
--- hold what they may, and its fields are good and in order
+-- a text put together from its parts, with what its fields give, where its ETX stands, and its transmission sum: it is
+-- not too long, its parts hold what they may, and its fields are good and in order
 pub record Assembled (text : List ℕ) (gives : Known) (end sum : ℕ) : Type 0 where
   pub not-long : length text ≤ longest
   pub design : List ℕ
@@ -153,8 +156,8 @@ lastEnd end (l ∷ lists) = lastEnd (l .first + length (l .states)) lists
 abbrev pub OutOfPlace : (fuses end : ℕ) → Listed → Type 0
 OutOfPlace fuses end l = (l .first < end) ⊎ (fuses < l .first + length (l .states))
 
--- the first L that is out of place, and where its field starts: every L before it is in place, and it starts before the end of the L before it
--- (if there is none before it, before `end`) or ends past the count
+-- the first L that is out of place, and where its field starts: every L before it is in place, and it starts before the
+-- end of the L before it (if there is none before it, before `end`) or ends past the count
 pub record FirstMisplaced (fuses end : ℕ) (lists : List Listed) (at : ℕ) : Type 0 where
   pub before : List Listed
   pub it : Listed
@@ -164,7 +167,8 @@ pub record FirstMisplaced (fuses end : ℕ) (lists : List Listed) (at : ℕ) : T
   pub out-of-place : OutOfPlace fuses (lastEnd end before) it
   pub its-start : it .at ≡ at
 
--- a text that is refused 9, and the refusal's value: it is of good form, QF gives the count, and the first L that is out of place starts there
+-- a text that is refused 9, and the refusal's value: it is of good form, QF gives the count, and the first L
+-- that is out of place starts there
 pub record Refused9 (fuses : ℕ) (text : List ℕ) (at : ℕ) : Type 0 where
   pub gives : Known
   pub end : ℕ

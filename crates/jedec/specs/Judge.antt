@@ -1,5 +1,5 @@
--- How a field's bytes are judged, by the letters that it starts with: "It is judged at its `*`: STX or ETX before that makes it bad at its start.
--- Blanks stand inside a field only where said."
+-- How a field's bytes are judged, by the letters that it starts with: "It is judged at its `*`: STX or ETX before that
+-- makes it bad at its start. Blanks stand inside a field only where said."
 use Prim.Native.Nat.{ℕ, suc, _-_}
 use mathlib.Core.Bool.{cond, _||_}
 use mathlib.Core.List.{List, [], _∷_}
@@ -7,7 +7,8 @@ use mathlib.Core.Option.{Option}
 use mathlib.Core.Option.Option.{none, some}
 use lib.Dec.{eqb}
 use lib.ListN.{take, drop}
-use Rattle.jedec.specs.Characters.{letterC, letterF, letterJ, letterL, letterN, letterP, letterQ, letterV, letterX, isBlank, andThen, numberIn, sumIn}
+use Rattle.jedec.specs.Characters.{letterC, letterF, letterJ, letterL, letterN, letterP, letterQ, letterV}
+use Rattle.jedec.specs.Characters.{letterX, isBlank, andThen, numberIn, sumIn}
 use Rattle.jedec.specs.Cut.{holdsMark}
 
 pub data Judged : Type 0 where
@@ -35,7 +36,8 @@ startIn [] = bad
 startIn (b ∷ []) = cond (eqb b 48) (start 0) (cond (eqb b 49) (start 1) bad)
 startIn (b ∷ c ∷ bytes) = bad
 
--- "`L`, 1 to 7 digits, a blank, then at least one 0 or 1 with blanks allowed": what follows the L, up to the first blank and from there on
+-- "`L`, 1 to 7 digits, a blank, then at least one 0 or 1 with blanks allowed": what follows the L, up to
+-- the first blank and from there on
 unfoldable pub unbroken : List ℕ → ℕ
 unbroken [] = 0
 unbroken (b ∷ bytes) = cond (isBlank b) 0 (suc (unbroken bytes))
@@ -65,7 +67,8 @@ listIn bytes = orBad (numberIn (take (unbroken bytes) bytes)) (statesFrom (state
 -- "`QF` and 1 to 7 digits"; QP and QV are skipped: what follows the Q
 abbrev pub afterQ : List ℕ → Judged
 afterQ [] = bad
-afterQ (b ∷ bytes) = cond (eqb b letterF) (orBad (numberIn bytes) count) (cond (eqb b letterP || eqb b letterV) skipped bad)
+afterQ (b ∷ bytes) =
+    cond (eqb b letterF) (orBad (numberIn bytes) count) (cond (eqb b letterP || eqb b letterV) skipped bad)
 
 abbrev pub byLetters : List ℕ → Judged
 byLetters [] = bad
@@ -74,7 +77,8 @@ byLetters (b ∷ bytes) =
     skipped
     (cond (eqb b letterQ)
     (afterQ bytes)
-    (cond (eqb b letterF) (startIn bytes) (cond (eqb b letterL) (listIn bytes) (cond (eqb b letterC) (orBad (sumIn bytes) sum) bad))))
+    (cond (eqb b letterF) (startIn bytes)
+    (cond (eqb b letterL) (listIn bytes) (cond (eqb b letterC) (orBad (sumIn bytes) sum) bad))))
 
 unfoldable pub judge : List ℕ → Judged
 judge bytes = cond (holdsMark bytes) bad (byLetters bytes)

@@ -1,5 +1,5 @@
--- What a text means for a part of so many fuses: its image, or the lowest of the refusals 7 to 11 at its first place, with the value that
--- document 01's table gives.
+-- What a text means for a part of so many fuses: its image, or the lowest of the refusals 7 to 11 at its first place,
+-- with the value that document 01's table gives.
 use Prim.Native.Nat.{ℕ, _+_}
 use mathlib.Core.Bool.{cond, _||_}
 use mathlib.Core.List.{List, [], _∷_}
@@ -39,7 +39,8 @@ unfoldable pub concluded : (fuses : ℕ) → (text : List ℕ) → (etx sum : �
 concluded fuses text etx sum k =
     unless 8 (wrongCount fuses etx (k .count))
     (unless 9 (misplaced fuses 0 (k .lists))
-    (unless 10 (wrongSum (finished fuses k) (k .sum)) (unless 11 (wrongTransmission text etx sum) (accepted (finished fuses k)))))
+    (unless 10 (wrongSum (finished fuses k) (k .sum))
+    (unless 11 (wrongTransmission text etx sum) (accepted (finished fuses k)))))
 
 -- 7: after ETX the first wrong byte; for a text that ends early its length; the offset where the first bad field starts
 abbrev pub withTail : (fuses : ℕ) → (text : List ℕ) → (etx : ℕ) → Known → Tail → Outcome (List ℕ)

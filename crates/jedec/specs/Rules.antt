@@ -1,5 +1,5 @@
--- What a judged field does to what is known so far, and what the finished fields say: the count, the start state, the lists of states, the
--- fuse sum, and the image. Which fields may stand where is decided here and nowhere else.
+-- What a judged field does to what is known so far, and what the finished fields say: the count, the start state, the
+-- lists of states, the fuse sum, and the image. Which fields may stand where is decided here and nowhere else.
 use Prim.Native.Nat.{ℕ, _+_, _*_, _-_, _/_}
 use mathlib.Core.Bool.{Bool, true, false, cond, not, _&&_, _||_}
 use mathlib.Core.List.{List, [], _∷_, _++_}
@@ -41,8 +41,8 @@ abbrev pub hasAny : {A : Type 0} → List A → Bool
 hasAny [] = false
 hasAny (x ∷ xs) = true
 
--- "`QF` .. exactly once, before any F, L or C. `F0` or `F1`, at most once, before any L. .. `C` .. at most once, after the last L (an L after
--- it is the bad field)."
+-- "`QF` .. exactly once, before any F, L or C. `F0` or `F1`, at most once, before any L. .. `C` .. at most once, after
+-- the last L (an L after it is the bad field)."
 abbrev pub inOrder : Known → Judged → Bool
 inOrder k (count n) = not (has (k .count))
 inOrder k (start s) = has (k .count) && not (has (k .start)) && not (hasAny (k .lists))
@@ -53,7 +53,8 @@ inOrder k bad = false
 
 -- what is known after a field that starts at an offset
 abbrev pub after : Known → ℕ → Judged → Known
-after k at (count n) = record { count = some (record { at = at; value = n }); start = k .start; lists = k .lists; sum = k .sum }
+after k at (count n) =
+    record { count = some (record { at = at; value = n }); start = k .start; lists = k .lists; sum = k .sum }
 after k at (start s) = record { count = k .count; start = some s; lists = k .lists; sum = k .sum }
 after k at (list first states) =
     record {
@@ -62,7 +63,8 @@ after k at (list first states) =
       lists = k .lists ++ (record { at = at; first = first; states = states } ∷ []);
       sum = k .sum;
     }
-after k at (sum x) = record { count = k .count; start = k .start; lists = k .lists; sum = some (record { at = at; value = x }) }
+after k at (sum x) =
+    record { count = k .count; start = k .start; lists = k .lists; sum = some (record { at = at; value = x }) }
 after k at skipped = k
 after k at bad = k
 
@@ -87,7 +89,8 @@ endOf l = l .first + length (l .states)
 
 unfoldable pub misplaced : (fuses end : ℕ) → List Listed → Option ℕ
 misplaced fuses end [] = none
-misplaced fuses end (l ∷ lists) = cond (ltb (l .first) end || ltb fuses (endOf l)) (some (l .at)) (misplaced fuses (endOf l) lists)
+misplaced fuses end (l ∷ lists) =
+    cond (ltb (l .first) end || ltb fuses (endOf l)) (some (l .at)) (misplaced fuses (endOf l) lists)
 
 -- "the start state of all fuses; without it they start at 0"
 abbrev pub startState : Option ℕ → ℕ

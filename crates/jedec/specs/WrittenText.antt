@@ -1,10 +1,12 @@
 -- What the writer writes for an image of so many fuses, by a line pattern: for each L line the widths of its columns.
--- "STX, `*`, LF; `QF`, the count, `*`, LF; `F0*`, LF; the L lines; `C`, four upper-case digits, `*`, LF; ETX and four upper-case digits"
+-- "STX, `*`, LF; `QF`, the count, `*`, LF; `F0*`, LF; the L lines; `C`, four upper-case digits, `*`, LF;
+-- ETX and four upper-case digits"
 use Prim.Native.Nat.{ℕ, zero, suc, _+_, _<_}
 use mathlib.Core.List.{List, [], _∷_, _++_}
 use Rattle.cells.specs.Cells.{total}
 use Rattle.image.specs.Image.{state, sum16}
-use Rattle.jedec.specs.Characters.{stx, etx, lf, space, star, letterC, letterF, letterL, letterQ, decimalDigit, countDigits, sevenDigits, fourHex}
+use Rattle.jedec.specs.Characters.{stx, etx, lf, space, star, letterC, letterF, letterL, letterQ, decimalDigit}
+use Rattle.jedec.specs.Characters.{countDigits, sevenDigits, fourHex}
 
 -- `*`, LF
 abbrev pub lineEnd : List ℕ

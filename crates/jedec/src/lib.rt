@@ -1,5 +1,5 @@
-// JEDEC texts, for any fuse count and any line pattern: STX, ETX and the blanks of a text, which all that read one share.
-// What a text means and what the writer writes is defined in specs/.
+// JEDEC texts, for any fuse count and any line pattern: STX, ETX and the blanks of a text, which all that read one
+// share. What a text means and what the writer writes is defined in specs/.
 ghost use mathlib.Core.Path.{_≡_};
 ghost use Rattle.jedec.specs.Characters.{isBlank};
 

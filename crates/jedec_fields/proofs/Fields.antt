@@ -35,7 +35,8 @@ unfolding pieces untilStar
 pieces-star [] h = absurd (not-suc-le-zero h)
 pieces-star (b ∷ bytes) h = go (eqb b star) refl (pieces-star bytes)
   where
-    go : (t : Bool) → eqb b star ≡ t → (untilStar bytes < length bytes → Cuts bytes (untilStar bytes)) → Cuts (b ∷ bytes) (untilStar (b ∷ bytes))
+    go : (t : Bool) → eqb b star ≡ t → (untilStar bytes < length bytes → Cuts bytes (untilStar bytes))
+        → Cuts (b ∷ bytes) (untilStar (b ∷ bytes))
     go true e shorter = record { ended = rw e; rest = rw e }
     go false e shorter =
         let less : suc (untilStar bytes) < suc (length bytes) = rw e at h in
@@ -120,7 +121,8 @@ at-etx : (at : ℕ) (bytes : List ℕ) → fieldsAt at (3 ∷ bytes) ≡ record 
 unfolding fieldsAt pieces fieldsFrom blanksBefore
 at-etx at bytes = go (pieces bytes .ended) (pieces bytes .rest)
   where
-    go : (ended : List (List ℕ)) (rest : List ℕ) → fieldsFrom at (onFirst 3 ended rest .ended) (onFirst 3 ended rest .rest) ≡ record { fields = []; end = some at }
+    go : (ended : List (List ℕ)) (rest : List ℕ)
+        → fieldsFrom at (onFirst 3 ended rest .ended) (onFirst 3 ended rest .rest) ≡ record { fields = []; end = some at }
     go [] rest = rw (add-zero at)
     go (p ∷ ps) rest = rw (add-zero at)
 
@@ -165,7 +167,8 @@ module _ (text : List ℕ) (at start : ℕ) (e : start ≡ at + blanksBefore (dr
     first-there = drop-cons text start 0 (omega arith)
 
     pub the-end : getD text start 0 ≡ 3 → Stands text at (End start)
-    the-end f = record { cut = sym (from-start ∙ rw (first-there, f) (at-etx start (drop (suc start) text))); inside = omega arith; judged = tt }
+    the-end f =
+        record { cut = sym (from-start ∙ rw (first-there, f) (at-etx start (drop (suc start) text))); inside = omega arith; judged = tt }
 
     no-blank : isBlank (getD text start 0) ≡ false
     no-blank =
@@ -180,18 +183,23 @@ module _ (text : List ℕ) (at start : ℕ) (e : start ≡ at + blanksBefore (dr
       no-star g =
           let u : untilStar (getD text start 0 ∷ drop (suc start) text) ≡ length text - start = rw (← first-there) (omega arith) in
           record {
-            cut = sym (from-start ∙ rw first-there (at-none start (getD text start 0) (drop (suc start) text) no-blank m (omega (arith, long, u))));
+            cut =
+                sym (from-start
+                ∙ rw first-there (at-none start (getD text start 0) (drop (suc start) text) no-blank m (omega (arith, long, u))));
             inside = tt;
             judged = tt;
           }
 
       pub a-field : star ≤ length text → (star ≡ length text → ⊥) → (fs : FieldSays)
-          → Says (drop 1 (take (star - start) (drop start text))) (judge (take (star - start) (drop start text))) fs → Stands text at (Field start star fs)
+          → Says (drop 1 (take (star - start) (drop start text))) (judge (take (star - start) (drop start text))) fs
+          → Stands text at (Field start star fs)
       a-field k g fs j =
           let w : star - start ≡ untilStar (getD text start 0 ∷ drop (suc start) text) = rw (← first-there) (omega arith) in
           let there : start + (star - start) + 1 ≡ star + 1 = omega arith in
           let next : start + (star - start + 1) ≡ star + 1 = omega arith in
-          let beyond : drop (star - start + 1) (drop start text) ≡ drop (star + 1) text = drop-drop (star - start + 1) start text ∙ ap (λ (j : ℕ). drop j text) next in
+          let beyond : drop (star - start + 1) (drop start text) ≡ drop (star + 1) text =
+          drop-drop (star - start + 1) start text ∙ ap (λ (j : ℕ). drop j text) next in
           let field : fieldsAt start (drop start text) ≡ cutOf text (Field start star fs) =
-          rw (← first-there, there, beyond) at (at-field start (getD text start 0) (drop (suc start) text) no-blank m (star - start) w (omega (arith, long))) in
+          rw (← first-there, there, beyond) at (at-field start (getD text start 0) (drop (suc start) text) no-blank m (star - start) w
+          (omega (arith, long))) in
           record { cut = sym (from-start ∙ field); inside = (omega arith, omega arith, omega arith); judged = j }

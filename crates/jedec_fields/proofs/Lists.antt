@@ -34,7 +34,8 @@ use Rattle.jedec_fields.specs.declared.StatesRun.{StatesRun}
 use Rattle.jedec_fields.proofs.Fields.{rest-whole}
 
 -- a byte that is no digit after digits
-digits-wrong : (a c : List ℕ) (x v b : ℕ) → digitsRead 10 decimalValue x a ≡ some v → decimalValue b ≡ none → digitsRead 10 decimalValue x (a ++ (b ∷ c)) ≡ none
+digits-wrong : (a c : List ℕ) (x v b : ℕ) → digitsRead 10 decimalValue x a ≡ some v → decimalValue b ≡ none
+    → digitsRead 10 decimalValue x (a ++ (b ∷ c)) ≡ none
 unfolding digitsRead
 digits-wrong [] c x v b e f = rw f
 digits-wrong (d ∷ a) c x v b e f = go (decimalValue d) e (λ y h. digits-wrong a c (x * 10 + y) v b h f)
@@ -58,7 +59,8 @@ nothing-there : none ≡ numberIn []
 unfolding numberIn
 nothing-there = refl
 
-number-wrong : (a c : List ℕ) (v b : ℕ) → digitsRead 10 decimalValue 0 a ≡ some v → (length a < 7 → decimalValue b ≡ none) → none ≡ numberIn (a ++ (b ∷ c))
+number-wrong : (a c : List ℕ) (v b : ℕ) → digitsRead 10 decimalValue 0 a ≡ some v → (length a < 7 → decimalValue b ≡ none)
+    → none ≡ numberIn (a ++ (b ∷ c))
 number-wrong a c v b e f =
     let long : length (a ++ (b ∷ c)) ≡ length a + suc (length c) = length-append a (b ∷ c) in
     compared 7 (length (a ++ (b ∷ c))) (too-long (a ++ (b ∷ c)))
@@ -71,7 +73,8 @@ module _ (bytes : List ℕ) (d : LeadingDigits) (s : DigitsStand bytes d) where
   pub other-byte : (d .length ≡ length bytes → ⊥) → none ≡ numberIn bytes
   other-byte n =
       let less : d .length < length bytes = omega (arith, s .inside) in
-      number-wrong (take (d .length) bytes) (drop (suc (d .length)) bytes) (d .value) (getD bytes (d .length) 0) (s .reads) (λ m. s .stops less (omega (arith, first-long)))
+      number-wrong (take (d .length) bytes) (drop (suc (d .length)) bytes) (d .value) (getD bytes (d .length) 0) (s .reads)
+      (λ m. s .stops less (omega (arith, first-long)))
       ∙ ap numberIn (sym (split-at bytes (d .length) 0 less))
 
   pub no-number : d .length ≡ 0 → none ≡ numberIn bytes
@@ -83,7 +86,8 @@ module _ (bytes : List ℕ) (d : LeadingDigits) (s : DigitsStand bytes d) where
 
   pub all-digits : (d .length ≡ 0 → ⊥) → d .length ≡ length bytes → some (d .value) ≡ numberIn bytes
   all-digits n e =
-      sym (s .reads) ∙ ap (digitsRead 10 decimalValue 0) (take-all (d .length) bytes (omega arith)) ∙ in-number bytes (omega arith) (omega (arith, s .few))
+      sym (s .reads) ∙ ap (digitsRead 10 decimalValue 0) (take-all (d .length) bytes (omega arith))
+      ∙ in-number bytes (omega arith) (omega (arith, s .few))
 
 -- states that a count speaks of
 some-counted : (o : Option (List ℕ)) (n : ℕ) → some n ≡ statesCount o → (o ≡ some (orEmpty o)) × (length (orEmpty o) ≡ n)
@@ -104,7 +108,8 @@ module _ (bytes : List ℕ) (n i : ℕ) (c : Counts bytes n i) where
   counted : (statesIn (take i bytes) ≡ some (orEmpty (statesIn (take i bytes)))) × (length (orEmpty (statesIn (take i bytes))) ≡ n)
   counted = some-counted (statesIn (take i bytes)) n (sym (c .so-far))
 
-  module _ (count z : ℕ) (l : i < length bytes) (o : (k : ℕ) → Fits w8 (getD bytes k 0)) (there : StatesAt bytes i count) (blank : IsBlankAt bytes (i + count) z) where
+  module _ (count z : ℕ) (l : i < length bytes) (o : (k : ℕ) → Fits w8 (getD bytes k 0)) (there : StatesAt bytes i count)
+      (blank : IsBlankAt bytes (i + count) z) where
     s : StatesTaken bytes i count (count + z)
     s = taken-at bytes i count z l o there blank
 
@@ -114,7 +119,9 @@ module _ (bytes : List ℕ) (n i : ℕ) (c : Counts bytes n i) where
           inside = c .upto;
           few = c .few;
           writes = c .so-far;
-          stops = λ l. rw (← add-one i) (ap statesIn (take-add i 1 bytes) ∙ states-none (take i bytes) (take 1 (drop i bytes)) _ (counted .0) (s .stops none-there));
+          stops =
+              λ l. rw (← add-one i)
+              (ap statesIn (take-add i 1 bytes) ∙ states-none (take i bytes) (take 1 (drop i bytes)) _ (counted .0) (s .stops none-there));
         }
 
     pub counts-inside : i + (count + z) ≤ length bytes
@@ -125,8 +132,10 @@ module _ (bytes : List ℕ) (n i : ℕ) (c : Counts bytes n i) where
         let withFirst = orEmpty (statesIn (take i bytes)) in
         let bits = join (replicate count 1) (drop i bytes) in
         let next = cut (replicate count 1) bits in
-        let all : statesIn (take (i + (count + z)) bytes) ≡ some (withFirst ++ next) = ap statesIn (take-add i (count + z) bytes) ∙ states-append (take i bytes) (take (count + z) (drop i bytes)) withFirst (counted .0) next (s .writes) in
-        let long : length (withFirst ++ next) ≡ n + count = length-append withFirst next ∙ rw (counted .1, cut-length (replicate count 1) bits, length-replicate {A = ℕ} count 1) in
+        let all : statesIn (take (i + (count + z)) bytes) ≡ some (withFirst ++ next) = ap statesIn (take-add i (count + z) bytes)
+        ∙ states-append (take i bytes) (take (count + z) (drop i bytes)) withFirst (counted .0) next (s .writes) in
+        let long : length (withFirst ++ next) ≡ n + count =
+        length-append withFirst next ∙ rw (counted .1, cut-length (replicate count 1) bits, length-replicate {A = ℕ} count 1) in
         record { upto = s .inside; few = omega (arith, c .few); so-far = ap statesCount all ∙ ap some long }
 
   pub counts-end : length bytes ≤ i → RunStands bytes (record { length = i; count = n })
@@ -192,7 +201,10 @@ digits-plain (b ∷ bytes) x n e = go (decimalValue b) refl e (λ y. digits-plai
 states-plain : (bytes states : List ℕ) → statesIn bytes ≡ some states → AllPlain bytes
 unfolding AllPlain statesIn
 states-plain [] states e = tt
-states-plain (b ∷ bytes) states e = (plain b (no 42 refl refl) (no 2 refl refl) (no 3 refl refl), go (isBlank b) (eqb b 48 || eqb b 49) (statesIn bytes) refl e (states-plain bytes))
+states-plain (b ∷ bytes) states e = (
+  plain b (no 42 refl refl) (no 2 refl refl) (no 3 refl refl),
+  go (isBlank b) (eqb b 48 || eqb b 49) (statesIn bytes) refl e (states-plain bytes),
+)
   where
     no : (k : ℕ) → isBlank k ≡ false → (eqb k 48 || eqb k 49) ≡ false → b ≡ k → ⊥
     no k h s f =
@@ -225,7 +237,8 @@ unbroken-past [] t x v e = sym (zero-add (unbroken t))
 unbroken-past (d ∷ a) t x v e = go (decimalValue d) refl e (λ y f. unbroken-past a t (x * 10 + y) v f)
   where
     go : (o : Option ℕ) → decimalValue d ≡ o → andThen o (λ y. digitsRead 10 decimalValue (x * 10 + y) a) ≡ some v
-        → ((y : ℕ) → digitsRead 10 decimalValue (x * 10 + y) a ≡ some v → unbroken (a ++ t) ≡ length a + unbroken t) → cond (isBlank d) 0 (suc (unbroken (a ++ t))) ≡ suc (length a) + unbroken t
+        → ((y : ℕ) → digitsRead 10 decimalValue (x * 10 + y) a ≡ some v → unbroken (a ++ t) ≡ length a + unbroken t)
+        → cond (isBlank d) 0 (suc (unbroken (a ++ t))) ≡ suc (length a) + unbroken t
     go none f g ih = let z : _≡_ {A = ℕ} 0 1 = cc in absurd (omega arith)
     go (some y) f g ih = rw (digit-solid d y f, suc-add (length a) (unbroken t)) (ap suc (ih y g))
 
@@ -251,7 +264,8 @@ no-number-bad [] t b z h = rw h
 no-number-bad (d ∷ a) t b z h = absurd (omega arith)
 
 -- digits that no blank ends, or a blank without digits
-unended-bad : (a : List ℕ) (v k : ℕ) (t : List ℕ) → digitsRead 10 decimalValue 0 a ≡ some v → (length a < 7 → 0 < length t → decimalValue (getD t 0 0) ≡ none)
+unended-bad : (a : List ℕ) (v k : ℕ) (t : List ℕ) → digitsRead 10 decimalValue 0 a ≡ some v
+    → (length a < 7 → 0 < length t → decimalValue (getD t 0 0) ≡ none)
     → (isBlank (getD t 0 0) ≡ true → length a ≡ 0) → listIn (a ++ take k t) ≡ bad
 unfolding unbroken statesIn
 unended-bad a v zero t e f g = list-past a v e [] ∙ no-states-bad (numberIn (a ++ [])) (some []) refl
@@ -282,12 +296,15 @@ module _ (after : List ℕ) (d : LeadingDigits) (s : DigitsStand after d) where
       let a = take (d .length) after in
       let t = drop (d .length) after in
       let field : take (untilStar after) after ≡ a ++ take (untilStar t) t =
-      ap (λ (l : List ℕ). take (untilStar l) l) (sym (take-append-drop (d .length) after)) ∙ plain-field a t (digits-plain a 0 (d .value) (s .reads)) in
+      ap (λ (l : List ℕ). take (untilStar l) l) (sym (take-append-drop (d .length) after))
+      ∙ plain-field a t (digits-plain a 0 (d .value) (s .reads)) in
       record { is-bad = λ h. rw field (unended-bad a (d .value) (untilStar t) t (s .reads) first-wrong (λ b. digits-long ∙ g b)) }
     where
-      first-wrong : length (take (d .length) after) < 7 → 0 < length (drop (d .length) after) → decimalValue (getD (drop (d .length) after) 0 0) ≡ none
+      first-wrong : length (take (d .length) after) < 7 → 0 < length (drop (d .length) after)
+          → decimalValue (getD (drop (d .length) after) 0 0) ≡ none
       first-wrong l m =
-          rw (getD-drop (d .length) after 0 0, add-zero (d .length)) (s .stops (omega (arith, length-drop (d .length) after)) (omega (arith, digits-long)))
+          rw (getD-drop (d .length) after 0 0, add-zero (d .length))
+          (s .stops (omega (arith, length-drop (d .length) after)) (omega (arith, digits-long)))
 
   pub no-digits : d .length ≡ 0 → NoList after
   no-digits z = unended (λ b. z)
@@ -301,7 +318,8 @@ module _ (after : List ℕ) (d : LeadingDigits) (s : DigitsStand after d) where
       where
         go : (cs : List ℕ) → drop (d .length) after ≡ cs → d .length + 1 ≤ length after
         go [] e = absurd (a-blank (at-end .is ∙ rw e))
-        go (b ∷ cs) e = let long : length after - d .length ≡ suc (length cs) = sym (length-drop (d .length) after) ∙ ap length e in omega arith
+        go (b ∷ cs) e =
+            let long : length after - d .length ≡ suc (length cs) = sym (length-drop (d .length) after) ∙ ap length e in omega arith
 
     blank-there : drop (d .length) after ≡ getD after (d .length) 0 ∷ drop (d .length + 1) after
     blank-there = rw (add-one (d .length)) (drop-cons after (d .length) 0 (omega (arith, blank-inside)))
@@ -346,7 +364,8 @@ module _ (after : List ℕ) (d : LeadingDigits) (s : DigitsStand after d) where
       unfolding AllPlain
       parts-plain =
           let b-plain : Plain (getD after (d .length) 0) = blank-plain (getD after (d .length) 0) is-blank in
-          rw parts (all-plain (take (d .length) after) _ (digits-plain (take (d .length) after) 0 (d .value) (s .reads)) (b-plain, states-plain states _ (counted-states .0)))
+          rw parts (all-plain (take (d .length) after) _ (digits-plain (take (d .length) after) 0 (d .value) (s .reads))
+          (b-plain, states-plain states _ (counted-states .0)))
 
       -- what the field says by the bytes behind these
       says-list : (x : List ℕ) → listIn (take long after ++ x) ≡ statesFrom (statesIn (states ++ x)) (d .value)
@@ -355,14 +374,17 @@ module _ (after : List ℕ) (d : LeadingDigits) (s : DigitsStand after d) where
           (list-blank (take (d .length) after) (d .value) (s .reads) (states ++ x) (getD after (d .length) 0) is-blank ∙ rw number)
 
       field-is : take (untilStar after) after ≡ take long after ++ take (untilStar (drop long after)) (drop long after)
-      field-is = ap (λ (l : List ℕ). take (untilStar l) l) (sym (take-append-drop long after)) ∙ plain-field (take long after) (drop long after) parts-plain
+      field-is =
+          ap (λ (l : List ℕ). take (untilStar l) l) (sym (take-append-drop long after))
+          ∙ plain-field (take long after) (drop long after) parts-plain
 
       pub no-star : d .length + 1 + run .length ≡ length after → NoList after
       unfolding untilStar
       no-star e =
           let all : take long after ≡ after = take-all long after (omega arith) in
           let plain-after : AllPlain after = rw all at parts-plain in
-          let until : untilStar after ≡ length after = rw (append-nil after, add-zero (length after)) at (plain-until after [] plain-after) in
+          let until : untilStar after ≡ length after =
+          rw (append-nil after, add-zero (length after)) at (plain-until after [] plain-after) in
           record { is-bad = λ h. absurd (omega arith) }
 
       module _ (more : d .length + 1 + run .length ≡ length after → ⊥) where
@@ -373,15 +395,21 @@ module _ (after : List ℕ) (d : LeadingDigits) (s : DigitsStand after d) where
         unfolding untilStar
         wrong-byte n =
             let b = getD after long 0 in
-            let at-next : run .length < length (drop (d .length + 1) after) = omega (arith, star-inside more, length-drop (d .length + 1) after) in
+            let at-next : run .length < length (drop (d .length + 1) after) =
+            omega (arith, star-inside more, length-drop (d .length + 1) after) in
             let there : getD (drop (d .length + 1) after) (run .length) 0 ≡ b = getD-drop (d .length + 1) after (run .length) 0 in
-            let wrong : statesIn (states ++ (b ∷ [])) ≡ none = rw (take-suc (drop (d .length + 1) after) (run .length) 0 at-next, there) at (runs .stops at-next) in
+            let wrong : statesIn (states ++ (b ∷ [])) ≡ none =
+            rw (take-suc (drop (d .length + 1) after) (run .length) 0 at-next, there) at (runs .stops at-next) in
             record { is-bad = λ h. rw (field-is, next-there, ne-eqb b 42 n) (says-list _ ∙ rw (wrong-then states _ b wrong)) }
 
         pub no-state : getD after (d .length + 1 + run .length) 0 ≡ 42 → run .count ≡ 0 → NoList after
         unfolding untilStar
         no-state star none-there =
-            record { is-bad = λ h. rw (field-is, next-there, star) (says-list [] ∙ rw (append-nil states) (no-states-bad (some (d .value)) (statesIn states) (counted-states .1 ∙ none-there))) }
+            record {
+              is-bad =
+                  λ h. rw (field-is, next-there, star) (says-list []
+                  ∙ rw (append-nil states) (no-states-bad (some (d .value)) (statesIn states) (counted-states .1 ∙ none-there)));
+            }
 
         pub a-good-list : getD after (d .length + 1 + run .length) 0 ≡ 42 → (run .count ≡ 0 → ⊥)
             → ListAt after (d .value) (d .length + 1) (run .count) (d .length + 1 + run .length)
@@ -390,16 +418,22 @@ module _ (after : List ℕ) (d : LeadingDigits) (s : DigitsStand after d) where
             let field-long : length (take long after) ≡ long = length-take-le long after run-inside in
             let split = take (d .length) after ++ (getD after (d .length) 0 ∷ states) in
             let rest : drop (d .length + 1) (take long after) ≡ states =
-            rw parts (ap (λ (k : ℕ). drop (k + 1) split) (sym digits-long) ∙ drop-append-add (take (d .length) after) (getD after (d .length) 0 ∷ states) 1) in
+            rw parts (ap (λ (k : ℕ). drop (k + 1) split) (sym digits-long)
+            ∙ drop-append-add (take (d .length) after) (getD after (d .length) 0 ∷ states) 1) in
             let some-state : length (orEmpty (statesIn states)) ≡ 0 → ⊥ = λ e. n (sym (counted-states .1) ∙ e) in
-            let says : listIn (take long after) ≡ statesFrom (statesIn states) (d .value) = rw (append-nil (take long after), append-nil states) at (says-list []) in
+            let says : listIn (take long after) ≡ statesFrom (statesIn states) (d .value) =
+            rw (append-nil (take long after), append-nil states) at (says-list []) in
             record {
               inside = star-inside more;
-              until = ap untilStar (sym (take-append-drop long after)) ∙ plain-until (take long after) (drop long after) parts-plain ∙ rw (next-there, star, field-long) (add-zero long);
+              until =
+                  ap untilStar (sym (take-append-drop long after)) ∙ plain-until (take long after) (drop long after) parts-plain
+                  ∙ rw (next-there, star, field-long) (add-zero long);
               unmarked = ap holdsMark (sym (append-nil (take long after))) ∙ plain-marks (take long after) [] parts-plain;
               says =
                   record {
-                    is = rw rest (full-list (orEmpty (statesIn states)) (d .value) some-state ∙ sym (says ∙ ap (λ (o : Option (List ℕ)). statesFrom o (d .value)) (counted-states .0)));
+                    is =
+                        rw rest (full-list (orEmpty (statesIn states)) (d .value) some-state
+                        ∙ sym (says ∙ ap (λ (o : Option (List ℕ)). statesFrom o (d .value)) (counted-states .0)));
                     fits =
                         record {
                           inside = omega arith;

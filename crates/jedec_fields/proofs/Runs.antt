@@ -64,7 +64,8 @@ module _ (text : List ℕ) (i all : ℕ) where
   pub star-stops : i + untilStar (drop i text) ≡ all → i < length text → getD text i 0 ≡ 42 → i ≡ all
   star-stops h l e = stops untilStar (λ b. eqb b 42) star-counts text i all h l (eq-eqb (getD text i 0) 42 e)
 
-  pub star-goes : i + untilStar (drop i text) ≡ all → i < length text → (getD text i 0 ≡ 42 → ⊥) → i + 1 + untilStar (drop (i + 1) text) ≡ all
+  pub star-goes : i + untilStar (drop i text) ≡ all → i < length text → (getD text i 0 ≡ 42 → ⊥)
+      → i + 1 + untilStar (drop (i + 1) text) ≡ all
   star-goes h l e = goes untilStar (λ b. eqb b 42) star-counts text i all h l (ne-eqb (getD text i 0) 42 e)
 
   pub star-ends : i + untilStar (drop i text) ≡ all → length text ≤ i → i ≡ all
@@ -89,7 +90,8 @@ pub record IsDigit (k : ℕ) (o : Option ℕ) : Type 0 where
 no-digit : (k : ℕ) → IsDigit k none
 no-digit k = record { none-there = λ h. refl; some-there = λ h. absurd (h refl); below = λ h. absurd (h refl) }
 
-between-digit : (k low high base b : ℕ) (o : Option ℕ) → k ≤ 16 → high + base < low + k → IsDigit k o → IsDigit k (between low high base b o)
+between-digit : (k low high base b : ℕ) (o : Option ℕ) → k ≤ 16 → high + base < low + k → IsDigit k o
+    → IsDigit k (between low high base b o)
 between-digit k low high base b o small fits rest = go (leb low b) (leb b high) refl refl
   where
     go : (t u : Bool) → leb low b ≡ t → leb b high ≡ u → IsDigit k (cond (t && u) (some (b - low + base)) o)
@@ -106,9 +108,11 @@ decimal-digit b = between-digit 10 48 57 0 b none (omega arith) (omega arith) (n
 pub hex-digit : (b : ℕ) → IsDigit 16 (hexValue b)
 hex-digit b =
     between-digit 16 48 57 0 b _ (omega arith) (omega arith)
-    (between-digit 16 65 70 10 b _ (omega arith) (omega arith) (between-digit 16 97 102 10 b none (omega arith) (omega arith) (no-digit 16)))
+    (between-digit 16 65 70 10 b _ (omega arith) (omega arith)
+    (between-digit 16 97 102 10 b none (omega arith) (omega arith) (no-digit 16)))
 
-pub value-between : (low high base b : ℕ) (o : Option ℕ) → cond (leb low b && leb b high) (b - low + base) (valueOr 16 o) ≡ valueOr 16 (between low high base b o)
+pub value-between : (low high base b : ℕ) (o : Option ℕ)
+    → cond (leb low b && leb b high) (b - low + base) (valueOr 16 o) ≡ valueOr 16 (between low high base b o)
 value-between low high base b o = go (leb low b && leb b high)
   where
     go : (t : Bool) → cond t (b - low + base) (valueOr 16 o) ≡ valueOr 16 (cond t (some (b - low + base)) o)
@@ -125,7 +129,8 @@ module _ (base : ℕ) (digit : ℕ → Option ℕ) (bytes : List ℕ) where
   pub reading-starts : Reading base digit bytes 0 0
   reading-starts = record { upto = omega arith; small = rw (pow-zero base) (omega arith); rest = refl }
 
-  module _ (x i y : ℕ) (r : Reading base digit bytes x i) (l : i < length bytes) (d : IsDigit base (digit (getD bytes i 0))) (e : y ≡ valueOr 16 (digit (getD bytes i 0))) where
+  module _ (x i y : ℕ) (r : Reading base digit bytes x i) (l : i < length bytes) (d : IsDigit base (digit (getD bytes i 0)))
+      (e : y ≡ valueOr 16 (digit (getD bytes i 0))) where
     pub reading-goes : (y ≡ 16 → ⊥) → Reading base digit bytes (x * base + y) (i + 1)
     unfolding digitsRead
     reading-goes h =
@@ -157,8 +162,10 @@ digits-snoc base digit [] x b = refl
 digits-snoc base digit (c ∷ a) x b = go (digit c) (λ y. digits-snoc base digit a (x * base + y) b)
   where
     go : (o : Option ℕ)
-        → ((y : ℕ) → digitsRead base digit (x * base + y) (a ++ (b ∷ [])) ≡ andThen (digitsRead base digit (x * base + y) a) (λ v. andThen (digit b) (λ z. some (v * base + z))))
-        → andThen o (λ y. digitsRead base digit (x * base + y) (a ++ (b ∷ []))) ≡ andThen (andThen o (λ y. digitsRead base digit (x * base + y) a)) (λ v. andThen (digit b) (λ z. some (v * base + z)))
+        → ((y : ℕ) → digitsRead base digit (x * base + y) (a ++ (b ∷ []))
+        ≡ andThen (digitsRead base digit (x * base + y) a) (λ v. andThen (digit b) (λ z. some (v * base + z))))
+        → andThen o (λ y. digitsRead base digit (x * base + y) (a ++ (b ∷ [])))
+        ≡ andThen (andThen o (λ y. digitsRead base digit (x * base + y) a)) (λ v. andThen (digit b) (λ z. some (v * base + z)))
     go none ih = refl
     go (some y) ih = ih y
 
@@ -203,12 +210,18 @@ module _ (bytes : List ℕ) (x i : ℕ) (r : Leads bytes x i) where
             inside = omega (arith, here .1);
             few = omega (arith, here .0);
             small = rw (add-one i, pow-suc 10 i) (digits-lt (r .small) less);
-            reads = rw (add-one i, take-suc bytes i 0 (here .1), digits-snoc 10 decimalValue (take i bytes) 0 (getD bytes i 0), r .reads, is);
+            reads =
+                rw (add-one i, take-suc bytes i 0 (here .1), digits-snoc 10 decimalValue (take i bytes) 0 (getD bytes i 0), r .reads, is);
           }
 
       pub leads-stop : y ≡ 16 → DigitsStand bytes (record { value = x; length = i })
       leads-stop h =
-          record { inside = r .inside; few = r .few; reads = r .reads; stops = λ l m. decimal-digit (getD bytes i 0) .none-there (sym e ∙ h) }
+          record {
+            inside = r .inside;
+            few = r .few;
+            reads = r .reads;
+            stops = λ l m. decimal-digit (getD bytes i 0) .none-there (sym e ∙ h);
+          }
 
   pub leads-end : (ltb i 7 && ltb i (length bytes)) ≡ false → DigitsStand bytes (record { value = x; length = i })
   leads-end n =
@@ -229,7 +242,8 @@ module _ (text : List ℕ) (i sum : ℕ) (all : Tail) where
       let to : drop (i + 1) text ≡ drop (suc i) text = ap (λ (k : ℕ). drop k text) (add-one i) in
       rw to (rw (drop-cons text i 0 l, blank) at h)
 
-  pub tail-stops : (t : Bool) → t ≡ isBlank (getD text i 0) → not t ≡ true → i < length text → tailFrom i 0 sum (drop i text) ≡ all → wrong i ≡ all
+  pub tail-stops : (t : Bool) → t ≡ isBlank (getD text i 0) → not t ≡ true → i < length text
+      → tailFrom i 0 sum (drop i text) ≡ all → wrong i ≡ all
   unfolding tailFrom
   tail-stops t e n l h = let solid : isBlank (getD text i 0) ≡ false = sym e ∙ not-true t n in rw (drop-cons text i 0 l, solid) at h
 

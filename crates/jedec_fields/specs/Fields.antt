@@ -1,5 +1,5 @@
--- What the answers about fields say, in the terms of crate `jedec`: numbers, a judged field, where the next field stands, what follows ETX.
--- A field is judged without a list of its states: they are read off its bytes.
+-- What the answers about fields say, in the terms of crate `jedec`: numbers, a judged field, where the next field
+-- stands, what follows ETX. A field is judged without a list of its states: they are read off its bytes.
 use Prim.Native.Nat.{ℕ, suc, _+_, _-_, _≤_, _<_}
 use mathlib.Core.Path.{_≡_}
 use mathlib.Core.Bool.{false, cond}
@@ -54,7 +54,8 @@ orEmpty (some states) = states
 unfoldable pub statesOf : List ℕ → List ℕ
 statesOf bytes = orEmpty (statesIn bytes)
 
--- the first bytes that are 0, 1 and blanks write so many states; with the byte after them, if there is one, they write none
+-- the first bytes that are 0, 1 and blanks write so many states; with the byte after them,
+-- if there is one, they write none
 pub record RunStands (bytes : List ℕ) (r : StatesRun) : Type 0 where
   pub inside : r .length ≤ length bytes
   pub few : r .count ≤ r .length
@@ -118,7 +119,9 @@ ListStands after list-field.Other = NoList after
 abbrev pub cutOf : (text : List ℕ) → NextSays → Cut
 cutOf text (next.Field from to fs) =
     record {
-      fields = (record { start = from; bytes = take (to - from) (drop from text) }) ∷ fieldsAt (to + 1) (drop (to + 1) text) .fields;
+      fields =
+          (record { start = from; bytes = take (to - from) (drop from text) })
+          ∷ fieldsAt (to + 1) (drop (to + 1) text) .fields;
       end = fieldsAt (to + 1) (drop (to + 1) text) .end;
     }
 cutOf text (next.End etx) = record { fields = []; end = some etx }
@@ -132,7 +135,8 @@ Inside text at next.Early = Unit {0}
 
 -- what a field says
 abbrev pub SaysThere : (text : List ℕ) → NextSays → Type 0
-SaysThere text (next.Field from to fs) = Says (drop 1 (take (to - from) (drop from text))) (judge (take (to - from) (drop from text))) fs
+SaysThere text (next.Field from to fs) =
+    Says (drop 1 (take (to - from) (drop from text))) (judge (take (to - from) (drop from text))) fs
 SaysThere text (next.End etx) = Unit {0}
 SaysThere text next.Early = Unit {0}
 

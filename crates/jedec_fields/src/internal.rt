@@ -93,7 +93,8 @@ fn list_field(bytes: &[u8]) -> ListField
     }
 }
 
-// What stands next from an offset on, judged. Most fields of a text are good L fields, and each byte of these is looked at once.
+// What stands next from an offset on, judged. Most fields of a text are good L fields, and each
+// byte of these is looked at once.
 pub fn next_judged(text: &[u8], at: usize) -> NextSays
     requires { ⌜ at ≤ length (now text) ⌝ }
     ensures { λ r. ⌜ Stands (now (text .entry)) at r ⌝ }

@@ -35,7 +35,8 @@ pub struct StatesRun {
     pub count: usize,
 }
 
-// What a field says. Of an L field: its first fuse, how many bytes after the L stand before the states, and how many states there are.
+// What a field says. Of an L field: its first fuse, how many bytes after the L stand before the states,
+// and how many states there are.
 pub enum FieldSays {
     Count(u32),
     Start(u32),
@@ -49,7 +50,8 @@ pub enum FieldSays {
     Bad,
 }
 
-// What stands next in a text: a field up to its `*`, with what it says, the ETX after the fields, or neither, where the text ends early.
+// What stands next in a text: a field up to its `*`, with what it says, the ETX after the fields, or
+// neither, where the text ends early.
 pub enum NextSays {
     Field {
         start: usize,
@@ -60,8 +62,8 @@ pub enum NextSays {
     Early,
 }
 
-// An L field by what follows the L: its first fuse, how many bytes stand before the states, how many states there are, and how many bytes
-// stand before its `*`.
+// An L field by what follows the L: its first fuse, how many bytes stand before the states, how many states there are,
+// and how many bytes stand before its `*`.
 pub enum ListField {
     Good {
         first: u32,

@@ -67,8 +67,10 @@ start-byte fuses s i r l m e f =
     same : (b : ℕ) → b < 8 → within fuses (stateGiven s []) (i * 8 + b) ≡ cond (ltb b r) s 0
     same b h =
         compared (i * 8 + b) fuses
-        (λ less. rw (lt-ltb (i * 8 + b) fuses less) (sym (below-bit s r b (compared fuses (i * 8 + 8) (λ p. omega (arith, f p)) (λ p. omega (arith, e p))))))
-        (λ more. let past : r ≤ b = compared fuses (i * 8 + 8) (λ p. omega (arith, f p)) (λ p. omega arith) in rw (le-ltb (i * 8 + b) fuses more, le-ltb b r past))
+        (λ less. rw (lt-ltb (i * 8 + b) fuses less)
+        (sym (below-bit s r b (compared fuses (i * 8 + 8) (λ p. omega (arith, f p)) (λ p. omega (arith, e p))))))
+        (λ more. let past : r ≤ b = compared fuses (i * 8 + 8) (λ p. omega (arith, f p)) (λ p. omega arith) in
+        rw (le-ltb (i * 8 + b) fuses more, le-ltb b r past))
 
 -- a byte gathered from bits, with one of them put in place
 module _ (h : ℕ → ℕ) (small : (b : ℕ) → h b < 2) (bit s : ℕ) (l : bit < 8) (m : s < 2) where
@@ -93,7 +95,8 @@ module _ (fuses : ℕ) (f : ℕ → ℕ) (small : (k : ℕ) → f k < 2) where
   put-state : (fuse s : ℕ) → fuse < fuses → s < 2 → withFuse (imageWith fuses f) fuse s ≡ imageWith fuses (changed f fuse s)
   unfolding withBit
   put-state fuse s l m =
-      image-is fuses (changed f fuse s) _ (length-set (imageWith fuses f) (fuse / 8) _ ∙ image-length fuses f) (λ i h. byte i h (ℕ-discrete i (fuse / 8)))
+      image-is fuses (changed f fuse s) _ (length-set (imageWith fuses f) (fuse / 8) _ ∙ image-length fuses f)
+      (λ i h. byte i h (ℕ-discrete i (fuse / 8)))
     where
       inside : fuse / 8 < (fuses + 7) / 8
       inside = omega arith
@@ -102,11 +105,18 @@ module _ (fuses : ℕ) (f : ℕ → ℕ) (small : (k : ℕ) → f k < 2) where
           → getD (set (imageWith fuses f) (fuse / 8) (putBit (getD (imageWith fuses f) (fuse / 8) 0) (fuse % 8) s)) i 0
           ≡ gathered (λ b. within fuses (changed f fuse s) (i * 8 + b)) 8
       byte i h (yes e) =
-          rw (e, getD-set-same (imageWith fuses f) (fuse / 8) (putBit (getD (imageWith fuses f) (fuse / 8) 0) (fuse % 8) s) 0 (rw (image-length fuses f) inside), image-at fuses f (fuse / 8) inside)
-          (gathered-put (λ b. within fuses f (fuse / 8 * 8 + b)) (λ b. within-small fuses f small (fuse / 8 * 8 + b)) (fuse % 8) s (omega arith) m
+          rw (
+            e,
+            getD-set-same (imageWith fuses f) (fuse / 8) (putBit (getD (imageWith fuses f) (fuse / 8) 0) (fuse % 8) s) 0
+                (rw (image-length fuses f) inside),
+            image-at fuses f (fuse / 8) inside,
+          )
+          (gathered-put (λ b. within fuses f (fuse / 8 * 8 + b)) (λ b. within-small fuses f small (fuse / 8 * 8 + b))
+          (fuse % 8) s (omega arith) m
           ∙ gathered-same _ _ 8 (λ b lb. here b (ℕ-discrete b (fuse % 8))))
         where
-          here : (b : ℕ) → Dec (b ≡ fuse % 8) → cond (eqb b (fuse % 8)) s (within fuses f (fuse / 8 * 8 + b)) ≡ within fuses (changed f fuse s) (fuse / 8 * 8 + b)
+          here : (b : ℕ) → Dec (b ≡ fuse % 8)
+              → cond (eqb b (fuse % 8)) s (within fuses f (fuse / 8 * 8 + b)) ≡ within fuses (changed f fuse s) (fuse / 8 * 8 + b)
           here b (yes q) =
               let this : fuse / 8 * 8 + b ≡ fuse = omega arith in
               rw (eq-eqb b (fuse % 8) q, this, lt-ltb fuse fuses l, eq-eqb fuse fuse refl)
@@ -134,7 +144,8 @@ changed-small f fuse s small m k = go (eqb k fuse)
     go true = m
     go false = small k
 
-over-more : (f : ℕ → ℕ) (first s : ℕ) (states : List ℕ) (k : ℕ) → over (changed f first s) (first + 1) states k ≡ over f first (s ∷ states) k
+over-more : (f : ℕ → ℕ) (first s : ℕ) (states : List ℕ) (k : ℕ)
+    → over (changed f first s) (first + 1) states k ≡ over f first (s ∷ states) k
 over-more f first s states k =
     compared k first
     (λ l.
@@ -170,13 +181,15 @@ module _ (fuses : ℕ) (l : Listed) where
   last-more end [] = refl
   last-more end (a ∷ lists) = last-more (endOf a) lists
 
-  pub still-misplaced : (end : ℕ) (lists : List Listed) (at : ℕ) → misplaced fuses end lists ≡ some at → misplaced fuses end (lists ++ (l ∷ [])) ≡ some at
+  pub still-misplaced : (end : ℕ) (lists : List Listed) (at : ℕ)
+      → misplaced fuses end lists ≡ some at → misplaced fuses end (lists ++ (l ∷ [])) ≡ some at
   unfolding misplaced
   still-misplaced end [] at e = let z : _≡_ {A = ℕ} 0 1 = cc in absurd (omega arith)
   still-misplaced end (a ∷ lists) at e = go (ltb (a .first) end || ltb fuses (endOf a)) (still-misplaced (endOf a) lists at) e
     where
       go : (t : Bool) → (misplaced fuses (endOf a) lists ≡ some at → misplaced fuses (endOf a) (lists ++ (l ∷ [])) ≡ some at)
-          → cond t (some (a .at)) (misplaced fuses (endOf a) lists) ≡ some at → cond t (some (a .at)) (misplaced fuses (endOf a) (lists ++ (l ∷ []))) ≡ some at
+          → cond t (some (a .at)) (misplaced fuses (endOf a) lists)
+          ≡ some at → cond t (some (a .at)) (misplaced fuses (endOf a) (lists ++ (l ∷ []))) ≡ some at
       go true ih h = h
       go false ih h = ih h
 
@@ -187,9 +200,11 @@ module _ (fuses : ℕ) (l : Listed) where
   now-misplaced end (a ∷ lists) e = go (ltb (a .first) end || ltb fuses (endOf a)) (now-misplaced (endOf a) lists) e
     where
       go : (t : Bool)
-          → (misplaced fuses (endOf a) lists ≡ none → misplaced fuses (endOf a) (lists ++ (l ∷ [])) ≡ cond (ltb (l .first) (lastEnd (endOf a) lists) || ltb fuses (endOf l)) (some (l .at)) none)
+          → (misplaced fuses (endOf a) lists ≡ none → misplaced fuses (endOf a) (lists ++ (l ∷ []))
+          ≡ cond (ltb (l .first) (lastEnd (endOf a) lists) || ltb fuses (endOf l)) (some (l .at)) none)
           → cond t (some (a .at)) (misplaced fuses (endOf a) lists) ≡ none
-          → cond t (some (a .at)) (misplaced fuses (endOf a) (lists ++ (l ∷ []))) ≡ cond (ltb (l .first) (lastEnd (endOf a) lists) || ltb fuses (endOf l)) (some (l .at)) none
+          → cond t (some (a .at)) (misplaced fuses (endOf a) (lists ++ (l ∷ [])))
+          ≡ cond (ltb (l .first) (lastEnd (endOf a) lists) || ltb fuses (endOf l)) (some (l .at)) none
       go true ih h = let z : _≡_ {A = ℕ} 0 1 = cc in absurd (omega arith)
       go false ih h = ih h
 
@@ -200,8 +215,8 @@ ends-rise fuses end (a ∷ lists) e =
     let p = placed fuses end a lists e in
     omega (arith, p .0, ends-rise fuses (endOf a) lists (p .2))
 
-given-more : (fuses from end : ℕ) (l : Listed) (lists : List Listed) → misplaced fuses end lists ≡ none → lastEnd end lists ≤ l .first → (k : ℕ)
-    → over (stateGiven from lists) (l .first) (l .states) k ≡ stateGiven from (lists ++ (l ∷ [])) k
+given-more : (fuses from end : ℕ) (l : Listed) (lists : List Listed) → misplaced fuses end lists ≡ none
+    → lastEnd end lists ≤ l .first → (k : ℕ) → over (stateGiven from lists) (l .first) (l .states) k ≡ stateGiven from (lists ++ (l ∷ [])) k
 unfolding stateGiven lastEnd
 given-more fuses from end l [] e h k = refl
 given-more fuses from end l (a ∷ lists) e h k = go (given-more fuses from (endOf a) l lists (placed fuses end a lists e .2) h k)
@@ -236,15 +251,21 @@ pub put-listed : (fuses from : ℕ) (lists : List Listed) (l : Listed) (image : 
     → misplaced fuses 0 (lists ++ (l ∷ [])) ≡ none → misplaced fuses 0 lists ≡ none
     → Holds fuses from (lists ++ (l ∷ [])) (withStates image (l .first) (l .states))
 put-listed fuses from lists l image h bits e f =
-    let rule : misplaced fuses 0 (lists ++ (l ∷ [])) ≡ cond (ltb (l .first) (lastEnd 0 lists) || ltb fuses (endOf l)) (some (l .at)) none = now-misplaced fuses l 0 lists f in
+    let rule : misplaced fuses 0 (lists ++ (l ∷ [])) ≡ cond (ltb (l .first) (lastEnd 0 lists) || ltb fuses (endOf l)) (some (l .at)) none =
+    now-misplaced fuses l 0 lists f in
     compared (l .first) (lastEnd 0 lists)
-    (λ m. let bad : none ≡ some (l .at) = sym e ∙ rule ∙ rw (lt-ltb (l .first) (lastEnd 0 lists) m) in let z : _≡_ {A = ℕ} 0 1 = cc in absurd (omega arith))
+    (λ m. let bad : none ≡ some (l .at) = sym e ∙ rule ∙ rw (lt-ltb (l .first) (lastEnd 0 lists) m) in
+    let z : _≡_ {A = ℕ} 0 1 = cc in absurd (omega arith))
     (λ g. compared fuses (endOf l)
-    (λ m. let bad : none ≡ some (l .at) = sym e ∙ rule ∙ rw (le-ltb (l .first) (lastEnd 0 lists) g, lt-ltb fuses (endOf l) m) in let z : _≡_ {A = ℕ} 0 1 = cc in absurd (omega arith))
+    (λ m. let bad : none ≡ some (l .at) = sym e ∙ rule ∙ rw (le-ltb (l .first) (lastEnd 0 lists) g, lt-ltb fuses (endOf l) m) in
+    let z : _≡_ {A = ℕ} 0 1 = cc in absurd (omega arith))
     (λ m.
-    let same : (k : ℕ) → over (stateGiven from lists) (l .first) (l .states) k ≡ stateGiven from (lists ++ (l ∷ [])) k = given-more fuses from 0 l lists f g in
+    let same : (k : ℕ) → over (stateGiven from lists) (l .first) (l .states) k ≡ stateGiven from (lists ++ (l ∷ [])) k =
+    given-more fuses from 0 l lists f g in
     record {
-      is = ap (λ (x : List ℕ). withStates x (l .first) (l .states)) (h .is) ∙ put-states fuses (l .states) (stateGiven from lists) (l .first) (h .bits) bits m
+      is =
+          ap (λ (x : List ℕ). withStates x (l .first) (l .states)) (h .is)
+          ∙ put-states fuses (l .states) (stateGiven from lists) (l .first) (h .bits) bits m
           ∙ image-same fuses _ _ (λ k p. same k);
       bits = λ k. rw (← same k) (over-small (stateGiven from lists) (l .first) (l .states) (h .bits) bits k);
     }))

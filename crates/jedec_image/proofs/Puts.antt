@@ -9,7 +9,8 @@ use mathlib.Core.Option.{Option}
 use mathlib.Core.Option.Option.{none, some}
 use Prim.Native.Nat.{ℕ, zero, suc, _+_, _*_, _-_, _/_, _%_, _^_, _≤_, _<_}
 use native.Mathlib.Omega.{arith}
-use native.Mathlib.Nat.{add-mul, mul-assoc, mul-comm, pow-suc, add-comm, add-zero, div-one, mul-one, zero-mul, div-eq-of-lt, zero-add, mod-lt}
+use native.Mathlib.Nat.{add-mul, mul-assoc, mul-comm, pow-suc, add-comm, add-zero, div-one, mul-one, zero-mul, div-eq-of-lt, zero-add}
+use native.Mathlib.Nat.{mod-lt}
 use native.Mathlib.Numerals.{add-one}
 use lib.Arith.{digits-div, digits-mod, digits-lt}
 use lib.Dec.{eqb}
@@ -80,7 +81,8 @@ regrouped q s m low =
     let c : q * (2 * m) ≡ q * (m * 2) = ap (λ (x : ℕ). q * x) (mul-comm 2 m) in
     omega arith
 
-put-low : (old low bit s : ℕ) → low < 2 ^ bit → putBit (old / 2 ^ bit * 2 ^ bit + low) bit s ≡ old / 2 ^ (bit + 1) * 2 ^ (bit + 1) + (low + s * 2 ^ bit)
+put-low : (old low bit s : ℕ) → low < 2 ^ bit
+    → putBit (old / 2 ^ bit * 2 ^ bit + low) bit s ≡ old / 2 ^ (bit + 1) * 2 ^ (bit + 1) + (low + s * 2 ^ bit)
 unfolding putBit
 put-low old l bit s h =
     let p : 2 ^ (bit + 1) ≡ 2 ^ bit * 2 = ap (λ (k : ℕ). 2 ^ k) (add-one bit) ∙ pow-suc 2 bit in
@@ -109,8 +111,10 @@ put-stored image index l h = ap (set image index) (rw (div-eq-of-lt h) (zero-add
 more-low : (low x bit : ℕ) → low + x % 2 ^ 1 * 2 ^ bit + x / 2 ^ 1 * 2 ^ (bit + 1) ≡ low + x * 2 ^ bit
 more-low low x bit =
     let p : 2 ^ (bit + 1) ≡ 2 ^ bit * 2 = ap (λ (k : ℕ). 2 ^ k) (add-one bit) ∙ pow-suc 2 bit in
-    let a : x / 2 ^ 1 * (2 ^ bit * 2) ≡ x / 2 ^ 1 * 2 * 2 ^ bit = ap (λ (y : ℕ). x / 2 ^ 1 * y) (mul-comm (2 ^ bit) 2) ∙ sym (mul-assoc (x / 2 ^ 1) 2 (2 ^ bit)) in
-    let d : (x / 2 ^ 1 * 2 + x % 2 ^ 1) * 2 ^ bit ≡ x / 2 ^ 1 * 2 * 2 ^ bit + x % 2 ^ 1 * 2 ^ bit = add-mul (x / 2 ^ 1 * 2) (x % 2 ^ 1) (2 ^ bit) in
+    let a : x / 2 ^ 1 * (2 ^ bit * 2) ≡ x / 2 ^ 1 * 2 * 2 ^ bit =
+    ap (λ (y : ℕ). x / 2 ^ 1 * y) (mul-comm (2 ^ bit) 2) ∙ sym (mul-assoc (x / 2 ^ 1) 2 (2 ^ bit)) in
+    let d : (x / 2 ^ 1 * 2 + x % 2 ^ 1) * 2 ^ bit ≡ x / 2 ^ 1 * 2 * 2 ^ bit + x % 2 ^ 1 * 2 ^ bit =
+    add-mul (x / 2 ^ 1 * 2) (x % 2 ^ 1) (2 ^ bit) in
     let w : x / 2 ^ 1 * 2 + x % 2 ^ 1 ≡ x = split x 1 in
     rw (p, a) (omega (arith, (rw w at d)))
 
@@ -121,12 +125,15 @@ same-put : (image : List ℕ) (index bit bit′ l l′ at at′ : ℕ) (rest : L
     → withStates (pending image index bit l) at rest ≡ withStates (pending image index bit′ l′) at′ rest
 same-put image index bit bit′ l l′ at at′ rest e f g = rw (e, f, g)
 
-pub put-few : (k : ℕ) (image : List ℕ) (index bit l x : ℕ) (rest : List ℕ) → bit + k ≤ 8 → index * 8 + bit + k ≤ length image * 8 → l < 2 ^ bit → x < 2 ^ k
-    → withStates (pending image index bit l) (index * 8 + bit) (cut (replicate k 1) x ++ rest) ≡ withStates (pending image index (bit + k) (l + x * 2 ^ bit)) (index * 8 + bit + k) rest
+pub put-few : (k : ℕ) (image : List ℕ) (index bit l x : ℕ) (rest : List ℕ) → bit + k ≤ 8 → index * 8 + bit + k ≤ length image * 8
+    → l < 2 ^ bit → x < 2 ^ k
+    → withStates (pending image index bit l) (index * 8 + bit) (cut (replicate k 1) x ++ rest)
+    ≡ withStates (pending image index (bit + k) (l + x * 2 ^ bit)) (index * 8 + bit + k) rest
 unfolding withStates cut
 put-few zero image index bit l x rest h fits under small =
     let z : l ≡ l + x * 2 ^ bit = sym (rw (one-less x small, zero-mul (2 ^ bit)) (add-zero l)) in
-    same-put image index bit (bit + 0) l (l + x * 2 ^ bit) (index * 8 + bit) (index * 8 + bit + 0) rest (sym (add-zero bit)) z (sym (add-zero (index * 8 + bit)))
+    same-put image index bit (bit + 0) l (l + x * 2 ^ bit) (index * 8 + bit) (index * 8 + bit + 0) rest (sym (add-zero bit)) z
+    (sym (add-zero (index * 8 + bit)))
 put-few (suc k) image index bit l x rest h fits under small =
     let inside : index < length image = omega arith in
     let e : bit < 8 = omega arith in
@@ -134,16 +141,21 @@ put-few (suc k) image index bit l x rest h fits under small =
     let half : x / 2 ^ 1 < 2 ^ k = shr-lt k 1 (rw (add-one k) small) in
     let next : bit + 1 + k ≤ 8 = omega arith in
     let room : index * 8 + (bit + 1) + k ≤ length image * 8 = omega arith in
-    ap (λ (p : List ℕ). withStates p (index * 8 + bit + 1) (cut (replicate k 1) (x / 2 ^ 1) ++ rest)) (put-next image index bit l (x % 2 ^ 1) inside e under)
-    ∙ ap (λ (n : ℕ). withStates (pending image index (bit + 1) (l + x % 2 ^ 1 * 2 ^ bit)) n (cut (replicate k 1) (x / 2 ^ 1) ++ rest)) (omega arith)
-    ∙ put-few k image index (bit + 1) (l + x % 2 ^ 1 * 2 ^ bit) (x / 2 ^ 1) rest next room (under-next image index bit l (x % 2 ^ 1) inside e under s) half
-    ∙ same-put image index (bit + 1 + k) (bit + suc k) _ (l + x * 2 ^ bit) (index * 8 + (bit + 1) + k) (index * 8 + bit + suc k) rest (omega arith) (more-low l x bit) (omega arith)
+    ap (λ (p : List ℕ). withStates p (index * 8 + bit + 1) (cut (replicate k 1) (x / 2 ^ 1) ++ rest))
+    (put-next image index bit l (x % 2 ^ 1) inside e under)
+    ∙ ap (λ (n : ℕ). withStates (pending image index (bit + 1) (l + x % 2 ^ 1 * 2 ^ bit)) n (cut (replicate k 1) (x / 2 ^ 1) ++ rest))
+    (omega arith)
+    ∙ put-few k image index (bit + 1) (l + x % 2 ^ 1 * 2 ^ bit) (x / 2 ^ 1) rest next room
+    (under-next image index bit l (x % 2 ^ 1) inside e under s) half
+    ∙ same-put image index (bit + 1 + k) (bit + suc k) _ (l + x * 2 ^ bit) (index * 8 + (bit + 1) + k) (index * 8 + bit + suc k) rest
+    (omega arith) (more-low l x bit) (omega arith)
 
 pub group-under : (l x bit k : ℕ) → l < 2 ^ bit → x < 2 ^ k → l + x * 2 ^ bit < 2 ^ (bit + k)
 group-under l x bit k h g = rw (add-comm l (x * 2 ^ bit), pow-add 2 bit k, mul-comm (2 ^ bit) (2 ^ k)) (digits-lt g h)
 
 -- .. of which some fill the byte, and the others stand in the next
-module _ (image : List ℕ) (index bit l x k : ℕ) (rest : List ℕ) (eight : bit < 8) (few : k ≤ 8) (full : 8 ≤ bit + k) (fits : index * 8 + bit + k ≤ length image * 8) (under : l < 2 ^ bit) (small : x < 2 ^ k) (octet : getD image index 0 < 2 ^ 8) where
+module _ (image : List ℕ) (index bit l x k : ℕ) (rest : List ℕ) (eight : bit < 8) (few : k ≤ 8) (full : 8 ≤ bit + k)
+    (fits : index * 8 + bit + k ≤ length image * 8) (under : l < 2 ^ bit) (small : x < 2 ^ k) (octet : getD image index 0 < 2 ^ 8) where
   into : ℕ
   into = 8 - bit
 
@@ -159,15 +171,19 @@ module _ (image : List ℕ) (index bit l x k : ℕ) (rest : List ℕ) (eight : b
 
   stored-small : stored < 2 ^ 8
   unfolding stored
-  stored-small = subst (λ (n : ℕ). l + x % 2 ^ into * 2 ^ bit < 2 ^ n) in-byte (group-under l (x % 2 ^ into) bit into under (mod-lt x (pow-pos into)))
+  stored-small =
+      subst (λ (n : ℕ). l + x % 2 ^ into * 2 ^ bit < 2 ^ n) in-byte (group-under l (x % 2 ^ into) bit into under (mod-lt x (pow-pos into)))
 
   in-two : l + x * 2 ^ bit ≡ x / 2 ^ into * 2 ^ 8 + stored
   unfolding stored
   in-two =
       let p : 2 ^ 8 ≡ 2 ^ into * 2 ^ bit = ap (λ (n : ℕ). 2 ^ n) (sym in-byte) ∙ pow-add 2 bit into ∙ mul-comm (2 ^ bit) (2 ^ into) in
-      let a : x / 2 ^ into * (2 ^ into * 2 ^ bit) ≡ x / 2 ^ into * 2 ^ into * 2 ^ bit = sym (mul-assoc (x / 2 ^ into) (2 ^ into) (2 ^ bit)) in
-      let d : (x / 2 ^ into * 2 ^ into + x % 2 ^ into) * 2 ^ bit ≡ x / 2 ^ into * 2 ^ into * 2 ^ bit + x % 2 ^ into * 2 ^ bit = add-mul (x / 2 ^ into * 2 ^ into) (x % 2 ^ into) (2 ^ bit) in
-      let w : x * 2 ^ bit ≡ x / 2 ^ into * 2 ^ into * 2 ^ bit + x % 2 ^ into * 2 ^ bit = ap (λ (y : ℕ). y * 2 ^ bit) (sym (split x into)) ∙ d in
+      let a : x / 2 ^ into * (2 ^ into * 2 ^ bit) ≡ x / 2 ^ into * 2 ^ into * 2 ^ bit =
+      sym (mul-assoc (x / 2 ^ into) (2 ^ into) (2 ^ bit)) in
+      let d : (x / 2 ^ into * 2 ^ into + x % 2 ^ into) * 2 ^ bit ≡ x / 2 ^ into * 2 ^ into * 2 ^ bit + x % 2 ^ into * 2 ^ bit =
+      add-mul (x / 2 ^ into * 2 ^ into) (x % 2 ^ into) (2 ^ bit) in
+      let w : x * 2 ^ bit ≡ x / 2 ^ into * 2 ^ into * 2 ^ bit + x % 2 ^ into * 2 ^ bit =
+      ap (λ (y : ℕ). y * 2 ^ bit) (sym (split x into)) ∙ d in
       let q : x / 2 ^ into * 2 ^ 8 ≡ x / 2 ^ into * 2 ^ into * 2 ^ bit = ap (λ (y : ℕ). x / 2 ^ into * y) p ∙ a in
       omega arith
 
@@ -186,10 +202,12 @@ module _ (image : List ℕ) (index bit l x k : ℕ) (rest : List ℕ) (eight : b
       ∙ ap (λ (ws : List ℕ). cut ws x) (sym (replicate-append-replicate into over 1))
       ∙ cut-append (replicate into 1) (replicate over 1) x
       ∙ ap (λ (n : ℕ). cut (replicate into 1) x ++ cut (replicate over 1) (x / 2 ^ n)) bits
-      ∙ ap (λ (ws : List ℕ). ws ++ cut (replicate over 1) (x / 2 ^ into)) (sym (cut-low (replicate into 1) x 0) ∙ ap (λ (n : ℕ). cut (replicate into 1) (x % 2 ^ n)) (zero-add (total (replicate into 1)) ∙ bits))
+      ∙ ap (λ (ws : List ℕ). ws ++ cut (replicate over 1) (x / 2 ^ into)) (sym (cut-low (replicate into 1) x 0)
+      ∙ ap (λ (n : ℕ). cut (replicate into 1) (x % 2 ^ n)) (zero-add (total (replicate into 1)) ∙ bits))
 
   pub put-over : withStates (pending image index bit l) (index * 8 + bit) (cut (replicate k 1) x ++ rest)
-      ≡ withStates (pending (set image index ((l + x * 2 ^ bit) % 2 ^ 8)) (index + 1) (bit + k - 8) ((l + x * 2 ^ bit) / 2 ^ 8)) ((index + 1) * 8 + (bit + k - 8)) rest
+      ≡ withStates (pending (set image index ((l + x * 2 ^ bit) % 2 ^ 8)) (index + 1) (bit + k - 8) ((l + x * 2 ^ bit) / 2 ^ 8))
+      ((index + 1) * 8 + (bit + k - 8)) rest
   unfolding stored into over
   put-over =
       let image′ = set image index stored in
@@ -205,9 +223,11 @@ module _ (image : List ℕ) (index bit l x k : ℕ) (rest : List ℕ) (eight : b
       (ap (λ (n : ℕ). pending image index n stored) in-byte ∙ put-stored image index stored octet ∙ sym (pending-none image′ (index + 1)))
       next
       ∙ put-few over image′ (index + 1) 0 0 (x / 2 ^ into) rest less room′ (omega arith) half
-      ∙ same-put image′ (index + 1) (0 + over) (bit + k - 8) (0 + x / 2 ^ into * 2 ^ 0) ((l + x * 2 ^ bit) / 2 ^ 8) ((index + 1) * 8 + 0 + over) ((index + 1) * 8 + (bit + k - 8)) rest
+      ∙ same-put image′ (index + 1) (0 + over) (bit + k - 8) (0 + x / 2 ^ into * 2 ^ 0) ((l + x * 2 ^ bit) / 2 ^ 8)
+      ((index + 1) * 8 + 0 + over) ((index + 1) * 8 + (bit + k - 8)) rest
       (zero-add over) (zero-add _ ∙ mul-one (x / 2 ^ into) ∙ sym over-is) (omega arith)
-      ∙ ap (λ (b : ℕ). withStates (pending (set image index b) (index + 1) (bit + k - 8) ((l + x * 2 ^ bit) / 2 ^ 8)) ((index + 1) * 8 + (bit + k - 8)) rest) (sym stored-is)
+      ∙ ap (λ (b : ℕ). withStates (pending (set image index b) (index + 1) (bit + k - 8) ((l + x * 2 ^ bit) / 2 ^ 8))
+      ((index + 1) * 8 + (bit + k - 8)) rest) (sym stored-is)
     where
       wide : k ≡ over + into
       wide = omega arith
@@ -219,7 +239,8 @@ module _ (image : List ℕ) (index bit l x k : ℕ) (rest : List ℕ) (eight : b
       less = omega arith
 
 -- the states of bytes of which some are taken
-pub rest-written : (bytes : List ℕ) (i k : ℕ) (states : List ℕ) → WritesStates (drop i bytes) → statesIn (take k (drop i bytes)) ≡ some states
+pub rest-written : (bytes : List ℕ) (i k : ℕ) (states : List ℕ) → WritesStates (drop i bytes)
+    → statesIn (take k (drop i bytes)) ≡ some states
     → (statesOf (drop i bytes) ≡ states ++ statesOf (drop (i + k) bytes)) × WritesStates (drop (i + k) bytes)
 unfolding statesOf
 rest-written bytes i k states w e = rw (← drop-drop k i bytes) (go (statesIn (drop k (drop i bytes))) refl)
@@ -228,14 +249,17 @@ rest-written bytes i k states w e = rw (← drop-drop k i bytes) (go (statesIn (
     whole = take-append-drop k (drop i bytes)
 
     go : (o : Option (List ℕ)) → statesIn (drop k (drop i bytes)) ≡ o
-        → (orEmpty (statesIn (drop i bytes)) ≡ states ++ orEmpty (statesIn (drop k (drop i bytes)))) × (statesIn (drop k (drop i bytes)) ≡ some (orEmpty (statesIn (drop k (drop i bytes)))))
+        → (orEmpty (statesIn (drop i bytes)) ≡ states ++ orEmpty (statesIn (drop k (drop i bytes))))
+        × (statesIn (drop k (drop i bytes)) ≡ some (orEmpty (statesIn (drop k (drop i bytes)))))
     go none f =
-        let bad : statesIn (drop i bytes) ≡ none = ap statesIn (sym whole) ∙ states-none (take k (drop i bytes)) (drop k (drop i bytes)) states e f in
+        let bad : statesIn (drop i bytes) ≡ none =
+        ap statesIn (sym whole) ∙ states-none (take k (drop i bytes)) (drop k (drop i bytes)) states e f in
         let no : none ≡ some _ = sym bad ∙ w in
         let z : _≡_ {A = ℕ} 0 1 = cc in
         absurd (omega arith)
     go (some more) f =
-        let all : statesIn (drop i bytes) ≡ some (states ++ more) = ap statesIn (sym whole) ∙ states-append (take k (drop i bytes)) (drop k (drop i bytes)) states e more f in
+        let all : statesIn (drop i bytes) ≡ some (states ++ more) =
+        ap statesIn (sym whole) ∙ states-append (take k (drop i bytes)) (drop k (drop i bytes)) states e more f in
         (rw (all, f), rw f)
 
 pub none-written : statesOf [] ≡ []

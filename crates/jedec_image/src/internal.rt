@@ -39,10 +39,11 @@ pub fn fill(image: &mut [u8], fuses: u32, state: u32)
     }
 }
 
-// The states that some bytes write, put in place from a fuse on. A byte of the image is stored when its last bit is known, and at the
-// end; until then its new low bits stand in `low`.
+// The states that some bytes write, put in place from a fuse on. A byte of the image is stored when its last bit is
+// known, and at the end; until then its new low bits stand in `low`.
 pub fn put_states(bytes: &[u8], image: &mut [u8], fuse: usize)
-    requires { ⌜ (statesIn (now bytes) ≡ some (statesOf (now bytes))) × (0 < length (statesOf (now bytes))) × (fuse + length (statesOf (now bytes)) ≤ length (now image) * 8) ⌝ }
+    requires { ⌜ (statesIn (now bytes) ≡ some (statesOf (now bytes))) × (0 < length (statesOf (now bytes)))
+        × (fuse + length (statesOf (now bytes)) ≤ length (now image) * 8) ⌝ }
     ensures { λ _. ⌜ now (image .exit) ≡ withStates (now (image .entry)) fuse (statesOf (now (bytes .entry))) ⌝ }
 {
     let mut index = fuse / 8;

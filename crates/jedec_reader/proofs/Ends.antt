@@ -15,7 +15,8 @@ use Rattle.jedec_reader.specs.declared.internal.Seen.{Seen}
 use Rattle.jedec_reader.specs.declared.internal.Seen.the-variants as seen
 use Rattle.jedec_reader.specs.declared.internal.Progress.{Progress}
 
-pub refused-reads : (o : Outcome (List ℕ)) (number value : ℕ) (image : List ℕ) → o ≡ refused number value → TextRead o (refused number value) image
+pub refused-reads : (o : Outcome (List ℕ)) (number value : ℕ) (image : List ℕ) → o ≡ refused number value
+    → TextRead o (refused number value) image
 refused-reads o number value image e =
     record { answers = rw e; holds = λ h. let z : _≡_ {A = ℕ} 0 1 = cc in absurd (omega arith) }
 
@@ -60,5 +61,6 @@ module _ (fuses : ℕ) (text : List ℕ) (etx sum : ℕ) (p : Progress) (image :
             pub nothing-wrong : c ≡ seen.Nothing → Concludes (accepted tt)
             unfolding concluded
             nothing-wrong q k g =
-                let whole : concluded fuses text etx sum k ≡ accepted (finished fuses k) = rw (right-count k g, in-place k g, its-sum k g, u, ← m, q) in
+                let whole : concluded fuses text etx sum k ≡ accepted (finished fuses k) =
+                rw (right-count k g, in-place k g, its-sum k g, u, ← m, q) in
                 record { answers = rw whole; holds = λ h. g .holds (in-place k g) ∙ rw whole }

@@ -38,14 +38,17 @@ in-order fuses p k image rest (says.Sum x) g = rw (g .count, g .sum)
 in-order fuses p k image rest says.Skipped g = refl
 in-order fuses p k image rest says.Bad g = refl
 
-list-room : (fuses end at first number : ℕ) (before : Seen) → misplacedAfter fuses before end at first number ≡ seen.Nothing → first + number ≤ fuses
+list-room : (fuses end at first number : ℕ) (before : Seen) → misplacedAfter fuses before end at first number ≡ seen.Nothing
+    → first + number ≤ fuses
 list-room fuses end at first number (seen.Number x) e = let z : _≡_ {A = ℕ} 0 1 = cc in absurd (omega arith)
 list-room fuses end at first number seen.Nothing e =
     compared fuses (first + number)
-    (λ l. let bad : seen.Number at ≡ seen.Nothing = rw (lt-ltb fuses (first + number) l, or-true) at e in let z : _≡_ {A = ℕ} 0 1 = cc in absurd (omega arith))
+    (λ l. let bad : seen.Number at ≡ seen.Nothing = rw (lt-ltb fuses (first + number) l, or-true) at e in
+    let z : _≡_ {A = ℕ} 0 1 = cc in absurd (omega arith))
     (λ m. m)
 
-pub put-fits : (fuses : ℕ) (p : Progress) (at : ℕ) (rest : List ℕ) (s : FieldSays) → SaysFits rest s → PutFits fuses rest s (afterField fuses p at s .misplaced)
+pub put-fits : (fuses : ℕ) (p : Progress) (at : ℕ) (rest : List ℕ) (s : FieldSays) → SaysFits rest s
+    → PutFits fuses rest s (afterField fuses p at s .misplaced)
 put-fits fuses p at rest (says.Count n) f = tt
 put-fits fuses p at rest (says.Start x) f = f
 put-fits fuses p at rest (says.List first skip number) f =
@@ -71,7 +74,8 @@ module _ (fuses : ℕ) (lists : List Listed) (l : Listed) where
   faulty-after : (s : Seen) (end : ℕ) → end ≡ lastEnd 0 lists → seenOf s ≡ misplaced fuses 0 lists
       → seenOf (misplacedAfter fuses s end (l .at) (l .first) (length (l .states))) ≡ misplaced fuses 0 (lists ++ (l ∷ []))
   faulty-after (seen.Number x) end e f = sym (still-misplaced fuses l 0 lists x (sym f))
-  faulty-after seen.Nothing end e f = rw e (go (ltb (l .first) (lastEnd 0 lists) || ltb fuses (endOf l))) ∙ sym (now-misplaced fuses l 0 lists (sym f))
+  faulty-after seen.Nothing end e f =
+      rw e (go (ltb (l .first) (lastEnd 0 lists) || ltb fuses (endOf l))) ∙ sym (now-misplaced fuses l 0 lists (sym f))
     where
       go : (t : Bool) → seenOf (cond t (seen.Number (l .at)) seen.Nothing) ≡ cond t (some (l .at)) none
       go true = refl
@@ -82,11 +86,15 @@ module _ (fuses : ℕ) (lists : List Listed) (l : Listed) where
     where
       go : (o : Option ℕ) → misplaced fuses 0 lists ≡ o → o ≡ none
       go none f = refl
-      go (some x) f = let bad : some x ≡ none = sym (still-misplaced fuses l 0 lists x f) ∙ e in let z : _≡_ {A = ℕ} 0 1 = cc in absurd (omega arith)
+      go (some x) f =
+          let bad : some x ≡ none = sym (still-misplaced fuses l 0 lists x f) ∙ e in
+          let z : _≡_ {A = ℕ} 0 1 = cc in absurd (omega arith)
 
 module _ (fuses : ℕ) (p : Progress) (k : Known) (image rest : List ℕ) (at : ℕ) (g : ProgressKnows fuses p k image) where
   abbrev After : FieldSays → Type 0
-  After s = ProgressKnows fuses (afterField fuses p at s) (after k at (judgedAfter rest s)) (putField fuses rest s (afterField fuses p at s .misplaced) image)
+  After s =
+      ProgressKnows fuses (afterField fuses p at s) (after k at (judgedAfter rest s))
+      (putField fuses rest s (afterField fuses p at s .misplaced) image)
 
   start-after : (x : ℕ) → x < 2 → inOrder k (judgedAfter rest (says.Start x)) ≡ true → After (says.Start x)
   start-after x f e =
@@ -108,10 +116,12 @@ module _ (fuses : ℕ) (p : Progress) (k : Known) (image rest : List ℕ) (at : 
       let l : Listed = record { at = at; first = first; states = statesOf (drop skip rest) } in
       let faulty : seenOf (misplacedAfter fuses (p .misplaced) (p .end) at first number) ≡ misplaced fuses 0 (k .lists ++ (l ∷ [])) =
       rw (← f .many) (faulty-after fuses (k .lists) l (p .misplaced) (p .end) (g .end) (g .faulty)) in
-      let held : misplaced fuses 0 (k .lists ++ (l ∷ [])) ≡ none → Holds fuses (startState (k .start)) (k .lists ++ (l ∷ [])) (withStates image first (statesOf (drop skip rest))) =
+      let held : misplaced fuses 0 (k .lists ++ (l ∷ [])) ≡ none
+      → Holds fuses (startState (k .start)) (k .lists ++ (l ∷ [])) (withStates image first (statesOf (drop skip rest))) =
       λ m.
       let before : misplaced fuses 0 (k .lists) ≡ none = none-before fuses (k .lists) l m in
-      put-listed fuses (startState (k .start)) (k .lists) l image (record { is = g .holds before; bits = g .bits before }) (written-bits (drop skip rest) (f .found)) m before in
+      put-listed fuses (startState (k .start)) (k .lists) l image (record { is = g .holds before; bits = g .bits before })
+      (written-bits (drop skip rest) (f .found)) m before in
       record {
         count = g .count;
         start = g .start;
@@ -125,11 +135,29 @@ module _ (fuses : ℕ) (p : Progress) (k : Known) (image rest : List ℕ) (at : 
 
   pub given-after : (s : FieldSays) → SaysFits rest s → inOrder k (judgedAfter rest s) ≡ true → After s
   given-after (says.Count n) f e =
-      record { count = refl; start = g .start; listed = g .listed; end = g .end; faulty = g .faulty; sum = g .sum; bits = g .bits; holds = g .holds }
+      record {
+        count = refl;
+        start = g .start;
+        listed = g .listed;
+        end = g .end;
+        faulty = g .faulty;
+        sum = g .sum;
+        bits = g .bits;
+        holds = g .holds;
+      }
   given-after (says.Start x) f e = start-after x f e
   given-after (says.List first skip number) f e = list-after first skip number f
   given-after (says.Sum x) f e =
-      record { count = g .count; start = g .start; listed = g .listed; end = g .end; faulty = g .faulty; sum = refl; bits = g .bits; holds = g .holds }
+      record {
+        count = g .count;
+        start = g .start;
+        listed = g .listed;
+        end = g .end;
+        faulty = g .faulty;
+        sum = refl;
+        bits = g .bits;
+        holds = g .holds;
+      }
   given-after says.Skipped f e = g
   given-after says.Bad f e = g
 

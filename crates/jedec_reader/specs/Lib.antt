@@ -1,4 +1,5 @@
--- The definitions that the contracts of `jedec_reader` cite: Reader has those to believe, Progress what the proofs work with.
+-- The definitions that the contracts of `jedec_reader` cite: Reader has those to believe,
+-- Progress what the proofs work with.
 -- Assumes nothing.
 pub mod Reader
 pub mod Progress

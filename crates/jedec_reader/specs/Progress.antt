@@ -1,5 +1,5 @@
--- What the reader knows after some fields, and what `Known` of crate `jedec` says of it. The reader keeps no list of states: they are put
--- into the image it makes.
+-- What the reader knows after some fields, and what `Known` of crate `jedec` says of it. The reader keeps no list of
+-- states: they are put into the image it makes.
 use Prim.Native.Nat.{ℕ, _+_, _≤_, _<_}
 use mathlib.Core.Path.{_≡_}
 use mathlib.Core.Bool.{Bool, true, false, cond, not, _&&_, _||_}
@@ -43,13 +43,28 @@ mayStand p says.Bad = false
 -- where the first misplaced L starts, after one more
 abbrev pub misplacedAfter : (fuses : ℕ) → Seen → (end at first number : ℕ) → Seen
 misplacedAfter fuses (seen.Number x) end at first number = seen.Number x
-misplacedAfter fuses seen.Nothing end at first number = cond (ltb first end || ltb fuses (first + number)) (seen.Number at) seen.Nothing
+misplacedAfter fuses seen.Nothing end at first number =
+    cond (ltb first end || ltb fuses (first + number)) (seen.Number at) seen.Nothing
 
 abbrev pub withCount : Progress → (at n : ℕ) → Progress
-withCount p at n = record { count = noted.At at n; start = p .start; listed = p .listed; end = p .end; misplaced = p .misplaced; sum = p .sum }
+withCount p at n = record {
+  count = noted.At at n;
+  start = p .start;
+  listed = p .listed;
+  end = p .end;
+  misplaced = p .misplaced;
+  sum = p .sum;
+}
 
 abbrev pub withStart : Progress → (s : ℕ) → Progress
-withStart p s = record { count = p .count; start = seen.Number s; listed = p .listed; end = p .end; misplaced = p .misplaced; sum = p .sum }
+withStart p s = record {
+  count = p .count;
+  start = seen.Number s;
+  listed = p .listed;
+  end = p .end;
+  misplaced = p .misplaced;
+  sum = p .sum;
+}
 
 abbrev pub withList : (fuses : ℕ) → Progress → (at first number : ℕ) → Progress
 withList fuses p at first number =
@@ -63,7 +78,14 @@ withList fuses p at first number =
     }
 
 abbrev pub withSum : Progress → (at x : ℕ) → Progress
-withSum p at x = record { count = p .count; start = p .start; listed = p .listed; end = p .end; misplaced = p .misplaced; sum = noted.At at x }
+withSum p at x = record {
+  count = p .count;
+  start = p .start;
+  listed = p .listed;
+  end = p .end;
+  misplaced = p .misplaced;
+  sum = noted.At at x;
+}
 
 abbrev pub afterField : (fuses : ℕ) → Progress → (at : ℕ) → FieldSays → Progress
 afterField fuses p at (says.Count n) = withCount p at n
@@ -117,7 +139,8 @@ pub record ProgressKnows (fuses : ℕ) (p : Progress) (k : Known) (image : List 
   pub faulty : seenOf (p .misplaced) ≡ misplaced fuses 0 (k .lists)
   pub sum : notedOf (p .sum) ≡ k .sum
   pub bits : misplaced fuses 0 (k .lists) ≡ none → (fuse : ℕ) → stateGiven (startState (k .start)) (k .lists) fuse < 2
-  pub holds : misplaced fuses 0 (k .lists) ≡ none → image ≡ imageWith fuses (stateGiven (startState (k .start)) (k .lists))
+  pub holds : misplaced fuses 0 (k .lists) ≡ none
+      → image ≡ imageWith fuses (stateGiven (startState (k .start)) (k .lists))
 
 -- the answer to a text that means an outcome, and the image made where it is accepted
 pub record TextRead (o : Outcome (List ℕ)) (answer : Outcome (Unit {0})) (image : List ℕ) : Type 0 where

@@ -21,7 +21,8 @@ resultOf (accepted image) = image
 resultOf (refused number value) = []
 
 unfoldable pub toImageFromText : Device → (text target : List ℕ) → Outcome (Unit {0})
-toImageFromText d text target = ifKnown d (ifLength (length target) (imageBytes d) (verdict (meaning (fuseCount d) text)))
+toImageFromText d text target =
+    ifKnown d (ifLength (length target) (imageBytes d) (verdict (meaning (fuseCount d) text)))
 
 unfoldable pub imageIn : Device → (text : List ℕ) → List ℕ
 imageIn d text = resultOf (meaning (fuseCount d) text)

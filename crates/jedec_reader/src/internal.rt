@@ -9,7 +9,9 @@ ghost use Rattle.jedec.specs.Rules.{Known, has, wrongCount, stateGiven, imageWi
 ghost use Rattle.jedec.specs.Meaning.{wrongSum, wrongTransmission, concluded, withEnd, ofCut, meaning};
 ghost use mathlib.Core.Option.Option.{some};
 ghost use Rattle.jedec_fields.specs.Fields.{fieldsAt};
-ghost use Rattle.jedec_reader.specs.Progress.{notedOf, seenOf, mayStand, misplacedAfter, withCount, withStart, withList, withSum, Few, afterField, putField, PutFits, ProgressKnows, TextRead, ReadInto};
+ghost use Rattle.jedec_reader.specs.Progress.{notedOf, seenOf, mayStand, misplacedAfter, withCount, withStart};
+ghost use Rattle.jedec_reader.specs.Progress.{withList, withSum, Few, afterField, putField, PutFits};
+ghost use Rattle.jedec_reader.specs.Progress.{ProgressKnows, TextRead, ReadInto};
 use jedec::STX;
 use jedec_fields::FieldSays;
 use jedec_fields::NextSays;
@@ -29,8 +31,8 @@ pub enum Seen {
     Number(u32),
 }
 
-// What the fields so far gave: QF, the start state, whether there was an L, where the last one ended, where the first misplaced one
-// starts, C.
+// What the fields so far gave: QF, the start state, whether there was an L, where the last one ended, where the
+// first misplaced one starts, C.
 pub struct Progress {
     pub count: Noted,
     pub start: Seen,
@@ -189,7 +191,8 @@ fn after_field(fuses: u32, p: Progress, at: u32, says: FieldSays) -> Progress
 // What a field puts into the image: a start state, or states unless an L is misplaced.
 fn put_field(fuses: u32, field: &[u8], says: FieldSays, misplaced: Seen, image: &mut [u8])
     requires { ⌜ (length (now image) ≡ (fuses + 7) / 8) × PutFits fuses (drop 1 (now field)) says misplaced ⌝ }
-    ensures { λ _. ⌜ now (image .exit) ≡ putField fuses (drop 1 (now (field .entry))) says misplaced (now (image .entry)) ⌝ }
+    ensures { λ _.
+        ⌜ now (image .exit) ≡ putField fuses (drop 1 (now (field .entry))) says misplaced (now (image .entry)) ⌝ }
 {
     match says {
         FieldSays::Start(s) => jedec_image::internal::fill(image, fuses, s),
@@ -264,7 +267,8 @@ fn conclude(
     image: &[u8],
 ) -> DoneAnswer
     requires { ⌜ (etx < length (now text)) × (length (now text) ≤ 1048576) ⌝ }
-    ensures { λ r. ⌜ ((k : Known) → ProgressKnows fuses p k (now (image .entry)) → TextRead (concluded fuses (now (text .entry)) etx given k) (doneOutcome r) (now (image .entry))) ⌝ }
+    ensures { λ r. ⌜ ((k : Known) → ProgressKnows fuses p k (now (image .entry))
+        → TextRead (concluded fuses (now (text .entry)) etx given k) (doneOutcome r) (now (image .entry))) ⌝ }
 {
     let count = p.count;
     let eight = wrong_count(fuses, etx as u32, count);
@@ -290,7 +294,8 @@ fn conclude(
 // From the ETX after the fields on.
 fn finish(fuses: u32, text: &[u8], etx: usize, p: Progress, image: &[u8]) -> DoneAnswer
     requires { ⌜ (etx < length (now text)) × (length (now text) ≤ 1048576) ⌝ }
-    ensures { λ r. ⌜ ((k : Known) → ProgressKnows fuses p k (now (image .entry)) → TextRead (withEnd fuses (now (text .entry)) k (some etx)) (doneOutcome r) (now (image .entry))) ⌝ }
+    ensures { λ r. ⌜ ((k : Known) → ProgressKnows fuses p k (now (image .entry))
+        → TextRead (withEnd fuses (now (text .entry)) k (some etx)) (doneOutcome r) (now (image .entry))) ⌝ }
 {
     let tail = jedec_fields::internal::tail_from(text, etx + 1);
     match tail {
@@ -304,8 +309,10 @@ fn finish(fuses: u32, text: &[u8], etx: usize, p: Progress, image: &[u8]) -> Don
 
 // The fields from an offset on, one after another, and the end.
 fn walk(fuses: u32, text: &[u8], from: usize, image: &mut [u8]) -> DoneAnswer
-    requires { ⌜ (from ≤ length (now text)) × (length (now text) ≤ 1048576) × (now image ≡ imageWith fuses (stateGiven 0 [])) ⌝ }
-    ensures { λ r. ⌜ TextRead (ofCut fuses (now (text .entry)) (fieldsAt from (drop from (now (text .entry))))) (doneOutcome r) (now (image .exit)) ⌝ }
+    requires { ⌜ (from ≤ length (now text)) × (length (now text) ≤ 1048576)
+        × (now image ≡ imageWith fuses (stateGiven 0 [])) ⌝ }
+    ensures { λ r. ⌜ TextRead (ofCut fuses (now (text .entry)) (fieldsAt from (drop from (now (text .entry)))))
+        (doneOutcome r) (now (image .exit)) ⌝ }
 {
     let mut p = Progress {
         count: Noted::Nothing,
@@ -367,7 +374,8 @@ fn read_text(fuses: u32, text: &[u8], image: &mut [u8]) -> DoneAnswer
 // The image of a text, made in `made` and put into `image` only where nothing is refused.
 pub fn read_beside(fuses: u32, text: &[u8], made: &mut [u8], image: &mut [u8]) -> DoneAnswer
     requires { ⌜ (length (now made) ≡ (fuses + 7) / 8) × (length (now image) ≡ (fuses + 7) / 8) ⌝ }
-    ensures { λ r. ⌜ ReadInto (meaning fuses (now (text .entry))) (doneOutcome r) (now (image .entry)) (now (image .exit)) ⌝ }
+    ensures { λ r.
+        ⌜ ReadInto (meaning fuses (now (text .entry))) (doneOutcome r) (now (image .entry)) (now (image .exit)) ⌝ }
 {
     let answer = read_text(fuses, text, made);
     match answer {

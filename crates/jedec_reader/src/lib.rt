@@ -9,10 +9,11 @@ use part::Refusal;
 
 mod internal;
 
-// The image that a text describes, put into `image`. Refused: 1, 2, 7 to 11. The image is made in room of its own for the largest, since a
-// refusal changes no byte.
+// The image that a text describes, put into `image`. Refused: 1, 2, 7 to 11. The image is made in room of its own for
+// the largest, since a refusal changes no byte.
 pub fn text_to_image(d: Device, text: &[u8], image: &mut [u8]) -> DoneAnswer
-    ensures { λ r. ⌜ Written (toImageFromText d (now (text .entry)) (now (image .entry))) (doneOutcome r) (imageIn d (now (text .entry))) (now (image .entry)) (now (image .exit)) ⌝ }
+    ensures { λ r. ⌜ Written (toImageFromText d (now (text .entry)) (now (image .entry))) (doneOutcome r)
+        (imageIn d (now (text .entry))) (now (image .entry)) (now (image .exit)) ⌝ }
 {
     if !part::is_known(d) {
         return DoneAnswer::Refused(Refusal::UnknownDevice);

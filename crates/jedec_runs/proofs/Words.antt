@@ -42,7 +42,8 @@ module _ (k : ℕ) (bytes : List ℕ) where
   unfolding join
   bits-first = low (join (replicate k 1) (drop 1 bytes)) 1 (mod-lt (getD bytes 0 0) (pow-pos 1))
 
-  bits-cut : cut (replicate (suc k) 1) (join (replicate (suc k) 1) bytes) ≡ (getD bytes 0 0 % 2 ^ 1) ∷ cut (replicate k 1) (join (replicate k 1) (drop 1 bytes))
+  bits-cut : cut (replicate (suc k) 1) (join (replicate (suc k) 1) bytes)
+      ≡ (getD bytes 0 0 % 2 ^ 1) ∷ cut (replicate k 1) (join (replicate k 1) (drop 1 bytes))
   unfolding cut
   bits-cut = ap₂ _∷_ bits-first (ap (cut (replicate k 1)) bits-half)
 
@@ -109,8 +110,10 @@ unfolding evens zeros AllStates
 evens-zeros zero bytes e = tt
 evens-zeros (suc k) bytes e =
     let small : getD bytes 0 0 % 2 ^ 8 / 2 * 2 < 2 ^ 8 = omega arith in
-    let rest : evens k (drop 1 bytes) ≡ zeros k = sym (high (evens k (drop 1 bytes)) 8 small) ∙ ap (λ (x : ℕ). x / 2 ^ 8) e ∙ high (zeros k) 8 (omega arith) in
-    let first : getD bytes 0 0 % 2 ^ 8 / 2 * 2 ≡ 48 = sym (low (evens k (drop 1 bytes)) 8 small) ∙ ap (λ (x : ℕ). x % 2 ^ 8) e ∙ low (zeros k) 8 (omega arith) in
+    let rest : evens k (drop 1 bytes) ≡ zeros k =
+    sym (high (evens k (drop 1 bytes)) 8 small) ∙ ap (λ (x : ℕ). x / 2 ^ 8) e ∙ high (zeros k) 8 (omega arith) in
+    let first : getD bytes 0 0 % 2 ^ 8 / 2 * 2 ≡ 48 =
+    sym (low (evens k (drop 1 bytes)) 8 small) ∙ ap (λ (x : ℕ). x % 2 ^ 8) e ∙ low (zeros k) 8 (omega arith) in
     (omega arith, evens-zeros k (drop 1 bytes) rest)
 
 pub no-states : (bytes : List ℕ) → AllStates 0 bytes
@@ -147,8 +150,8 @@ bits-all : allBelow bits-right 256 ≡ true
 unfolding bits-right cut join
 bits-all = refl
 
-pub together : (x word between r : ℕ) → x < 2 ^ 8 → word ≡ join (replicate 8 8) (cut (replicate 8 1) x) → between ≡ (word + word / 2 ^ 28) % 2 ^ 32
-    → r ≡ between * 0x01020408 / 2 ^ 24 % 2 ^ 8 → r ≡ x
+pub together : (x word between r : ℕ) → x < 2 ^ 8 → word ≡ join (replicate 8 8) (cut (replicate 8 1) x)
+    → between ≡ (word + word / 2 ^ 28) % 2 ^ 32 → r ≡ between * 0x01020408 / 2 ^ 24 % 2 ^ 8 → r ≡ x
 unfolding bits-right
 together x word between r h e f g = g ∙ rw (f, e) (eqb-true _ _ (below-all bits-right 256 bits-all x h))
 
@@ -160,7 +163,14 @@ bits-low (suc k) j bytes =
     let e : suc k ≡ k + 1 = omega arith in
     let x = join (replicate (k + j) 1) (drop 1 bytes) in
     let small : getD bytes 0 0 % 2 ^ 1 < 2 ^ 1 = mod-lt (getD bytes 0 0) (pow-pos 1) in
-    rw (suc-add k j, ap (λ (n : ℕ). (x * 2 ^ 1 + getD bytes 0 0 % 2 ^ 1) % 2 ^ n) e, mod-pow-add (x * 2 ^ 1 + getD bytes 0 0 % 2 ^ 1) k 1, high x 1 small, low x 1 small, bits-low k j (drop 1 bytes))
+    rw (
+      suc-add k j,
+      ap (λ (n : ℕ). (x * 2 ^ 1 + getD bytes 0 0 % 2 ^ 1) % 2 ^ n) e,
+      mod-pow-add (x * 2 ^ 1 + getD bytes 0 0 % 2 ^ 1) k 1,
+      high x 1 small,
+      low x 1 small,
+      bits-low k j (drop 1 bytes),
+    )
 
 -- the states that bytes in two parts write
 pub both : Option (List ℕ) → Option (List ℕ) → Option (List ℕ)
@@ -175,9 +185,12 @@ states-both [] c = go (statesIn c)
     go : (o : Option (List ℕ)) → o ≡ both (some []) o
     go none = refl
     go (some ys) = refl
-states-both (b ∷ a) c = ap (λ (o : Option (List ℕ)). cond (isBlank b) o (cond (eqb b 48 || eqb b 49) (andThen o (withFirst (b - 48))) none)) (states-both a c) ∙ go (isBlank b) (eqb b 48 || eqb b 49) (statesIn a) (statesIn c)
+states-both (b ∷ a) c =
+    ap (λ (o : Option (List ℕ)). cond (isBlank b) o (cond (eqb b 48 || eqb b 49) (andThen o (withFirst (b - 48))) none)) (states-both a c)
+    ∙ go (isBlank b) (eqb b 48 || eqb b 49) (statesIn a) (statesIn c)
   where
-    go : (t s : Bool) (o p : Option (List ℕ)) → cond t (both o p) (cond s (andThen (both o p) (withFirst (b - 48))) none) ≡ both (cond t o (cond s (andThen o (withFirst (b - 48))) none)) p
+    go : (t s : Bool) (o p : Option (List ℕ)) → cond t (both o p) (cond s (andThen (both o p) (withFirst (b - 48))) none)
+        ≡ both (cond t o (cond s (andThen o (withFirst (b - 48))) none)) p
     go true s o p = refl
     go false true none p = refl
     go false true (some xs) none = refl
@@ -202,7 +215,8 @@ none-first k bytes e = ap statesIn (sym (take-append-drop k bytes)) ∙ states-b
 abbrev Octets : List ℕ → Type 0
 Octets bytes = (k : ℕ) → getD bytes k 0 < 2 ^ 8
 
-state-first : (b : ℕ) (bytes states : List ℕ) → b / 2 ≡ 24 → statesIn bytes ≡ some states → statesIn (b ∷ bytes) ≡ some ((b % 2 ^ 1) ∷ states)
+state-first : (b : ℕ) (bytes states : List ℕ) → b / 2 ≡ 24 → statesIn bytes ≡ some states
+    → statesIn (b ∷ bytes) ≡ some ((b % 2 ^ 1) ∷ states)
 unfolding statesIn
 state-first b bytes states h e = go (b % 2) refl
   where
@@ -212,9 +226,12 @@ state-first b bytes states h e = go (b % 2) refl
     go (suc (suc r)) f = absurd (omega arith)
 
 state-half : (b : ℕ) → (eqb b 48 || eqb b 49) ≡ true → b / 2 ≡ 24
-state-half b s = either (eqb b 48) (eqb b 49) s (λ e. let v : b ≡ 48 = eqb-true b 48 e in omega arith) (λ e. let v : b ≡ 49 = eqb-true b 49 e in omega arith)
+state-half b s =
+    either (eqb b 48) (eqb b 49) s (λ e. let v : b ≡ 48 = eqb-true b 48 e in omega arith)
+    (λ e. let v : b ≡ 49 = eqb-true b 49 e in omega arith)
 
-states-written : (k : ℕ) (bytes : List ℕ) → k ≤ length bytes → Octets bytes → AllStates k bytes → statesIn (take k bytes) ≡ some (cut (replicate k 1) (join (replicate k 1) bytes))
+states-written : (k : ℕ) (bytes : List ℕ) → k ≤ length bytes → Octets bytes → AllStates k bytes
+    → statesIn (take k bytes) ≡ some (cut (replicate k 1) (join (replicate k 1) bytes))
 unfolding AllStates statesIn cut
 states-written zero bytes l o s = none-taken bytes
   where
@@ -223,7 +240,8 @@ states-written zero bytes l o s = none-taken bytes
 states-written (suc k) [] l o s = absurd (omega arith)
 states-written (suc k) (b ∷ bytes) l o s =
     let half : b / 2 ≡ 24 = (rw (mod-eq-of-lt (o 0)) at (s .0)) in
-    state-first b (take k bytes) _ half (states-written k bytes (omega arith) (λ j. o (suc j)) (s .1)) ∙ ap some (sym (bits-cut k (b ∷ bytes)))
+    state-first b (take k bytes) _ half (states-written k bytes (omega arith) (λ j. o (suc j)) (s .1))
+    ∙ ap some (sym (bits-cut k (b ∷ bytes)))
 
 -- a blank behind them writes nothing
 blank-written : (bytes : List ℕ) → statesIn (take (oneIfBlank bytes) bytes) ≡ some []
@@ -260,23 +278,27 @@ with-blank : (bytes : List ℕ) (at k z : ℕ) (states : List ℕ) → IsBlankAt
 with-blank bytes at k z states b e =
     let behind : drop k (drop at bytes) ≡ drop (at + k) bytes = drop-drop k at bytes in
     let blank : statesIn (take z (drop k (drop at bytes))) ≡ some [] = rw (behind, b .is) (blank-written (drop (at + k) bytes)) in
-    rw (take-add k z (drop at bytes)) (states-append (take k (drop at bytes)) (take z (drop k (drop at bytes))) states e [] blank) ∙ ap some (append-nil states)
+    rw (take-add k z (drop at bytes)) (states-append (take k (drop at bytes)) (take z (drop k (drop at bytes))) states e [] blank)
+    ∙ ap some (append-nil states)
 
 module _ (bytes : List ℕ) (at : ℕ) where
   -- the first of eight bits
   pub bits-by-word : (word whole r count : ℕ) → word ≡ join (replicate 8 8) (drop at bytes) → count ≤ 8
-      → ((x : ℕ) → x < 2 ^ 8 → bitAnd word 0x0101010101010101 ≡ join (replicate 8 8) (cut (replicate 8 1) x) → whole ≡ x) → r ≡ whole % 2 ^ count
-      → r ≡ join (replicate count 1) (drop at bytes)
+      → ((x : ℕ) → x < 2 ^ 8 → bitAnd word 0x0101010101010101 ≡ join (replicate 8 8) (cut (replicate 8 1) x) → whole ≡ x)
+      → r ≡ whole % 2 ^ count → r ≡ join (replicate count 1) (drop at bytes)
   unfolding spread
   bits-by-word word whole r count is few w e =
       let here : whole ≡ join (replicate 8 1) (drop at bytes) =
-      w (join (replicate 8 1) (drop at bytes)) (rw (total-replicate 8 1) at (join-small (replicate 8 1) (drop at bytes))) (and-apart word (drop at bytes) is) in
+      w (join (replicate 8 1) (drop at bytes)) (rw (total-replicate 8 1) at (join-small (replicate 8 1) (drop at bytes)))
+      (and-apart word (drop at bytes) is) in
       let more : count + (8 - count) ≡ 8 = omega arith in
-      e ∙ ap (λ (x : ℕ). x % 2 ^ count) here ∙ ap (λ (n : ℕ). join (replicate n 1) (drop at bytes) % 2 ^ count) (sym more) ∙ bits-low count (8 - count) (drop at bytes)
+      e ∙ ap (λ (x : ℕ). x % 2 ^ count) here ∙ ap (λ (n : ℕ). join (replicate n 1) (drop at bytes) % 2 ^ count) (sym more)
+      ∙ bits-low count (8 - count) (drop at bytes)
 
   pub by-word : (word count : ℕ) → 8 ≤ length bytes - at → word ≡ join (replicate 8 8) (drop at bytes) → count ≤ 8
       → ((cs : List ℕ) → word ≡ join (replicate 8 8) cs → AllStates count cs) → 0 < count → StatesAt bytes at count
-  by-word word count l is few s m = record { inside = omega arith; few = few; states = s (drop at bytes) is; stops = λ z. absurd (omega arith) }
+  by-word word count l is few s m =
+      record { inside = omega arith; few = few; states = s (drop at bytes) is; stops = λ z. absurd (omega arith) }
 
   module _ (l : at < length bytes) (o : (k : ℕ) → Fits w8 (getD bytes k 0)) where
     pub one-state : (eqb (getD bytes at 0) 48 || eqb (getD bytes at 0) 49) ≡ true → StatesAt bytes at 1
@@ -284,7 +306,12 @@ module _ (bytes : List ℕ) (at : ℕ) where
     one-state s =
         let first : getD (drop at bytes) 0 0 ≡ getD bytes at 0 = getD-drop at bytes 0 0 ∙ ap (λ (n : ℕ). getD bytes n 0) (add-zero at) in
         let half : getD bytes at 0 / 2 ≡ 24 = state-half (getD bytes at 0) s in
-        record { inside = omega arith; few = omega arith; states = (rw (first, mod-eq-of-lt (o at .fits)) half, tt); stops = λ z. absurd (omega arith) }
+        record {
+          inside = omega arith;
+          few = omega arith;
+          states = (rw (first, mod-eq-of-lt (o at .fits)) half, tt);
+          stops = λ z. absurd (omega arith);
+        }
 
     pub none-taken : (eqb (getD bytes at 0) 48 || eqb (getD bytes at 0) 49) ≡ false → StatesAt bytes at 0
     none-taken s = record { inside = omega arith; few = omega arith; states = no-states (drop at bytes); stops = λ z. s }
@@ -297,8 +324,8 @@ pub record StatesTaken (bytes : List ℕ) (at count taken : ℕ) : Type 0 where
   pub writes : statesIn (take taken (drop at bytes)) ≡ some (cut (replicate count 1) (join (replicate count 1) (drop at bytes)))
   pub stops : taken ≡ 0 → statesIn (take 1 (drop at bytes)) ≡ none
 
-pub taken-at : (bytes : List ℕ) (at count z : ℕ) → at < length bytes → ((k : ℕ) → Fits w8 (getD bytes k 0)) → StatesAt bytes at count → IsBlankAt bytes (at + count) z
-    → StatesTaken bytes at count (count + z)
+pub taken-at : (bytes : List ℕ) (at count z : ℕ) → at < length bytes → ((k : ℕ) → Fits w8 (getD bytes k 0)) → StatesAt bytes at count
+    → IsBlankAt bytes (at + count) z → StatesTaken bytes at count (count + z)
 unfolding statesIn
 taken-at bytes at count z l o s b =
     let octets : Octets (drop at bytes) = λ k. rw (getD-drop at bytes k 0) (o (at + k) .fits) in
@@ -313,5 +340,9 @@ taken-at bytes at count z l o s b =
           let y : z ≡ 0 = omega arith in
           let here : at + count ≡ at = omega arith in
           let none-blank : oneIfBlank (drop at bytes) ≡ 0 = sym (rw (here, y) at (b .is)) in
-          rw (drop-cons bytes at 0 l, no-blank (drop at bytes) (getD bytes at 0) (drop (suc at) bytes) (drop-cons bytes at 0 l) none-blank, s .stops c);
+          rw (
+            drop-cons bytes at 0 l,
+            no-blank (drop at bytes) (getD bytes at 0) (drop (suc at) bytes) (drop-cons bytes at 0 l) none-blank,
+            s .stops c,
+          );
     }

@@ -16,8 +16,8 @@ const ONES: u64 = 0x0101_0101_0101_0101;
 
 const ZEROS: u64 = 0x3030_3030_3030_3030;
 
-// The lowest bits of eight bytes side by side, for a word of nothing else. Those of the last four bytes are put between those of the
-// first four; a product by 2^3 + 2^10 + 2^17 + 2^24 has the eight from bit 24 on.
+// The lowest bits of eight bytes side by side, for a word of nothing else. Those of the last four bytes are put between
+// those of the first four; a product by 2^3 + 2^10 + 2^17 + 2^24 has the eight from bit 24 on.
 fn lowest_bits(ones: u64) -> u64
     requires { ⌜ ones ≤ 0x0101010101010101 ⌝ }
     ensures { λ r. ⌜ ((x : ℕ) → x < 2 ^ 8 → ones ≡ join (replicate 8 8) (cut (replicate 8 1) x) → r ≡ x) ⌝ }
@@ -26,7 +26,8 @@ fn lowest_bits(ones: u64) -> u64
     low_bits((between * 0x0102_0408) >> 24, 8)
 }
 
-// How many of the first bytes of a word are taken for states at once: 8, 7, 6 or none. Without its lowest bit each is the character 0.
+// How many of the first bytes of a word are taken for states at once: 8, 7, 6 or none. Without its
+// lowest bit each is the character 0.
 fn states_first(word: u64) -> usize
     ensures { λ r. ⌜ (r ≤ 8) × ((bytes : List ℕ) → word ≡ join (replicate 8 8) bytes → AllStates r bytes) ⌝ }
 {
@@ -43,7 +44,8 @@ fn states_first(word: u64) -> usize
     0
 }
 
-// How many states stand at an offset, one next to another: at most eight, and perhaps not all; none only where none stands.
+// How many states stand at an offset, one next to another: at most eight, and perhaps not
+// all; none only where none stands.
 pub fn states_at(bytes: &[u8], at: usize) -> usize
     requires { ⌜ at < length (now bytes) ⌝ }
     ensures { λ r. ⌜ StatesAt (now (bytes .entry)) at r ⌝ }

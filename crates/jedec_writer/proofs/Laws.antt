@@ -58,7 +58,8 @@ wire-and-filled = (omega arith, tt)
 pub each-filled : (d : Device) → NoneEmpty (pattern d)
 unfolding pattern blockLines
 each-filled d =
-    filled-repeat (d .blocks) (blockLines d) (filled-append (repeat 72 (rowLines true)) (repeat (d .blocks * 18) (rowLines false)) (filled-repeat 72 (rowLines true) main-filled) (filled-repeat (d .blocks * 18) (rowLines false) wire-and-filled))
+    filled-repeat (d .blocks) (blockLines d) (filled-append (repeat 72 (rowLines true)) (repeat (d .blocks * 18) (rowLines false))
+    (filled-repeat 72 (rowLines true) main-filled) (filled-repeat (d .blocks * 18) (rowLines false) wire-and-filled))
 
 pub main-fuses : map total (rowLines true) ≡ 40 ∷ 38 ∷ 30 ∷ []
 unfolding rowLines tabulate total
@@ -69,7 +70,8 @@ unfolding rowLines tabulate total
 wire-and-fuses = refl
 
 -- an image of a device, which has no bits past the last fuse
-device-image : (d : Device) (image : List ℕ) → known d ≡ true → length image ≡ imageBytes d → ((i : ℕ) → getD image i 0 < 2 ^ 8) → Image (fuseCount d) image
+device-image : (d : Device) (image : List ℕ) → known d ≡ true → length image ≡ imageBytes d → ((i : ℕ) → getD image i 0 < 2 ^ 8)
+    → Image (fuseCount d) image
 unfolding imageBytes state bitAt
 device-image d image k size bytes =
     record {
@@ -84,11 +86,13 @@ device-image d image k size bytes =
 pub text-few : (d : Device) → known d ≡ true → textBytes d ≤ longest
 unfolding textBytes fuseCount
 text-few d k =
-    by-count (λ n. textBytes (record { blocks = n; class = d .class }) ≤ longest) (omega arith) (omega arith) (omega arith) (omega arith) (omega arith) (omega arith) (d .blocks) (known-count d k)
+    by-count (λ n. textBytes (record { blocks = n; class = d .class }) ≤ longest) (omega arith) (omega arith) (omega arith) (omega arith)
+    (omega arith) (omega arith) (d .blocks) (known-count d k)
 
 pub written-read : (d : Device) (image : List ℕ) → known d ≡ true → length image ≡ imageBytes d → ((i : ℕ) → getD image i 0 < 2 ^ 8)
     → meaning (fuseCount d) (textOf d image) ≡ accepted image
 unfolding textOf
 written-read d image k size bytes =
-    read-back (fuseCount d) (pattern d) image (omega (arith, fuses-small d k)) (device-image d image k size bytes) (totals d) (each-filled d)
+    read-back (fuseCount d) (pattern d) image (omega (arith, fuses-small d k)) (device-image d image k size bytes)
+    (totals d) (each-filled d)
     (rw (text-length d image) (text-few d k))

@@ -34,7 +34,8 @@ unfolding columnsText total
 columns-length image fuse [] = refl
 columns-length image fuse (w ∷ widths) =
     let rest = columnsText image (fuse + w) widths in
-    let e : length (statesText image fuse w ++ rest) ≡ w + (length widths + total widths) = length-append (statesText image fuse w) rest ∙ ap₂ _+_ (states-length image fuse w) (columns-length image (fuse + w) widths) in
+    let e : length (statesText image fuse w ++ rest) ≡ w + (length widths + total widths) =
+    length-append (statesText image fuse w) rest ∙ ap₂ _+_ (states-length image fuse w) (columns-length image (fuse + w) widths) in
     ap suc e ∙ omega arith
 
 start-length : (fuse : ℕ) → length (letterL ∷ sevenDigits fuse) ≡ 8
@@ -44,7 +45,8 @@ line-length : (image : List ℕ) (fuse : ℕ) (widths : List ℕ) → length (li
 line-length image fuse widths =
     let start = letterL ∷ sevenDigits fuse in
     let columns = columnsText image fuse widths in
-    let inner : length (start ++ columns) ≡ 8 + (length widths + total widths) = length-append start columns ∙ ap₂ _+_ (start-length fuse) (columns-length image fuse widths) in
+    let inner : length (start ++ columns) ≡ 8 + (length widths + total widths) =
+    length-append start columns ∙ ap₂ _+_ (start-length fuse) (columns-length image fuse widths) in
     length-append (start ++ columns) lineEnd ∙ ap (λ (n : ℕ). n + 2) inner ∙ omega arith
 
 -- lines in two parts
@@ -53,42 +55,56 @@ lines-append : (image : List ℕ) (lines more : List (List ℕ)) (fuse : ℕ)
 unfolding linesText patternFuses
 lines-append image [] more fuse = ap (λ (f : ℕ). linesText image f more) (sym (add-zero fuse))
 lines-append image (line ∷ lines) more fuse =
-    ap (λ (l : List ℕ). lineText image fuse line ++ l) (lines-append image lines more (fuse + total line) ∙ ap (λ (f : ℕ). linesText image (fuse + total line) lines ++ linesText image f more) (add-assoc fuse (total line) (patternFuses lines)))
+    ap (λ (l : List ℕ). lineText image fuse line ++ l) (lines-append image lines more (fuse + total line) ∙ ap
+    (λ (f : ℕ). linesText image (fuse + total line) lines ++ linesText image f more) (add-assoc fuse (total line) (patternFuses lines)))
     ∙ sym (append-assoc (lineText image fuse line) (linesText image (fuse + total line) lines) _)
 
 pub lines-length : (image : List ℕ) (lines : List (List ℕ)) (fuse : ℕ) → length (linesText image fuse lines) ≡ linesBytes lines
 unfolding linesText linesBytes
 lines-length image [] fuse = refl
 lines-length image (line ∷ lines) fuse =
-    length-append (lineText image fuse line) (linesText image (fuse + total line) lines) ∙ ap₂ _+_ (line-length image fuse line) (lines-length image lines (fuse + total line))
+    length-append (lineText image fuse line) (linesText image (fuse + total line) lines)
+    ∙ ap₂ _+_ (line-length image fuse line) (lines-length image lines (fuse + total line))
 
 pub fuses-append : (lines more : List (List ℕ)) → patternFuses (lines ++ more) ≡ patternFuses lines + patternFuses more
 unfolding patternFuses
 fuses-append [] more = sym (zero-add (patternFuses more))
-fuses-append (line ∷ lines) more = ap (λ (x : ℕ). total line + x) (fuses-append lines more) ∙ sym (add-assoc (total line) (patternFuses lines) (patternFuses more))
+fuses-append (line ∷ lines) more =
+    ap (λ (x : ℕ). total line + x) (fuses-append lines more) ∙ sym (add-assoc (total line) (patternFuses lines) (patternFuses more))
 
 pub bytes-append : (lines more : List (List ℕ)) → linesBytes (lines ++ more) ≡ linesBytes lines + linesBytes more
 unfolding linesBytes
 bytes-append [] more = sym (zero-add (linesBytes more))
-bytes-append (line ∷ lines) more = ap (λ (x : ℕ). lineBytes (length line) (total line) + x) (bytes-append lines more) ∙ sym (add-assoc (lineBytes (length line) (total line)) (linesBytes lines) (linesBytes more))
+bytes-append (line ∷ lines) more =
+    ap (λ (x : ℕ). lineBytes (length line) (total line) + x) (bytes-append lines more)
+    ∙ sym (add-assoc (lineBytes (length line) (total line)) (linesBytes lines) (linesBytes more))
 
 pub fuses-repeat : (k : ℕ) (lines : List (List ℕ)) → patternFuses (repeat k lines) ≡ k * patternFuses lines
 unfolding patternFuses repeat
 fuses-repeat zero lines = sym (zero-mul (patternFuses lines))
 fuses-repeat (suc k) lines =
-    fuses-append lines (repeat k lines) ∙ ap (λ (x : ℕ). patternFuses lines + x) (fuses-repeat k lines) ∙ add-comm (patternFuses lines) (k * patternFuses lines) ∙ sym (suc-mul k (patternFuses lines))
+    fuses-append lines (repeat k lines) ∙ ap (λ (x : ℕ). patternFuses lines + x) (fuses-repeat k lines)
+    ∙ add-comm (patternFuses lines) (k * patternFuses lines) ∙ sym (suc-mul k (patternFuses lines))
 
 pub bytes-repeat : (k : ℕ) (lines : List (List ℕ)) → linesBytes (repeat k lines) ≡ k * linesBytes lines
 unfolding linesBytes repeat
 bytes-repeat zero lines = sym (zero-mul (linesBytes lines))
 bytes-repeat (suc k) lines =
-    bytes-append lines (repeat k lines) ∙ ap (λ (x : ℕ). linesBytes lines + x) (bytes-repeat k lines) ∙ add-comm (linesBytes lines) (k * linesBytes lines) ∙ sym (suc-mul k (linesBytes lines))
+    bytes-append lines (repeat k lines) ∙ ap (λ (x : ℕ). linesBytes lines + x) (bytes-repeat k lines)
+    ∙ add-comm (linesBytes lines) (k * linesBytes lines) ∙ sym (suc-mul k (linesBytes lines))
 
 -- lines stored part by part
 pub lines-sets : (image out : List ℕ) (lines more : List (List ℕ)) (fuse at n t : ℕ) → linesBytes lines ≡ n → patternFuses lines ≡ t
-    → sets (sets out at (linesText image fuse lines)) (at + n) (linesText image (fuse + t) more) ≡ sets out at (linesText image fuse (lines ++ more))
+    → sets (sets out at (linesText image fuse lines)) (at + n) (linesText image (fuse + t) more)
+    ≡ sets out at (linesText image fuse (lines ++ more))
 lines-sets image out lines more fuse at n t e f =
-    sym (rw (lines-append image lines more fuse, sets-append out at (linesText image fuse lines) (linesText image (fuse + patternFuses lines) more), lines-length image lines fuse, e, f))
+    sym (rw (
+      lines-append image lines more fuse,
+      sets-append out at (linesText image fuse lines) (linesText image (fuse + patternFuses lines) more),
+      lines-length image lines fuse,
+      e,
+      f,
+    ))
 
 -- a line: its start, five columns, its end
 end-cut : cut (replicate 2 8) 0x0A2A ≡ lineEnd
@@ -108,8 +124,10 @@ column-length width x = ap suc (bits-length width x) ∙ omega arith
 column-next : {before after next bytes : List ℕ} {at n : ℕ} (here width x : ℕ) → UpTo before after at bytes n → here ≡ at + n → Wide width
     → Stored after next here (columnText width x) → UpTo before next at (bytes ++ columnText width x) (n + (1 + width))
 column-next {before} {after} {next} {bytes} {at} {n} here width x s e h t =
-    let place : here ≡ at + length bytes = e ∙ ap (λ (k : ℕ). at + k) (sym (s .1)) in
-    (stored-next here (s .0) place (omega (arith, column-length width x)) t, length-append bytes (columnText width x) ∙ ap₂ _+_ (s .1) (column-length width x))
+    let place : here ≡ at + length bytes = e ∙ ap (λ (k : ℕ). at + k) (sym (s .1)) in (
+      stored-next here (s .0) place (omega (arith, column-length width x)) t,
+      length-append bytes (columnText width x) ∙ ap₂ _+_ (s .1) (column-length width x),
+    )
 
 pub columns-of : (out s1 s2 s3 s4 s5 : List ℕ) (at a b c d e w : ℕ) → Wide a → Wide b → Wide c → Wide d → Wide e
     → Stored out s1 at (columnText a w)
@@ -125,13 +143,15 @@ columns-of out s1 s2 s3 s4 s5 at a b c d e w ha hb hc hd he t1 t2 t3 t4 t5 =
     let three = column-next (at + (1 + a) + (1 + b)) c (w / 2 ^ a / 2 ^ b) two (omega arith) hc t3 in
     let four = column-next (at + (1 + a) + (1 + b) + (1 + c)) d (w / 2 ^ a / 2 ^ b / 2 ^ c) three (omega arith) hd t4 in
     let five = column-next (at + (1 + a) + (1 + b) + (1 + c) + (1 + d)) e (w / 2 ^ a / 2 ^ b / 2 ^ c / 2 ^ d) four (omega arith) he t5 in
-    subst (Stored out s5 at) (regrouped (columnText a w) (columnText b (w / 2 ^ a)) (columnText c (w / 2 ^ a / 2 ^ b)) (columnText d (w / 2 ^ a / 2 ^ b / 2 ^ c)) (columnText e (w / 2 ^ a / 2 ^ b / 2 ^ c / 2 ^ d))) (five .0)
+    subst (Stored out s5 at) (regrouped (columnText a w) (columnText b (w / 2 ^ a)) (columnText c (w / 2 ^ a / 2 ^ b))
+    (columnText d (w / 2 ^ a / 2 ^ b / 2 ^ c)) (columnText e (w / 2 ^ a / 2 ^ b / 2 ^ c / 2 ^ d))) (five .0)
 
 columns-of-length : (x : ℕ) (widths : List ℕ) → length (columnsOf x widths) ≡ length widths + total widths
 unfolding columnsOf total
 columns-of-length x [] = refl
 columns-of-length x (w ∷ widths) =
-    length-append (columnText w x) (columnsOf (x / 2 ^ w) widths) ∙ ap₂ _+_ (column-length w x) (columns-of-length (x / 2 ^ w) widths) ∙ omega arith
+    length-append (columnText w x) (columnsOf (x / 2 ^ w) widths)
+    ∙ ap₂ _+_ (column-length w x) (columns-of-length (x / 2 ^ w) widths) ∙ omega arith
 
 pub line-of : (image out s0 s1 s2 : List ℕ) (fuse at a b c d e w x : ℕ)
     → ((ws : List ℕ) → total ws ≤ 56 → fuse + total ws ≤ length image * 8 → cut ws w ≡ cut ws (number image / 2 ^ fuse))
@@ -145,14 +165,18 @@ line-of image out s0 s1 s2 fuse at a b c d e w x given fits ha hb hc hd he ex e0
     let widths : List ℕ = a ∷ b ∷ c ∷ d ∷ e ∷ [] in
     let start = letterL ∷ sevenDigits fuse in
     let long : length (columnsOf w widths) ≡ 5 + (a + b + c + d + e) = columns-of-length w widths ∙ omega arith in
-    let begun : Stored out s0 at start = record { more = []; few = omega arith; holds = e0 ∙ rw (ex, start-cut fuse) (ap (sets out at) (sym (append-nil start))) } in
+    let begun : Stored out s0 at start =
+    record { more = []; few = omega arith; holds = e0 ∙ rw (ex, start-cut fuse) (ap (sets out at) (sym (append-nil start))) } in
     let both = stored-next (at + 8) begun (rw (start-length fuse)) (omega arith) t in
-    let place : at + (13 + (a + b + c + d + e)) ≡ at + length (start ++ columnsOf w widths) = rw (length-append start (columnsOf w widths), start-length fuse, long) (omega arith) in
-    let columns : columnsText image fuse widths ≡ columnsOf w widths = columns-bits image widths fuse (omega arith) ∙ sym (columns-same widths w (number image / 2 ^ fuse) (given widths (omega arith) (omega arith))) in
-    stored-last _ s2 lineEnd both place (omega arith) (rw end-cut at e2) ∙ ap (λ (l : List ℕ). sets out at (start ++ l ++ lineEnd)) (sym columns)
+    let place : at + (13 + (a + b + c + d + e)) ≡ at + length (start ++ columnsOf w widths) =
+    rw (length-append start (columnsOf w widths), start-length fuse, long) (omega arith) in
+    let columns : columnsText image fuse widths ≡ columnsOf w widths = columns-bits image widths fuse (omega arith)
+    ∙ sym (columns-same widths w (number image / 2 ^ fuse) (given widths (omega arith) (omega arith))) in
+    stored-last _ s2 lineEnd both place (omega arith) (rw end-cut at e2)
+    ∙ ap (λ (l : List ℕ). sets out at (start ++ l ++ lineEnd)) (sym columns)
 
--- A loop that stores lines `count` times, from a fuse on: what holds when `left` times are still to come. The lines that are left, stored now,
--- give what all give; and there are fuses and room for them.
+-- A loop that stores lines `count` times, from a fuse on: what holds when `left` times are still to come. The lines that are left, stored
+-- now, give what all give; and there are fuses and room for them.
 pub record Left (lines : List (List ℕ)) (image before out : List ℕ) (fuse at count f a left : ℕ) : Type 0 where
   pub fuses-left : f + left * patternFuses lines ≤ length image * 8
   pub bytes-left : a + left * linesBytes lines ≤ length out
@@ -163,7 +187,8 @@ pub begun : (lines : List (List ℕ)) (image out : List ℕ) (fuse at count : �
     → at + count * linesBytes lines ≤ length out → Left lines image out out fuse at count fuse at count
 begun lines image out fuse at count f g = record { fuses-left = f; bytes-left = g; same = refl; rest = refl }
 
-module _ {lines : List (List ℕ)} {image before out : List ℕ} {fuse at count f a left : ℕ} (now : Left lines image before out fuse at count f a left) where
+module _ {lines : List (List ℕ)} {image before out : List ℕ} {fuse at count f a left : ℕ}
+    (now : Left lines image before out fuse at count f a left) where
   pub next-fuses : 0 < left → f + patternFuses lines ≤ length image * 8
   next-fuses h = room left (patternFuses lines) f (length image * 8) h (now .fuses-left) .0
 
@@ -176,7 +201,8 @@ module _ {lines : List (List ℕ)} {image before out : List ℕ} {fuse at count 
   turned next fuses bytes h e1 e2 e3 =
       let more : left ≡ suc (left - 1) = omega arith in
       let kept : length next ≡ length out = ap length e3 ∙ length-sets out a (linesText image f lines) in
-      let all : sets out a (linesText image f (lines ++ repeat (left - 1) lines)) ≡ sets before at (linesText image fuse (repeat count lines)) = rw more at (now .rest) in
+      let all : sets out a (linesText image f (lines ++ repeat (left - 1) lines))
+      ≡ sets before at (linesText image fuse (repeat count lines)) = rw more at (now .rest) in
       record {
         fuses-left = rw e1 (room left (patternFuses lines) f (length image * 8) h (now .fuses-left) .1);
         bytes-left = rw (e2, kept) (room left (linesBytes lines) a (length out) h (now .bytes-left) .1);

@@ -8,7 +8,8 @@ use native.Mathlib.Omega.{arith}
 use lib.ListN.{length, replicate}
 use lib.Seq.{sets}
 use Rattle.cells.specs.Cells.{cut, join, total, repeat, number}
-use Rattle.part.specs.Device.{known, inDevice, mainRows, mainRowText, wireAndRows, wireAndRowText, fuseCount, imageBytes, textBytes, decimalDigits}
+use Rattle.part.specs.Device.{known, inDevice, mainRows, mainRowText, wireAndRows, wireAndRowText, fuseCount, imageBytes, textBytes}
+use Rattle.part.specs.Device.{decimalDigits}
 use Rattle.part.specs.declared.Device.{Device}
 use Rattle.part.proofs.Devices.{by-count, known-count, blocks-small, fuses-small, image-whole}
 use Rattle.image.specs.Bits.{tabulate}
@@ -36,10 +37,13 @@ wire-and-size main e = rw e (refl, refl)
 
 -- the main rows of a block, and a block
 main-rows : (patternFuses (repeat 72 (rowLines true)) ≡ 7776) × (linesBytes (repeat 72 (rowLines true)) ≡ 11016)
-main-rows =
-    (fuses-repeat 72 (rowLines true) ∙ ap (λ (k : ℕ). 72 * k) (main-size true refl .0), bytes-repeat 72 (rowLines true) ∙ ap (λ (k : ℕ). 72 * k) (main-size true refl .1))
+main-rows = (
+  fuses-repeat 72 (rowLines true) ∙ ap (λ (k : ℕ). 72 * k) (main-size true refl .0),
+  bytes-repeat 72 (rowLines true) ∙ ap (λ (k : ℕ). 72 * k) (main-size true refl .1),
+)
 
-pub block-size : (d : Device) → (patternFuses (blockLines d) ≡ 7776 + d .blocks * 648) × (linesBytes (blockLines d) ≡ 11016 + d .blocks * 918)
+pub block-size : (d : Device)
+    → (patternFuses (blockLines d) ≡ 7776 + d .blocks * 648) × (linesBytes (blockLines d) ≡ 11016 + d .blocks * 918)
 unfolding blockLines
 block-size d =
     let w = wire-and-size false refl in
@@ -77,7 +81,8 @@ text-size d = rw (pattern-bytes d, device-bytes d) (omega arith)
 image-size : (d : Device) → known d ≡ true → (8 ≤ imageBytes d) × (imageBytes d ≤ 125000)
 unfolding imageBytes fuseCount
 image-size d k =
-    by-count (λ n. (8 ≤ (n * (7776 + n * 648) + 7) / 8) × ((n * (7776 + n * 648) + 7) / 8 ≤ 125000)) (omega arith) (omega arith) (omega arith) (omega arith) (omega arith) (omega arith) (d .blocks) (known-count d k)
+    by-count (λ n. (8 ≤ (n * (7776 + n * 648) + 7) / 8) × ((n * (7776 + n * 648) + 7) / 8 ≤ 125000)) (omega arith) (omega arith)
+    (omega arith) (omega arith) (omega arith) (omega arith) (d .blocks) (known-count d k)
 
 pub image-word : (d : Device) (image : List ℕ) → known d ≡ true → length image ≡ imageBytes d → 8 ≤ length image
 image-word d image k e = rw e (image-size d k .0)
@@ -91,14 +96,16 @@ count-small d x k e = omega (arith, fuses-small d k)
 pub count-digits : (d : Device) (digits : ℕ) → known d ≡ true → digits ≡ decimalDigits (fuseCount d) → (1 ≤ digits) × (digits ≤ 7)
 unfolding fuseCount
 count-digits d digits k e =
-    rw e (by-count (λ n. (1 ≤ decimalDigits (n * (7776 + n * 648))) × (decimalDigits (n * (7776 + n * 648)) ≤ 7)) (omega arith) (omega arith) (omega arith) (omega arith) (omega arith) (omega arith) (d .blocks) (known-count d k))
+    rw e (by-count (λ n. (1 ≤ decimalDigits (n * (7776 + n * 648))) × (decimalDigits (n * (7776 + n * 648)) ≤ 7)) (omega arith)
+    (omega arith) (omega arith) (omega arith) (omega arith) (omega arith) (d .blocks) (known-count d k))
 
 pub digits-of : (d : Device) (x digits : ℕ) → x ≡ fuseCount d → digits ≡ decimalDigits x → digits ≡ decimalDigits (fuseCount d)
 digits-of d x digits e f = f ∙ ap decimalDigits e
 
 -- the count's digits are the last of its seven
 pub count-cut : (d : Device) → known d ≡ true
-    → cut (replicate (decimalDigits (fuseCount d)) 8) (number (letterL ∷ sevenDigits (fuseCount d)) / 2 ^ (64 - decimalDigits (fuseCount d) * 8)) ≡ countDigits (fuseCount d)
+    → cut (replicate (decimalDigits (fuseCount d)) 8)
+    (number (letterL ∷ sevenDigits (fuseCount d)) / 2 ^ (64 - decimalDigits (fuseCount d) * 8)) ≡ countDigits (fuseCount d)
 unfolding fuseCount number join cut digitsOf
 count-cut d k =
     by-count (λ n.
@@ -113,15 +120,16 @@ pub block-of-rows : (d : Device) (image out one two : List ℕ) (fuse at : ℕ)
     → two ≡ sets out at (linesText image fuse (blockLines d))
 unfolding blockLines
 block-of-rows d image out one two fuse at e1 e2 =
-    e2 ∙ rw e1 (lines-sets image out (repeat 72 (rowLines true)) (repeat (d .blocks * 18) (rowLines false)) fuse at 11016 7776 (main-rows .1) (main-rows .0))
+    e2 ∙ rw e1 (lines-sets image out (repeat 72 (rowLines true)) (repeat (d .blocks * 18) (rowLines false)) fuse at 11016 7776
+    (main-rows .1) (main-rows .0))
 
-pub blocks-begun : (d : Device) (image out : List ℕ) (at : ℕ) → known d ≡ true → length image ≡ imageBytes d → at + linesBytes (pattern d) ≤ length out
-    → Left (blockLines d) image out out 0 at (d .blocks) 0 at (d .blocks)
+pub blocks-begun : (d : Device) (image out : List ℕ) (at : ℕ) → known d ≡ true → length image ≡ imageBytes d
+    → at + linesBytes (pattern d) ≤ length out → Left (blockLines d) image out out 0 at (d .blocks) 0 at (d .blocks)
 blocks-begun d image out at k e f =
     begun (blockLines d) image out 0 at (d .blocks) (omega (arith, device-fuses d, image-whole d k)) (omega (arith, pattern-bytes d))
 
-pub blocks-ended : (d : Device) (image before out : List ℕ) (at f a left : ℕ) → Left (blockLines d) image before out 0 at (d .blocks) f a left → left ≤ 0
-    → out ≡ sets before at (linesText image 0 (pattern d))
+pub blocks-ended : (d : Device) (image before out : List ℕ) (at f a left : ℕ)
+    → Left (blockLines d) image before out 0 at (d .blocks) f a left → left ≤ 0 → out ≡ sets before at (linesText image 0 (pattern d))
 unfolding pattern
 blocks-ended d image before out at f a left now h = ended now h
 
@@ -144,7 +152,8 @@ main-row-of main image out one two three fuse at e e1 e2 e3 =
     rw (e, main-lines)
     (e3
     ∙ rw (e2, e1, ← alone image fuse l1, ← alone image (fuse + 40) l2, ← alone image (fuse + 78) l3)
-    (ap (λ (l : List ℕ). sets l (at + 108) (linesText image (fuse + 78) (l3 ∷ []))) (lines-sets image out (l1 ∷ []) (l2 ∷ []) fuse at 55 40 refl refl)
+    (ap (λ (l : List ℕ). sets l (at + 108) (linesText image (fuse + 78) (l3 ∷ [])))
+    (lines-sets image out (l1 ∷ []) (l2 ∷ []) fuse at 55 40 refl refl)
     ∙ lines-sets image out (l1 ∷ l2 ∷ []) (l3 ∷ []) fuse at 108 78 refl refl))
 
 pub wire-and-row-of : (main : Bool) (image out one : List ℕ) (fuse at : ℕ) → main ≡ false

@@ -50,21 +50,25 @@ count-length x = digits-length 10 decimalDigit (decimalDigits x) x
 hex-length : (x : ℕ) → length (fourHex x) ≡ 4
 hex-length x = digits-length 16 hexDigit 4 x
 
-pub head-of : (d : Device) (out one two three : List ℕ) (digits count seven : ℕ) → known d ≡ true → digits ≡ decimalDigits (fuseCount d) → count ≡ fuseCount d
+pub head-of : (d : Device) (out one two three : List ℕ) (digits count seven : ℕ) → known d ≡ true
+    → digits ≡ decimalDigits (fuseCount d) → count ≡ fuseCount d
     → one ≡ sets out 0 (cut (replicate 5 8) 0x46510A2A02) → seven ≡ number (letterL ∷ sevenDigits count)
     → two ≡ sets one 5 (cut (replicate digits 8) (seven / 2 ^ (64 - digits * 8)))
     → three ≡ sets two (5 + digits) (cut (replicate 6 8) 0x0A2A30460A2A) → three ≡ sets out 0 (headText (fuseCount d))
 head-of d out one two three digits count seven k ed ec e1 es e2 e3 =
     let x = fuseCount d in
     let middle : cut (replicate digits 8) (seven / 2 ^ (64 - digits * 8)) ≡ countDigits x = rw (es, ec, ed) (count-cut d k) in
-    three-parts out one two three (stx ∷ lineEnd ++ letterQ ∷ letterF ∷ []) (countDigits x) (lineEnd ++ letterF ∷ decimalDigit 0 ∷ lineEnd) 0 5 (5 + digits) (rw before-count at e1) (rw middle at e2) (rw after-count at e3) refl (rw (count-length x) (omega arith))
+    three-parts out one two three (stx ∷ lineEnd ++ letterQ ∷ letterF ∷ []) (countDigits x) (lineEnd ++ letterF ∷ decimalDigit 0 ∷ lineEnd)
+    0 5 (5 + digits) (rw before-count at e1) (rw middle at e2) (rw after-count at e3) refl (rw (count-length x) (omega arith))
     ∙ ap (sets out 0) (sym (append-assoc (stx ∷ lineEnd ++ letterQ ∷ letterF ∷ countDigits x) lineEnd (letterF ∷ decimalDigit 0 ∷ lineEnd)))
 
 pub foot-of : (out one two three : List ℕ) (at sum four : ℕ) → one ≡ sets out at (cut (replicate 1 8) 0x43) → four ≡ number (fourHex sum)
-    → two ≡ sets one (at + 1) (cut (replicate 4 8) four) → three ≡ sets two (at + 5) (cut (replicate 3 8) 0x030A2A) → three ≡ sets out at (footText sum)
+    → two ≡ sets one (at + 1) (cut (replicate 4 8) four) → three ≡ sets two (at + 5) (cut (replicate 3 8) 0x030A2A)
+    → three ≡ sets out at (footText sum)
 foot-of out one two three at sum four e1 ef e2 e3 =
     let middle : cut (replicate 4 8) four ≡ fourHex sum = rw ef (hex-cut sum) in
-    three-parts out one two three (letterC ∷ []) (fourHex sum) (lineEnd ++ etx ∷ []) at (at + 1) (at + 5) (rw before-sum at e1) (rw middle at e2) (rw after-sum at e3) refl (rw (hex-length sum) (omega arith))
+    three-parts out one two three (letterC ∷ []) (fourHex sum) (lineEnd ++ etx ∷ []) at (at + 1) (at + 5) (rw before-sum at e1)
+    (rw middle at e2) (rw after-sum at e3) refl (rw (hex-length sum) (omega arith))
     ∙ ap (sets out at) (sym (append-assoc (letterC ∷ fourHex sum) lineEnd (etx ∷ [])))
 
 -- how long each part is
@@ -84,7 +88,8 @@ up-to-length d image =
     let head = headText (fuseCount d) in
     let lines = linesText image 0 (pattern d) in
     length-append (head ++ lines) (footText (sum16 image))
-    ∙ rw (length-append head lines, head-length (fuseCount d), lines-length image (pattern d) 0, foot-length (sum16 image)) (omega (arith, text-size d))
+    ∙ rw (length-append head lines, head-length (fuseCount d), lines-length image (pattern d) 0, foot-length (sum16 image))
+    (omega (arith, text-size d))
 
 pub text-length : (d : Device) (image : List ℕ) → length (textOf d image) ≡ textBytes d
 unfolding textOf textWith
@@ -96,8 +101,10 @@ text-length d image =
 pub stored-first : (out bytes : List ℕ) (n : ℕ) → length bytes ≡ n → n ≤ length out → sets out 0 bytes ≡ bytes ++ drop n out
 stored-first out bytes n e h = sets-eq bytes out 0 (omega arith) ∙ rw (zero-add (length bytes), e)
 
-pub text-of : (d : Device) (image out one two three four : List ℕ) (digits end fuses last hex : ℕ) → textBytes d ≤ length out → digits ≡ decimalDigits (fuseCount d)
-    → end ≡ textBytes d - 4 → fuses ≡ sum16 image → one ≡ sets out 0 (headText (fuseCount d)) → two ≡ sets one (11 + digits) (linesText image 0 (pattern d))
+pub text-of : (d : Device) (image out one two three four : List ℕ) (digits end fuses last hex : ℕ) → textBytes d ≤ length out
+    → digits ≡ decimalDigits (fuseCount d)
+    → end ≡ textBytes d - 4 → fuses ≡ sum16 image → one ≡ sets out 0 (headText (fuseCount d))
+    → two ≡ sets one (11 + digits) (linesText image 0 (pattern d))
     → three ≡ sets two (end - 8) (footText fuses) → last ≡ sum16 (take end three) → hex ≡ number (fourHex last)
     → four ≡ sets three end (cut (replicate 4 8) hex) → four ≡ sets out 0 (textOf d image)
 unfolding upToEtx textOf textWith
@@ -105,7 +112,9 @@ text-of d image out one two three four digits end fuses last hex room ed ee ef e
     let head = headText (fuseCount d) in
     let lines = linesText image 0 (pattern d) in
     let up = upToEtx (fuseCount d) (pattern d) image in
-    let whole : three ≡ sets out 0 up = three-parts out one two three head lines (footText (sum16 image)) 0 (11 + digits) (end - 8) e1 e2 (rw ef at e3) (rw (head-length (fuseCount d), ed) (sym (zero-add _))) (rw (lines-length image (pattern d) 0) (omega (arith, text-size d))) in
+    let whole : three ≡ sets out 0 up =
+    three-parts out one two three head lines (footText (sum16 image)) 0 (11 + digits) (end - 8) e1 e2 (rw ef at e3)
+    (rw (head-length (fuseCount d), ed) (sym (zero-add _))) (rw (lines-length image (pattern d) 0) (omega (arith, text-size d))) in
     let long : length up ≡ end = up-to-length d image ∙ sym ee in
     let first : take end three ≡ up = rw (whole, stored-first out up end long (omega arith)) (take-at up (drop end out) end long) in
     let digits-of : cut (replicate 4 8) hex ≡ fourHex (sum16 up) = rw (eh, hex-cut last, el, first) in
@@ -125,7 +134,8 @@ module _ (d : Device) (image room : List ℕ) where
     pub wrong-length : (length image ≡ x → ⊥) → At (refused 2 0) room
     unfolding toText
     wrong-length h =
-        says (toText d image (length room)) (refused 2 0) (withText d image room) room (checks.other-length (length image) (imageBytes d) _ x ex h ∙ sym (checks.the-device d _ k))
+        says (toText d image (length room)) (refused 2 0) (withText d image room) room
+        (checks.other-length (length image) (imageBytes d) _ x ex h ∙ sym (checks.the-device d _ k))
 
     module _ (hx : length image ≡ x) (y : ℕ) (ey : y ≡ textBytes d) where
       tested : (o : Outcome ℕ) → o ≡ ifKnown d (ifLength (length image) (imageBytes d) o)
@@ -135,11 +145,18 @@ module _ (d : Device) (image room : List ℕ) where
       unfolding toText
       too-short h =
           let short : length room < textBytes d = omega arith in
-          says (toText d image (length room)) (refused 12 y) (withText d image room) room (ap (refused 12) ey ∙ sym (rw (lt-ltb (length room) (textBytes d) short)) ∙ tested _)
+          says (toText d image (length room)) (refused 12 y) (withText d image room) room
+          (ap (refused 12) ey ∙ sym (rw (lt-ltb (length room) (textBytes d) short)) ∙ tested _)
 
       pub all-passed : y ≤ length room → (after : List ℕ) → after ≡ sets room 0 (textOf d image) → At (accepted y) after
       unfolding toText
       all-passed h after f =
           let long : textBytes d ≤ length room = omega arith in
-          let same : accepted y ≡ toText d image (length room) = ap accepted ey ∙ sym (rw (le-ltb (length room) (textBytes d) long)) ∙ tested _ in
-          record { answers = same; holds = f ∙ stored-first room (textOf d image) (textBytes d) (text-length d image) long ∙ ap (λ (o : Outcome ℕ). written o (withText d image room) room) same }
+          let same : accepted y ≡ toText d image (length room) =
+          ap accepted ey ∙ sym (rw (le-ltb (length room) (textBytes d) long)) ∙ tested _ in
+          record {
+            answers = same;
+            holds =
+                f ∙ stored-first room (textOf d image) (textBytes d) (text-length d image) long
+                ∙ ap (λ (o : Outcome ℕ). written o (withText d image room) room) same;
+          }

@@ -42,7 +42,8 @@ cut-number (b ∷ bytes) h =
 -- the characters of a number's low bits
 pub bits-length : (width x : ℕ) → length (bitsText width x) ≡ width
 unfolding bitsText
-bits-length width x = length-map (cut (replicate width 1) x) decimalDigit ∙ cut-length (replicate width 1) x ∙ length-replicate {A = ℕ} width 1
+bits-length width x =
+    length-map (cut (replicate width 1) x) decimalDigit ∙ cut-length (replicate width 1) x ∙ length-replicate {A = ℕ} width 1
 
 pub bits-bytes : (width x : ℕ) → Bytes (bitsText width x)
 unfolding bitsText cut
@@ -60,20 +61,24 @@ pub bits-low : (width more x : ℕ) → bitsText width (x % 2 ^ (more + width)) 
 unfolding bitsText
 bits-low width more x =
     let e : total (replicate width 1) ≡ width = total-replicate width 1 ∙ mul-one width in
-    ap (map decimalDigit) (subst (λ (t : ℕ). cut (replicate width 1) (x % 2 ^ (more + t)) ≡ cut (replicate width 1) x) e (cut-low (replicate width 1) x more))
+    ap (map decimalDigit)
+    (subst (λ (t : ℕ). cut (replicate width 1) (x % 2 ^ (more + t)) ≡ cut (replicate width 1) x) e (cut-low (replicate width 1) x more))
 
 bits-own : (width x : ℕ) → bitsText width (x % 2 ^ width) ≡ bitsText width x
 bits-own width x = subst (λ (t : ℕ). bitsText width (x % 2 ^ t) ≡ bitsText width x) (zero-add width) (bits-low width 0 x)
 
 -- the states of an image's fuses are the bits of its number
-states-bits : (image : List ℕ) (width fuse : ℕ) → fuse + width ≤ length image * 8 → statesText image fuse width ≡ bitsText width (number image / 2 ^ fuse)
+states-bits : (image : List ℕ) (width fuse : ℕ) → fuse + width ≤ length image * 8
+    → statesText image fuse width ≡ bitsText width (number image / 2 ^ fuse)
 unfolding statesText bitsText cut
 states-bits image zero fuse h = refl
 states-bits image (suc width) fuse h =
-    ap₂ _∷_ (ap decimalDigit (sym (number-bit image fuse (omega arith)))) (states-bits image width (fuse + 1) (omega arith) ∙ ap (bitsText width) (sym (shr-shr (number image) fuse 1)))
+    ap₂ _∷_ (ap decimalDigit (sym (number-bit image fuse (omega arith))))
+    (states-bits image width (fuse + 1) (omega arith) ∙ ap (bitsText width) (sym (shr-shr (number image) fuse 1)))
 
 -- the columns of an image are those of its number
-pub columns-bits : (image widths : List ℕ) (fuse : ℕ) → fuse + total widths ≤ length image * 8 → columnsText image fuse widths ≡ columnsOf (number image / 2 ^ fuse) widths
+pub columns-bits : (image widths : List ℕ) (fuse : ℕ) → fuse + total widths ≤ length image * 8
+    → columnsText image fuse widths ≡ columnsOf (number image / 2 ^ fuse) widths
 unfolding columnsText columnsOf total
 columns-bits image [] fuse h = refl
 columns-bits image (w ∷ widths) fuse h =
@@ -87,7 +92,8 @@ columns-same [] x y e = refl
 columns-same (w ∷ widths) x y e =
     let first : x % 2 ^ w ≡ y % 2 ^ w = cc in
     let rest : cut widths (x / 2 ^ w) ≡ cut widths (y / 2 ^ w) = cc in
-    ap₂ (λ (l m : List ℕ). space ∷ l ++ m) (sym (bits-own w x) ∙ ap (bitsText w) first ∙ bits-own w y) (columns-same widths (x / 2 ^ w) (y / 2 ^ w) rest)
+    ap₂ (λ (l m : List ℕ). space ∷ l ++ m) (sym (bits-own w x) ∙ ap (bitsText w) first ∙ bits-own w y)
+    (columns-same widths (x / 2 ^ w) (y / 2 ^ w) rest)
 
 -- the bits of an image from a fuse on, in the eight bytes from an index on
 bits-at : (image : List ℕ) (fuse p s w : ℕ) → w ≡ join (replicate 8 8) (drop p image) → p + 8 ≤ length image → p * 8 + s ≡ fuse
@@ -96,10 +102,12 @@ bits-at image fuse p s w e h f widths g =
     rw e (piece image widths p s 8 h g ∙ ap (λ (t : ℕ). cut widths (number image / 2 ^ t)) f)
 
 pub bits-below : (image : List ℕ) (fuse w : ℕ) → fuse / 8 < length image - 8 → w ≡ join (replicate 8 8) (drop (fuse / 8) image)
-    → (widths : List ℕ) → total widths ≤ 56 → fuse + total widths ≤ length image * 8 → cut widths (w / 2 ^ (fuse % 8)) ≡ cut widths (number image / 2 ^ fuse)
+    → (widths : List ℕ) → total widths ≤ 56 → fuse + total widths ≤ length image * 8
+    → cut widths (w / 2 ^ (fuse % 8)) ≡ cut widths (number image / 2 ^ fuse)
 bits-below image fuse w h e widths few g = bits-at image fuse (fuse / 8) (fuse % 8) w e (omega arith) (omega arith) widths (omega arith)
 
-pub bits-last : (image : List ℕ) (fuse w : ℕ) → 8 ≤ length image → length image - 8 ≤ fuse / 8 → w ≡ join (replicate 8 8) (drop (length image - 8) image)
+pub bits-last : (image : List ℕ) (fuse w : ℕ) → 8 ≤ length image → length image - 8 ≤ fuse / 8
+    → w ≡ join (replicate 8 8) (drop (length image - 8) image)
     → (widths : List ℕ) → total widths ≤ 56 → fuse + total widths ≤ length image * 8
     → cut widths (w / 2 ^ (fuse - (length image - 8) * 8)) ≡ cut widths (number image / 2 ^ fuse)
 bits-last image fuse w enough h e widths few g =
@@ -129,18 +137,20 @@ none-stored : (out : List ℕ) (at word : ℕ) → out ≡ sets out at (cut (rep
 unfolding cut
 none-stored out at word = refl
 
-byte-next : (out l next : List ℕ) (at k word : ℕ) → l ≡ sets out at (cut (replicate k 8) word) → next ≡ set l (at + k) (word / 2 ^ (k * 8) % 2 ^ 8)
-    → next ≡ sets out at (cut (replicate (k + 1) 8) word)
+byte-next : (out l next : List ℕ) (at k word : ℕ) → l ≡ sets out at (cut (replicate k 8) word)
+    → next ≡ set l (at + k) (word / 2 ^ (k * 8) % 2 ^ 8) → next ≡ sets out at (cut (replicate (k + 1) 8) word)
 unfolding cut
 byte-next out l next at k word e f =
     f
     ∙ rw e (cut-sets out (replicate k 8) (replicate 1 8) at word k (k * 8) (length-replicate {A = ℕ} k 8) (total-replicate k 8))
     ∙ ap (λ (ws : List ℕ). sets out at (cut ws word)) (replicate-append-replicate k 1 8)
 
-pub bytes-of : (out a b c d e f g h : List ℕ) (at word : ℕ) → a ≡ set out (at + 0) (word / 2 ^ (0 * 8) % 2 ^ 8) → b ≡ set a (at + 1) (word / 2 ^ (1 * 8) % 2 ^ 8)
-    → c ≡ set b (at + 2) (word / 2 ^ (2 * 8) % 2 ^ 8) → d ≡ set c (at + 3) (word / 2 ^ (3 * 8) % 2 ^ 8) → e ≡ set d (at + 4) (word / 2 ^ (4 * 8) % 2 ^ 8)
-    → f ≡ set e (at + 5) (word / 2 ^ (5 * 8) % 2 ^ 8) → g ≡ set f (at + 6) (word / 2 ^ (6 * 8) % 2 ^ 8) → h ≡ set g (at + 7) (word / 2 ^ (7 * 8) % 2 ^ 8)
-    → h ≡ sets out at (cut (replicate 8 8) word)
+pub bytes-of : (out a b c d e f g h : List ℕ) (at word : ℕ) → a ≡ set out (at + 0) (word / 2 ^ (0 * 8) % 2 ^ 8)
+    → b ≡ set a (at + 1) (word / 2 ^ (1 * 8) % 2 ^ 8)
+    → c ≡ set b (at + 2) (word / 2 ^ (2 * 8) % 2 ^ 8) → d ≡ set c (at + 3) (word / 2 ^ (3 * 8) % 2 ^ 8)
+    → e ≡ set d (at + 4) (word / 2 ^ (4 * 8) % 2 ^ 8)
+    → f ≡ set e (at + 5) (word / 2 ^ (5 * 8) % 2 ^ 8) → g ≡ set f (at + 6) (word / 2 ^ (6 * 8) % 2 ^ 8)
+    → h ≡ set g (at + 7) (word / 2 ^ (7 * 8) % 2 ^ 8) → h ≡ sets out at (cut (replicate 8 8) word)
 bytes-of out a b c d e f g h at word ea eb ec ed ee ef eg eh =
     let one = byte-next out out a at 0 word (none-stored out at word) ea in
     let two = byte-next out a b at 1 word one eb in
@@ -156,20 +166,23 @@ pub three-parts : (out one two three a b c : List ℕ) (at p q : ℕ) → one �
     → p ≡ at + length a → q ≡ p + length b → three ≡ sets out at (a ++ b ++ c)
 three-parts out one two three a b c at p q e1 e2 e3 ep eq =
     let place : q ≡ at + length (a ++ b) = omega (arith, length-append a b) in
-    e3 ∙ rw (e2, e1, place, ep) (sym (sets-append out at (a ++ b) c ∙ ap (λ (l : List ℕ). sets l (at + length (a ++ b)) c) (sets-append out at a b)))
+    e3 ∙ rw (e2, e1, place, ep)
+    (sym (sets-append out at (a ++ b) c ∙ ap (λ (l : List ℕ). sets l (at + length (a ++ b)) c) (sets-append out at a b)))
 
 -- some bytes stored, and then the bytes behind them; the last ones leave nothing behind them
-pub stored-next : {before after next bytes new : List ℕ} {at : ℕ} (here : ℕ) → Stored before after at bytes → here ≡ at + length bytes → 2 ≤ length new
-    → Stored after next here new → Stored before next at (bytes ++ new)
+pub stored-next : {before after next bytes new : List ℕ} {at : ℕ} (here : ℕ) → Stored before after at bytes
+    → here ≡ at + length bytes → 2 ≤ length new → Stored after next here new → Stored before next at (bytes ++ new)
 stored-next {before} {after} {next} {bytes} {new} {at} here s e h t =
     let enough : length (s .more) ≤ length (new ++ t .more) = omega (arith, s .few, length-append new (t .more)) in
     record {
       more = t .more;
       few = t .few;
-      holds = t .holds ∙ rw (s .holds) (over before bytes (s .more) (new ++ t .more) at here e enough ∙ ap (sets before at) (sym (append-assoc bytes new (t .more))));
+      holds =
+          t .holds ∙ rw (s .holds)
+          (over before bytes (s .more) (new ++ t .more) at here e enough ∙ ap (sets before at) (sym (append-assoc bytes new (t .more))));
     }
 
-pub stored-last : {before after bytes : List ℕ} {at : ℕ} (here : ℕ) (next new : List ℕ) → Stored before after at bytes → here ≡ at + length bytes → 2 ≤ length new
-    → next ≡ sets after here new → next ≡ sets before at (bytes ++ new)
+pub stored-last : {before after bytes : List ℕ} {at : ℕ} (here : ℕ) (next new : List ℕ) → Stored before after at bytes
+    → here ≡ at + length bytes → 2 ≤ length new → next ≡ sets after here new → next ≡ sets before at (bytes ++ new)
 stored-last {before} {after} {bytes} {at} here next new s e h f =
     f ∙ rw (s .holds) (over before bytes (s .more) new at here e (omega (arith, s .few)))

@@ -48,10 +48,12 @@ eight-all : allBelow eight-right 256 ≡ true
 unfolding eight-right bitsText number cut join
 eight-all = refl
 
-pub eight-bits : (bits seven top : ℕ) → seven ≡ number (bitsText 8 (bits % 2 ^ 7)) → top ≡ bits / 2 ^ 7 % 2 ^ 1 → seven + top * 2 ^ 56 ≡ number (bitsText 8 (bits % 2 ^ 8))
+pub eight-bits : (bits seven top : ℕ) → seven ≡ number (bitsText 8 (bits % 2 ^ 7)) → top ≡ bits / 2 ^ 7 % 2 ^ 1
+    → seven + top * 2 ^ 56 ≡ number (bitsText 8 (bits % 2 ^ 8))
 unfolding eight-right
 eight-bits bits seven top e f =
-    e' (sym (mod-mod-pow bits 1 7)) (sym (field bits 1 7)) ∙ eqb-true _ _ (below-all eight-right 256 eight-all (bits % 2 ^ 8) (mod-lt bits (pow-pos 8)))
+    e' (sym (mod-mod-pow bits 1 7)) (sym (field bits 1 7))
+    ∙ eqb-true _ _ (below-all eight-right 256 eight-all (bits % 2 ^ 8) (mod-lt bits (pow-pos 8)))
   where
     e' : bits % 2 ^ 7 ≡ bits % 2 ^ 8 % 2 ^ 7 → bits / 2 ^ 7 % 2 ^ 1 ≡ bits % 2 ^ 8 / 2 ^ 7
         → seven + top * 2 ^ 56 ≡ number (bitsText 8 (bits % 2 ^ 8 % 2 ^ 7)) + bits % 2 ^ 8 / 2 ^ 7 * 2 ^ 56
@@ -85,32 +87,39 @@ unfolding cut
 blank = refl
 
 -- the characters of more bits than a column has
-column-of : (width k word : ℕ) → width ≤ k → bitsText k (word % 2 ^ k) ≡ bitsText width word ++ bitsText (k - width) (word % 2 ^ k / 2 ^ width)
+column-of : (width k word : ℕ) → width ≤ k
+    → bitsText k (word % 2 ^ k) ≡ bitsText width word ++ bitsText (k - width) (word % 2 ^ k / 2 ^ width)
 column-of width k word h =
     let x = word % 2 ^ k in
     let whole : width + (k - width) ≡ k = omega arith in
     let more : k - width + width ≡ k = omega arith in
-    let own : bitsText width x ≡ bitsText width word = ap (λ (n : ℕ). bitsText width (word % 2 ^ n)) (sym more) ∙ bits-low width (k - width) word in
-    ap (λ (n : ℕ). bitsText n x) (sym whole) ∙ bits-append width (k - width) x ∙ ap (λ (l : List ℕ). l ++ bitsText (k - width) (x / 2 ^ width)) own
+    let own : bitsText width x ≡ bitsText width word =
+    ap (λ (n : ℕ). bitsText width (word % 2 ^ n)) (sym more) ∙ bits-low width (k - width) word in
+    ap (λ (n : ℕ). bitsText n x) (sym whole) ∙ bits-append width (k - width) x
+    ∙ ap (λ (l : List ℕ). l ++ bitsText (k - width) (x / 2 ^ width)) own
 
 -- a column of eight bits from a space and a word, and a narrower one from one word
 pub wide-column : (out one two : List ℕ) (at width word r : ℕ) → width ≡ 8 → r ≡ number (bitsText 8 (word % 2 ^ 8))
-    → one ≡ sets out at (cut (replicate 1 8) 0x20) → two ≡ sets one (at + 1) (cut (replicate 8 8) r) → Stored out two at (columnText width word)
+    → one ≡ sets out at (cut (replicate 1 8) 0x20) → two ≡ sets one (at + 1) (cut (replicate 8 8) r)
+    → Stored out two at (columnText width word)
 wide-column out one two at width word r h e e1 e2 =
     let x = word % 2 ^ 8 in
-    let again : cut (replicate 8 8) r ≡ bitsText 8 x = rw e (ap (λ (n : ℕ). cut (replicate n 8) (number (bitsText 8 x))) (sym (bits-length 8 x)) ∙ cut-number (bitsText 8 x) (bits-bytes 8 x)) in
+    let again : cut (replicate 8 8) r ≡ bitsText 8 x = rw e
+    (ap (λ (n : ℕ). cut (replicate n 8) (number (bitsText 8 x))) (sym (bits-length 8 x)) ∙ cut-number (bitsText 8 x) (bits-bytes 8 x)) in
     record {
       more = bitsText (8 - width) (x / 2 ^ width);
       few = omega (arith, bits-length (8 - width) (x / 2 ^ width));
       holds = e2 ∙ rw (e1, blank, again, add-one at) (ap (λ (l : List ℕ). sets out at (space ∷ l)) (column-of width 8 word (omega arith)));
     }
 
-pub narrow-column : (out two : List ℕ) (at width word r : ℕ) → 6 ≤ width → width ≤ 8 → (width ≡ 8 → ⊥) → r ≡ number (space ∷ bitsText 7 (word % 2 ^ 7))
-    → two ≡ sets out at (cut (replicate 8 8) r) → Stored out two at (columnText width word)
+pub narrow-column : (out two : List ℕ) (at width word r : ℕ) → 6 ≤ width → width ≤ 8 → (width ≡ 8 → ⊥)
+    → r ≡ number (space ∷ bitsText 7 (word % 2 ^ 7)) → two ≡ sets out at (cut (replicate 8 8) r) → Stored out two at (columnText width word)
 narrow-column out two at width word r h g n e e2 =
     let x = word % 2 ^ 7 in
     let long : length (space ∷ bitsText 7 x) ≡ 8 = ap suc (bits-length 7 x) in
-    let again : cut (replicate 8 8) r ≡ space ∷ bitsText 7 x = rw e (ap (λ (k : ℕ). cut (replicate k 8) (number (space ∷ bitsText 7 x))) (sym long) ∙ cut-number (space ∷ bitsText 7 x) (omega arith, bits-bytes 7 x)) in
+    let again : cut (replicate 8 8) r ≡ space ∷ bitsText 7 x =
+    rw e (ap (λ (k : ℕ). cut (replicate k 8) (number (space ∷ bitsText 7 x))) (sym long)
+    ∙ cut-number (space ∷ bitsText 7 x) (omega arith, bits-bytes 7 x)) in
     record {
       more = bitsText (7 - width) (x / 2 ^ width);
       few = omega (arith, bits-length (7 - width) (x / 2 ^ width));
@@ -120,11 +129,13 @@ narrow-column out two at width word r h g n e e2 =
 -- the digits of a fuse
 start-bytes : (fuse : ℕ) → Bytes (letterL ∷ sevenDigits fuse)
 unfolding digitsOf
-start-bytes fuse = (omega arith, (omega arith, (omega arith, (omega arith, (omega arith, (omega arith, (omega arith, (omega arith, tt))))))))
+start-bytes fuse =
+    (omega arith, (omega arith, (omega arith, (omega arith, (omega arith, (omega arith, (omega arith, (omega arith, tt))))))))
 
 -- six digits in twos, each two taken apart
 taken-apart : (a b c d e f : ℕ)
-    → ((f * 10 + e) * 0x10000 + (d * 10 + c) * 0x100000000 + (b * 10 + a) * 0x1000000000000) * 256 - (f * 0x10000 + d * 0x100000000 + b * 0x1000000000000) * 2559 + 0x303030303030304C
+    → ((f * 10 + e) * 0x10000 + (d * 10 + c) * 0x100000000 + (b * 10 + a) * 0x1000000000000) * 256
+    - (f * 0x10000 + d * 0x100000000 + b * 0x1000000000000) * 2559 + 0x303030303030304C
     ≡ (((((((48 + a) * 256 + (48 + b)) * 256 + (48 + c)) * 256 + (48 + d)) * 256 + (48 + e)) * 256 + (48 + f)) * 256 + 48) * 256 + 76
 taken-apart a b c d e f = omega arith
 
@@ -148,8 +159,10 @@ module _ (x : ℕ) (h : x < 1000000) where
   no-more = omega arith
 
 divided : (x : ℕ) → x < 1000000
-    → (x / 10000 * 0x10000 + (x - x / 10000 * 10000) / 100 * 0x100000000 + (x - x / 10000 * 10000 - (x - x / 10000 * 10000) / 100 * 100) * 0x1000000000000) * 256
-    - (x / 10000 / 10 * 0x10000 + (x - x / 10000 * 10000) / 100 / 10 * 0x100000000 + (x - x / 10000 * 10000 - (x - x / 10000 * 10000) / 100 * 100) / 10 * 0x1000000000000) * 2559
+    → (x / 10000 * 0x10000 + (x - x / 10000 * 10000) / 100 * 0x100000000
+    + (x - x / 10000 * 10000 - (x - x / 10000 * 10000) / 100 * 100) * 0x1000000000000) * 256
+    - (x / 10000 / 10 * 0x10000 + (x - x / 10000 * 10000) / 100 / 10 * 0x100000000
+    + (x - x / 10000 * 10000 - (x - x / 10000 * 10000) / 100 * 100) / 10 * 0x1000000000000) * 2559
     + 0x303030303030304C
     ≡ number (letterL ∷ sevenDigits x)
 unfolding digitsOf
@@ -162,7 +175,8 @@ divided x h =
     let f = x / 10 / 10 / 10 / 10 / 10 % 10 in
     let tenth : (u v : ℕ) → v < 10 → (u * 10 + v) / 10 ≡ u = λ u v g. omega arith in
     rw (low-digits x h, middle-digits x h, high-digits x h, tenth b a (omega arith), tenth d c (omega arith), tenth f e (omega arith))
-    (taken-apart a b c d e f ∙ seven-placed a b c d e f (x / 10 / 10 / 10 / 10 / 10 / 10 % 10) (no-more x h) ∙ sym (number-placed (letterL ∷ sevenDigits x) (start-bytes x)))
+    (taken-apart a b c d e f ∙ seven-placed a b c d e f (x / 10 / 10 / 10 / 10 / 10 / 10 % 10) (no-more x h)
+    ∙ sym (number-placed (letterL ∷ sevenDigits x) (start-bytes x)))
 
 -- a tenth of each two, by one product of all
 tenth-right : ℕ → Bool
@@ -177,21 +191,29 @@ unfolding tenth-right
 tenth-of x h = eqb-true _ _ (below-all tenth-right 100 tenth-all x h)
 
 tenths : (h m l : ℕ) → h < 100 → m < 100 → l < 100
-    → bitAnd ((h * 0x10000 + m * 0x100000000 + l * 0x1000000000000) * 103) 0x3C003C003C000000 / 2 ^ 10 ≡ h / 10 * 0x10000 + m / 10 * 0x100000000 + l / 10 * 0x1000000000000
+    → bitAnd ((h * 0x10000 + m * 0x100000000 + l * 0x1000000000000) * 103) 0x3C003C003C000000 / 2 ^ 10
+    ≡ h / 10 * 0x10000 + m / 10 * 0x100000000 + l / 10 * 0x1000000000000
 tenths h m l lh lm ll =
-    let apart : (h * 0x10000 + m * 0x100000000 + l * 0x1000000000000) * 103 ≡ ((l * 103 * 2 ^ 16 + m * 103) * 2 ^ 16 + h * 103) * 2 ^ 16 + 0 = omega arith in
-    let each : bitAnd ((h * 0x10000 + m * 0x100000000 + l * 0x1000000000000) * 103) 0x3C003C003C000000 ≡ ((l / 10 * 1024 * 2 ^ 16 + m / 10 * 1024) * 2 ^ 16 + h / 10 * 1024) * 2 ^ 16 + 0 =
+    let apart : (h * 0x10000 + m * 0x100000000 + l * 0x1000000000000) * 103
+    ≡ ((l * 103 * 2 ^ 16 + m * 103) * 2 ^ 16 + h * 103) * 2 ^ 16 + 0 = omega arith in
+    let each : bitAnd ((h * 0x10000 + m * 0x100000000 + l * 0x1000000000000) * 103) 0x3C003C003C000000
+    ≡ ((l / 10 * 1024 * 2 ^ 16 + m / 10 * 1024) * 2 ^ 16 + h / 10 * 1024) * 2 ^ 16 + 0 =
     ap (λ (y : ℕ). bitAnd y 0x3C003C003C000000) apart
     ∙ and-block 16 ((l * 103 * 2 ^ 16 + m * 103) * 2 ^ 16 + h * 103) 0x3C003C003C00 0 0 (omega arith) (omega arith)
     ∙ ap (λ (y : ℕ). y * 2 ^ 16 + 0)
     (and-block 16 (l * 103 * 2 ^ 16 + m * 103) 0x3C003C00 (h * 103) 0x3C00 (omega arith) (omega arith)
-    ∙ ap₂ (λ (y z : ℕ). y * 2 ^ 16 + z) (and-block 16 (l * 103) 0x3C00 (m * 103) 0x3C00 (omega arith) (omega arith) ∙ ap₂ (λ (y z : ℕ). y * 2 ^ 16 + z) (tenth-of l ll) (tenth-of m lm)) (tenth-of h lh)) in
+    ∙ ap₂ (λ (y z : ℕ). y * 2 ^ 16 + z) (and-block 16 (l * 103) 0x3C00 (m * 103) 0x3C00 (omega arith) (omega arith)
+    ∙ ap₂ (λ (y z : ℕ). y * 2 ^ 16 + z) (tenth-of l ll) (tenth-of m lm)) (tenth-of h lh)) in
     rw each (omega arith)
 
 pub tens-of : (x : ℕ) → x < 1000000
-    → bitAnd ((x / 10000 * 0x10000 + (x - x / 10000 * 10000) / 100 * 0x100000000 + (x - x / 10000 * 10000 - (x - x / 10000 * 10000) / 100 * 100) * 0x1000000000000) * 103) 0x3C003C003C000000 / 2 ^ 10
-    ≡ x / 10000 / 10 * 0x10000 + (x - x / 10000 * 10000) / 100 / 10 * 0x100000000 + (x - x / 10000 * 10000 - (x - x / 10000 * 10000) / 100 * 100) / 10 * 0x1000000000000
-tens-of x h = tenths (x / 10000) ((x - x / 10000 * 10000) / 100) (x - x / 10000 * 10000 - (x - x / 10000 * 10000) / 100 * 100) (omega arith) (omega arith) (omega arith)
+    → bitAnd ((x / 10000 * 0x10000 + (x - x / 10000 * 10000) / 100 * 0x100000000
+    + (x - x / 10000 * 10000 - (x - x / 10000 * 10000) / 100 * 100) * 0x1000000000000) * 103) 0x3C003C003C000000 / 2 ^ 10
+    ≡ x / 10000 / 10 * 0x10000 + (x - x / 10000 * 10000) / 100 / 10 * 0x100000000
+    + (x - x / 10000 * 10000 - (x - x / 10000 * 10000) / 100 * 100) / 10 * 0x1000000000000
+tens-of x h =
+    tenths (x / 10000) ((x - x / 10000 * 10000) / 100) (x - x / 10000 * 10000 - (x - x / 10000 * 10000) / 100 * 100) (omega arith)
+    (omega arith) (omega arith)
 
 -- the digits in twos by products: with x = 10000 h + 100 m + l, the products are told by h, m and l
 module _ (h m l : ℕ) (hs : h < 100) (ms : m < 100) (ls : l < 100) where
@@ -224,15 +246,18 @@ module _ (h m l : ℕ) (hs : h < 100) (ms : m < 100) (ls : l < 100) where
   last-small : 27040000 * h + 270400 * m + 2704 * l < 2 ^ 32
   last-small = omega arith
 
-  by-products : (scaled n next k last : ℕ) → scaled ≡ (h * 10000 + m * 100 + l) * 429497 → n ≡ scaled % 2 ^ 32 → next ≡ n * 100 → k ≡ next % 2 ^ 32 → last ≡ k * 100
-      → (scaled / 2 ^ 32 ≡ h) × (next / 2 ^ 32 ≡ m) × (last / 2 ^ 32 ≡ l)
+  by-products : (scaled n next k last : ℕ) → scaled ≡ (h * 10000 + m * 100 + l) * 429497 → n ≡ scaled % 2 ^ 32 → next ≡ n * 100
+      → k ≡ next % 2 ^ 32 → last ≡ k * 100 → (scaled / 2 ^ 32 ≡ h) × (next / 2 ^ 32 ≡ m) × (last / 2 ^ 32 ≡ l)
   by-products scaled n next k last e f g i j =
       let s : scaled ≡ h * 2 ^ 32 + first-part = e ∙ scaled-is in
       let n-is : n ≡ first-part = f ∙ ap (λ (y : ℕ). y % 2 ^ 32) s ∙ low-part h 32 first-small in
       let t : next ≡ m * 2 ^ 32 + next-part = g ∙ ap (λ (y : ℕ). y * 100) n-is ∙ next-is in
       let k-is : k ≡ next-part = i ∙ ap (λ (y : ℕ). y % 2 ^ 32) t ∙ low-part m 32 next-small in
-      let u : last ≡ l * 2 ^ 32 + (27040000 * h + 270400 * m + 2704 * l) = j ∙ ap (λ (y : ℕ). y * 100) k-is ∙ last-is in
-      (ap (λ (y : ℕ). y / 2 ^ 32) s ∙ high-part h 32 first-small, ap (λ (y : ℕ). y / 2 ^ 32) t ∙ high-part m 32 next-small, ap (λ (y : ℕ). y / 2 ^ 32) u ∙ high-part l 32 last-small)
+      let u : last ≡ l * 2 ^ 32 + (27040000 * h + 270400 * m + 2704 * l) = j ∙ ap (λ (y : ℕ). y * 100) k-is ∙ last-is in (
+        ap (λ (y : ℕ). y / 2 ^ 32) s ∙ high-part h 32 first-small,
+        ap (λ (y : ℕ). y / 2 ^ 32) t ∙ high-part m 32 next-small,
+        ap (λ (y : ℕ). y / 2 ^ 32) u ∙ high-part l 32 last-small,
+      )
 
 module _ (x : ℕ) (less : x < 1000000) where
   in-parts : x ≡ x / 10000 * 10000 + (x - x / 10000 * 10000) / 100 * 100 + (x - x / 10000 * 10000 - (x - x / 10000 * 10000) / 100 * 100)
@@ -248,8 +273,10 @@ module _ (x : ℕ) (less : x < 1000000) where
   low-two = omega arith
 
 line-start-of : (x : ℕ) → x < 1000000
-    → (x / 10000 * 0x10000 + (x - x / 10000 * 10000) / 100 * 0x100000000 + (x - x / 10000 * 10000 - (x - x / 10000 * 10000) / 100 * 100) * 0x1000000000000) * 256
-    - bitAnd ((x / 10000 * 0x10000 + (x - x / 10000 * 10000) / 100 * 0x100000000 + (x - x / 10000 * 10000 - (x - x / 10000 * 10000) / 100 * 100) * 0x1000000000000) * 103) 0x3C003C003C000000 / 2 ^ 10 * 2559
+    → (x / 10000 * 0x10000 + (x - x / 10000 * 10000) / 100 * 0x100000000
+    + (x - x / 10000 * 10000 - (x - x / 10000 * 10000) / 100 * 100) * 0x1000000000000) * 256
+    - bitAnd ((x / 10000 * 0x10000 + (x - x / 10000 * 10000) / 100 * 0x100000000
+    + (x - x / 10000 * 10000 - (x - x / 10000 * 10000) / 100 * 100) * 0x1000000000000) * 103) 0x3C003C003C000000 / 2 ^ 10 * 2559
     + 0x303030303030304C
     ≡ number (letterL ∷ sevenDigits x)
 line-start-of x h = rw (tens-of x h) (divided x h)
@@ -257,27 +284,37 @@ line-start-of x h = rw (tens-of x h) (divided x h)
 parts-small : (a b c : ℕ) → a < 100 → b < 100 → c < 100 → a * 0x10000 + b * 0x100000000 + c * 0x1000000000000 < 0x64000000000000
 parts-small a b c f g h = omega arith
 
-tens-less : (a b c : ℕ) → (a / 10 * 0x10000 + b / 10 * 0x100000000 + c / 10 * 0x1000000000000) * 2559 ≤ (a * 0x10000 + b * 0x100000000 + c * 0x1000000000000) * 256
+tens-less : (a b c : ℕ) → (a / 10 * 0x10000 + b / 10 * 0x100000000 + c / 10 * 0x1000000000000) * 2559
+    ≤ (a * 0x10000 + b * 0x100000000 + c * 0x1000000000000) * 256
 tens-less a b c = omega arith
 
 module _ (x n k : ℕ) (less : x < 1000000) (f : n ≡ x * 429497 % 2 ^ 32) (i : k ≡ n * 100 % 2 ^ 32) where
   abbrev twos : ℕ
   twos = x * 429497 / 2 ^ 32 * 0x10000 + n * 100 / 2 ^ 32 * 0x100000000 + k * 100 / 2 ^ 32 * 0x1000000000000
 
-  twos-are : twos ≡ x / 10000 * 0x10000 + (x - x / 10000 * 10000) / 100 * 0x100000000 + (x - x / 10000 * 10000 - (x - x / 10000 * 10000) / 100 * 100) * 0x1000000000000
+  twos-are : twos ≡ x / 10000 * 0x10000 + (x - x / 10000 * 10000) / 100 * 0x100000000
+      + (x - x / 10000 * 10000 - (x - x / 10000 * 10000) / 100 * 100) * 0x1000000000000
   twos-are =
-      let p = by-products (x / 10000) ((x - x / 10000 * 10000) / 100) (x - x / 10000 * 10000 - (x - x / 10000 * 10000) / 100 * 100) (high-two x less) (middle-two x less) (low-two x less) (x * 429497) n (n * 100) k (k * 100) (ap (λ (y : ℕ). y * 429497) (in-parts x less)) f refl i refl in
+      let p = by-products (x / 10000) ((x - x / 10000 * 10000) / 100) (x - x / 10000 * 10000 - (x - x / 10000 * 10000) / 100 * 100)
+      (high-two x less) (middle-two x less) (low-two x less) (x * 429497) n (n * 100) k (k * 100)
+      (ap (λ (y : ℕ). y * 429497) (in-parts x less)) f refl i refl in
       rw (p .0, p .1, p .2)
 
   pub twos-small : x * 429497 / 2 ^ 32 * 0x10000 + n * 100 / 2 ^ 32 * 0x100000000 + k * 100 / 2 ^ 32 * 0x1000000000000 < 0x64000000000000
-  twos-small = rw twos-are (parts-small (x / 10000) ((x - x / 10000 * 10000) / 100) (x - x / 10000 * 10000 - (x - x / 10000 * 10000) / 100 * 100) (high-two x less) (middle-two x less) (low-two x less))
+  twos-small =
+      rw twos-are (parts-small (x / 10000) ((x - x / 10000 * 10000) / 100) (x - x / 10000 * 10000 - (x - x / 10000 * 10000) / 100 * 100)
+      (high-two x less) (middle-two x less) (low-two x less))
 
-  pub tens-small : bitAnd ((x * 429497 / 2 ^ 32 * 0x10000 + n * 100 / 2 ^ 32 * 0x100000000 + k * 100 / 2 ^ 32 * 0x1000000000000) * 103) 0x3C003C003C000000 / 2 ^ 10 * 2559
+  pub tens-small : bitAnd ((x * 429497 / 2 ^ 32 * 0x10000 + n * 100 / 2 ^ 32 * 0x100000000 + k * 100 / 2 ^ 32 * 0x1000000000000) * 103)
+      0x3C003C003C000000 / 2 ^ 10 * 2559
       ≤ (x * 429497 / 2 ^ 32 * 0x10000 + n * 100 / 2 ^ 32 * 0x100000000 + k * 100 / 2 ^ 32 * 0x1000000000000) * 256
-  tens-small = rw (twos-are, tens-of x less) (tens-less (x / 10000) ((x - x / 10000 * 10000) / 100) (x - x / 10000 * 10000 - (x - x / 10000 * 10000) / 100 * 100))
+  tens-small =
+      rw (twos-are, tens-of x less)
+      (tens-less (x / 10000) ((x - x / 10000 * 10000) / 100) (x - x / 10000 * 10000 - (x - x / 10000 * 10000) / 100 * 100))
 
   pub start-by-products : (x * 429497 / 2 ^ 32 * 0x10000 + n * 100 / 2 ^ 32 * 0x100000000 + k * 100 / 2 ^ 32 * 0x1000000000000) * 256
-      - bitAnd ((x * 429497 / 2 ^ 32 * 0x10000 + n * 100 / 2 ^ 32 * 0x100000000 + k * 100 / 2 ^ 32 * 0x1000000000000) * 103) 0x3C003C003C000000 / 2 ^ 10 * 2559
+      - bitAnd ((x * 429497 / 2 ^ 32 * 0x10000 + n * 100 / 2 ^ 32 * 0x100000000 + k * 100 / 2 ^ 32 * 0x1000000000000)
+      * 103) 0x3C003C003C000000 / 2 ^ 10 * 2559
       + 0x303030303030304C
       ≡ number (letterL ∷ sevenDigits x)
   start-by-products = rw twos-are (line-start-of x less)
@@ -302,20 +339,23 @@ hex-small x h = by-cases-le (λ l. rw (le-leb x 9 l) (omega arith)) (λ g. rw (l
 hex-bytes : (x : ℕ) → Bytes (fourHex x)
 unfolding digitsOf
 hex-bytes x =
-    let digit : (y : ℕ) → y < 16 → hexDigit y < 2 ^ 8 = λ y h. omega (arith, hex-small y h) in
-    (digit (x / 16 / 16 / 16 % 16) (omega arith), (digit (x / 16 / 16 % 16) (omega arith), (digit (x / 16 % 16) (omega arith), (digit (x % 16) (omega arith), tt))))
+    let digit : (y : ℕ) → y < 16 → hexDigit y < 2 ^ 8 = λ y h. omega (arith, hex-small y h) in (
+      digit (x / 16 / 16 / 16 % 16) (omega arith),
+      (digit (x / 16 / 16 % 16) (omega arith), (digit (x / 16 % 16) (omega arith), (digit (x % 16) (omega arith), tt))),
+    )
 
 four-placed : (a b c d : ℕ) → a + b * 0x100 + c * 0x10000 + d * 0x1000000 ≡ placed (a ∷ b ∷ c ∷ d ∷ [])
 four-placed a b c d = omega arith
 
-pub four-hex-of : (x a b c d : ℕ) → x < 2 ^ 16 → a ≡ hexDigit (x / 4096) → b ≡ hexDigit (x / 256 % 16) → c ≡ hexDigit (x / 16 % 16) → d ≡ hexDigit (x % 16)
-    → a + b * 0x100 + c * 0x10000 + d * 0x1000000 ≡ number (fourHex x)
+pub four-hex-of : (x a b c d : ℕ) → x < 2 ^ 16 → a ≡ hexDigit (x / 4096) → b ≡ hexDigit (x / 256 % 16)
+    → c ≡ hexDigit (x / 16 % 16) → d ≡ hexDigit (x % 16) → a + b * 0x100 + c * 0x10000 + d * 0x1000000 ≡ number (fourHex x)
 unfolding digitsOf
 four-hex-of x a b c d h ea eb ec ed =
     let first : x / 4096 ≡ x / 16 / 16 / 16 % 16 = omega arith in
     let second : x / 256 % 16 ≡ x / 16 / 16 % 16 = omega arith in
     rw (ea, eb, ec, ed, first, second)
-    (four-placed (hexDigit (x / 16 / 16 / 16 % 16)) (hexDigit (x / 16 / 16 % 16)) (hexDigit (x / 16 % 16)) (hexDigit (x % 16)) ∙ sym (number-placed (fourHex x) (hex-bytes x)))
+    (four-placed (hexDigit (x / 16 / 16 / 16 % 16)) (hexDigit (x / 16 / 16 % 16)) (hexDigit (x / 16 % 16)) (hexDigit (x % 16))
+    ∙ sym (number-placed (fourHex x) (hex-bytes x)))
 
 pub hex-cut : (x : ℕ) → cut (replicate 4 8) (number (fourHex x)) ≡ fourHex x
 unfolding digitsOf

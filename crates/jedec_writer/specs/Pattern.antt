@@ -1,5 +1,6 @@
--- The line pattern of a device, as 001 has it: "per main row 40, 38 and 30 bits, per wire-AND row 36", five columns to a line.
--- The writer's text by that pattern, and what the writer answers: refusals 1, 2 and then 12 with the bytes needed.
+-- The line pattern of a device, as 001 has it: "per main row 40, 38 and 30 bits, per wire-AND row 36",
+-- five columns to a line. The writer's text by that pattern, and what the writer answers: refusals 1, 2
+-- and then 12 with the bytes needed.
 use Prim.Native.Nat.{ℕ, _+_, _*_}
 use mathlib.Core.Bool.{Bool, true, false, cond}
 use mathlib.Core.List.{List, [], _∷_, _++_}
@@ -8,7 +9,8 @@ use lib.ListN.{length, drop}
 use Rattle.cells.specs.Cells.{repeat}
 use Rattle.part.specs.Outcome.{Outcome}
 use Rattle.part.specs.Outcome.Outcome.{accepted, refused}
-use Rattle.part.specs.Device.{blocksOf, mainRows, mainWidth, wireAndRows, wireAndWidth, fuseCount, imageBytes, textBytes}
+use Rattle.part.specs.Device.{blocksOf, mainRows, mainWidth, wireAndRows, wireAndWidth, fuseCount, imageBytes}
+use Rattle.part.specs.Device.{textBytes}
 use Rattle.part.specs.Convert.{ifKnown, ifLength}
 use Rattle.part.specs.declared.Device.{Device}
 use Rattle.image.specs.Bits.{tabulate}
@@ -36,7 +38,8 @@ textOf d image = textWith (fuseCount d) (pattern d) image
 -- the bytes written, for a room of so many bytes
 unfoldable pub toText : Device → (image : List ℕ) → (room : ℕ) → Outcome ℕ
 toText d image room =
-    ifKnown d (ifLength (length image) (imageBytes d) (cond (ltb room (textBytes d)) (refused 12 (textBytes d)) (accepted (textBytes d))))
+    ifKnown d (ifLength (length image) (imageBytes d)
+    (cond (ltb room (textBytes d)) (refused 12 (textBytes d)) (accepted (textBytes d))))
 
 -- the room with the text in it: "Bytes of the lent room beyond that stay"
 abbrev pub withText : Device → (image room : List ℕ) → List ℕ

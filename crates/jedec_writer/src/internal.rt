@@ -94,9 +94,9 @@ fn put_column(word: u64, width: usize, out: &mut [u8], at: usize)
     }
 }
 
-// `L` and the seven digits of a fuse. The digits are taken in twos: 429497 is 2^32 / 10000 and a little more, so the first two stand above
-// bit 32 of the product, and the next two of a hundred times what is below, twice. Then t / 10 is t * 103 / 1024, of all at once;
-// t becomes t / 10 and t % 10 by 256 * t - 2559 * (t / 10).
+// `L` and the seven digits of a fuse. The digits are taken in twos: 429497 is 2^32 / 10000 and a little more, so the
+// first two stand above bit 32 of the product, and the next two of a hundred times what is below, twice. Then t / 10 is
+// t * 103 / 1024, of all at once; t becomes t / 10 and t % 10 by 256 * t - 2559 * (t / 10).
 fn line_start(fuse: u32) -> u64
     requires { ⌜ fuse < 1000000 ⌝ }
     ensures { λ r. ⌜ r ≡ number (letterL ∷ sevenDigits fuse) ⌝ }
@@ -111,10 +111,12 @@ fn line_start(fuse: u32) -> u64
     (twos * 256 - tens * 2559) + 0x3030_3030_3030_304C
 }
 
-// The bits of an image from a fuse on, at least 56 or all that are left: the last lines are taken from the last eight bytes.
+// The bits of an image from a fuse on, at least 56 or all that are left: the last lines are
+// taken from the last eight bytes.
 fn bits_from(image: &[u8], fuse: usize) -> u64
     requires { ⌜ (8 ≤ length (now image)) × (fuse < length (now image) * 8) ⌝ }
-    ensures { λ r. ⌜ ((ws : List ℕ) → total ws ≤ 56 → fuse + total ws ≤ length (now (image .entry)) * 8 → cut ws r ≡ cut ws (number (now (image .entry)) / 2 ^ fuse)) ⌝ }
+    ensures { λ r. ⌜ ((ws : List ℕ) → total ws ≤ 56 → fuse + total ws ≤ length (now (image .entry)) * 8
+        → cut ws r ≡ cut ws (number (now (image .entry)) / 2 ^ fuse)) ⌝ }
 {
     let last = image.len() - 8;
     let byte = fuse / 8;
@@ -135,7 +137,8 @@ fn put_columns(
     out: &mut [u8],
     at: usize,
 )
-    requires { ⌜ (Wide a) × (Wide b) × (Wide c) × (Wide d) × (Wide e) × (at + 7 + (a + b + c + d + e) ≤ length (now out)) ⌝ }
+    requires { ⌜ (Wide a) × (Wide b) × (Wide c) × (Wide d) × (Wide e)
+        × (at + 7 + (a + b + c + d + e) ≤ length (now out)) ⌝ }
     ensures { λ _. ⌜ Stored (now (out .entry)) (now (out .exit)) at (columnsOf word (a ∷ b ∷ c ∷ d ∷ e ∷ [])) ⌝ }
 {
     put_column(word, a, out, at);
@@ -165,8 +168,11 @@ fn put_line(
     out: &mut [u8],
     at: usize,
 )
-    requires { ⌜ (8 ≤ length (now image)) × (length (now image) ≤ 125000) × (fuse + (a + b + c + d + e) ≤ length (now image) * 8) × (at + 15 + (a + b + c + d + e) ≤ length (now out)) × (Wide a) × (Wide b) × (Wide c) × (Wide d) × (Wide e) ⌝ }
-    ensures { λ _. ⌜ now (out .exit) ≡ sets (now (out .entry)) at (lineText (now (image .entry)) fuse (a ∷ b ∷ c ∷ d ∷ e ∷ [])) ⌝ }
+    requires { ⌜ (8 ≤ length (now image)) × (length (now image) ≤ 125000)
+        × (fuse + (a + b + c + d + e) ≤ length (now image) * 8) × (at + 15 + (a + b + c + d + e) ≤ length (now out))
+        × (Wide a) × (Wide b) × (Wide c) × (Wide d) × (Wide e) ⌝ }
+    ensures { λ _.
+        ⌜ now (out .exit) ≡ sets (now (out .entry)) at (lineText (now (image .entry)) fuse (a ∷ b ∷ c ∷ d ∷ e ∷ [])) ⌝ }
 {
     let word = bits_from(image, fuse);
     put_eight(line_start(fuse as u32), out, at);
@@ -176,8 +182,11 @@ fn put_line(
 
 // The lines of a row.
 fn row_out(main: bool, image: &[u8], fuse: usize, out: &mut [u8], at: usize)
-    requires { ⌜ (8 ≤ length (now image)) × (length (now image) ≤ 125000) × (fuse + patternFuses (rowLines main) ≤ length (now image) * 8) × (at + linesBytes (rowLines main) ≤ length (now out)) ⌝ }
-    ensures { λ _. ⌜ now (out .exit) ≡ sets (now (out .entry)) at (linesText (now (image .entry)) fuse (rowLines main)) ⌝ }
+    requires { ⌜ (8 ≤ length (now image)) × (length (now image) ≤ 125000)
+        × (fuse + patternFuses (rowLines main) ≤ length (now image) * 8)
+        × (at + linesBytes (rowLines main) ≤ length (now out)) ⌝ }
+    ensures { λ _.
+        ⌜ now (out .exit) ≡ sets (now (out .entry)) at (linesText (now (image .entry)) fuse (rowLines main)) ⌝ }
 {
     if main {
         put_line(image, fuse, 8, 8, 8, 8, 8, out, at);
@@ -209,8 +218,11 @@ fn row_bytes(main: bool) -> usize
 
 // The lines of some rows, one after another.
 fn rows_out(main: bool, image: &[u8], fuse: usize, out: &mut [u8], at: usize, count: usize)
-    requires { ⌜ (8 ≤ length (now image)) × (length (now image) ≤ 125000) × (fuse + count * patternFuses (rowLines main) ≤ length (now image) * 8) × (at + count * linesBytes (rowLines main) ≤ length (now out)) ⌝ }
-    ensures { λ _. ⌜ now (out .exit) ≡ sets (now (out .entry)) at (linesText (now (image .entry)) fuse (repeat count (rowLines main))) ⌝ }
+    requires { ⌜ (8 ≤ length (now image)) × (length (now image) ≤ 125000)
+        × (fuse + count * patternFuses (rowLines main) ≤ length (now image) * 8)
+        × (at + count * linesBytes (rowLines main) ≤ length (now out)) ⌝ }
+    ensures { λ _. ⌜ now (out .exit)
+        ≡ sets (now (out .entry)) at (linesText (now (image .entry)) fuse (repeat count (rowLines main))) ⌝ }
 {
     let fuses = row_fuses(main);
     let bytes = row_bytes(main);
@@ -244,8 +256,11 @@ fn block_bytes(d: Device) -> usize
 
 // The lines of a block.
 fn block_out(d: Device, image: &[u8], fuse: usize, out: &mut [u8], at: usize)
-    requires { ⌜ (known d ≡ true) × (8 ≤ length (now image)) × (length (now image) ≤ 125000) × (fuse + patternFuses (blockLines d) ≤ length (now image) * 8) × (at + linesBytes (blockLines d) ≤ length (now out)) ⌝ }
-    ensures { λ _. ⌜ now (out .exit) ≡ sets (now (out .entry)) at (linesText (now (image .entry)) fuse (blockLines d)) ⌝ }
+    requires { ⌜ (known d ≡ true) × (8 ≤ length (now image)) × (length (now image) ≤ 125000)
+        × (fuse + patternFuses (blockLines d) ≤ length (now image) * 8)
+        × (at + linesBytes (blockLines d) ≤ length (now out)) ⌝ }
+    ensures { λ _.
+        ⌜ now (out .exit) ≡ sets (now (out .entry)) at (linesText (now (image .entry)) fuse (blockLines d)) ⌝ }
 {
     rows_out(true, image, fuse, out, at, 72);
     let rows = d.blocks as usize * 18;
@@ -254,7 +269,8 @@ fn block_out(d: Device, image: &[u8], fuse: usize, out: &mut [u8], at: usize)
 
 // The lines of all blocks.
 fn blocks_out(d: Device, image: &[u8], out: &mut [u8], at: usize)
-    requires { ⌜ (known d ≡ true) × (length (now image) ≡ imageBytes d) × (at + linesBytes (pattern d) ≤ length (now out)) ⌝ }
+    requires { ⌜ (known d ≡ true) × (length (now image) ≡ imageBytes d)
+        × (at + linesBytes (pattern d) ≤ length (now out)) ⌝ }
     ensures { λ _. ⌜ now (out .exit) ≡ sets (now (out .entry)) at (linesText (now (image .entry)) 0 (pattern d)) ⌝ }
 {
     let fuses = block_fuses(d);

@@ -12,7 +12,8 @@ pub mod internal;
 
 // The text of an image, put at the start of `text`: how many bytes it has. Refused: 1, 2, 12.
 pub fn image_to_text(d: Device, image: &[u8], text: &mut [u8]) -> NumberAnswer
-    ensures { λ r. ⌜ Written (toText d (now (image .entry)) (length (now (text .entry)))) (numberOutcome r) (withText d (now (image .entry)) (now (text .entry))) (now (text .entry)) (now (text .exit)) ⌝ }
+    ensures { λ r. ⌜ Written (toText d (now (image .entry)) (length (now (text .entry)))) (numberOutcome r)
+        (withText d (now (image .entry)) (now (text .entry))) (now (text .entry)) (now (text .exit)) ⌝ }
 {
     if !part::is_known(d) {
         return NumberAnswer::Refused(Refusal::UnknownDevice);

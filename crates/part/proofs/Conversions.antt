@@ -79,7 +79,8 @@ module _ (d : Device) (fuse address bit : ℕ) where
   unfolding fuseOfAddress hasPlace
   fuse-from s =
       let facts = and-iff (hasByte d (s .place .byte)) (ltb (s .place .bit) (widthOf (s .place .byte))) .0 (s .there) in
-      let named : byteOfAddress address ≡ s .place .byte = ap byteOfAddress (sym (s .its-address)) ∙ again d (s .device) (s .place .byte) (facts .0) in
+      let named : byteOfAddress address ≡ s .place .byte =
+      ap byteOfAddress (sym (s .its-address)) ∙ again d (s .device) (s .place .byte) (facts .0) in
       let ok : valid d address ≡ true = valid-iff d (s .device) address .1 (s .place .byte, facts .0, s .its-address) in
       rw (s .device, ok, named, ← s .its-bit, facts .1, s .its-fuse)
 

@@ -61,13 +61,15 @@ image-whole d h =
 
 pub digits-small : (x : ℕ) → decimalDigits x ≤ 7
 digits-small x =
-    small 10 (omega arith) (small 100 (omega arith) (small 1000 (omega arith) (small 10000 (omega arith) (small 100000 (omega arith) (small 1000000 (omega arith) (omega arith))))))
+    small 10 (omega arith) (small 100 (omega arith)
+    (small 1000 (omega arith) (small 10000 (omega arith) (small 100000 (omega arith) (small 1000000 (omega arith) (omega arith))))))
   where
     small : (k : ℕ) {a b : ℕ} → a ≤ 7 → b ≤ 7 → cond (ltb x k) a b ≤ 7
     small k p q = by-cases (λ y. y ≤ 7) x k (λ l. p) (λ g. q)
 
 -- the last of the six counts, by exclusion
-pub sixteen-blocks : (d : Device) → known d ≡ true → (d .blocks ≡ 2 → ⊥) → (d .blocks ≡ 4 → ⊥) → (d .blocks ≡ 6 → ⊥) → (d .blocks ≡ 8 → ⊥) → (d .blocks ≡ 12 → ⊥) → d .blocks ≡ 16
+pub sixteen-blocks : (d : Device) → known d ≡ true → (d .blocks ≡ 2 → ⊥) → (d .blocks ≡ 4 → ⊥) → (d .blocks ≡ 6 → ⊥) → (d .blocks ≡ 8 → ⊥)
+    → (d .blocks ≡ 12 → ⊥) → d .blocks ≡ 16
 sixteen-blocks d h a b c e f =
     by-count (λ n. (n ≡ 2 → ⊥) → (n ≡ 4 → ⊥) → (n ≡ 6 → ⊥) → (n ≡ 8 → ⊥) → (n ≡ 12 → ⊥) → n ≡ 16)
     (λ p q r s t. absurd (p refl))
@@ -88,7 +90,8 @@ pub scaled-for : (d : Device) (k r : ℕ) → d .blocks ≡ k → r ≡ 2 ^ 34 /
 scaled-for d k r e f = rw e f
 
 -- a fuse's block by a product: the divisors are so few that each is computed
-block-by-product : (f n : ℕ) → isBlockCount n ≡ true → f < n * (7776 + n * 648) → f * (2 ^ 34 / (7776 + n * 648) + 1) / 2 ^ 34 ≡ f / (7776 + n * 648)
+block-by-product : (f n : ℕ) → isBlockCount n ≡ true → f < n * (7776 + n * 648)
+    → f * (2 ^ 34 / (7776 + n * 648) + 1) / 2 ^ 34 ≡ f / (7776 + n * 648)
 block-by-product f =
     by-count (λ n. f < n * (7776 + n * 648) → f * (2 ^ 34 / (7776 + n * 648) + 1) / 2 ^ 34 ≡ f / (7776 + n * 648))
     (λ h. omega arith)
@@ -101,7 +104,9 @@ block-by-product f =
 module _ (d : Device) (f r : ℕ) (h : known d ≡ true) (l : f < fuseCount d) (e : r ≡ 2 ^ 34 / inBlock d 7776 648 + 1) where
   pub product-small : f * r < 2 ^ 64
   unfolding fuseCount
-  product-small = rw e (by-count (λ n. f < n * (7776 + n * 648) → f * (2 ^ 34 / (7776 + n * 648) + 1) < 2 ^ 64) (λ m. omega arith) (λ m. omega arith) (λ m. omega arith) (λ m. omega arith) (λ m. omega arith) (λ m. omega arith) (d .blocks) (known-count d h) l)
+  product-small =
+      rw e (by-count (λ n. f < n * (7776 + n * 648) → f * (2 ^ 34 / (7776 + n * 648) + 1) < 2 ^ 64) (λ m. omega arith) (λ m. omega arith)
+      (λ m. omega arith) (λ m. omega arith) (λ m. omega arith) (λ m. omega arith) (d .blocks) (known-count d h) l)
 
   pub block-of : f * r / 2 ^ 34 ≡ f / inBlock d 7776 648
   unfolding fuseCount

@@ -32,7 +32,8 @@ at-fuse d fuse h =
     let whole : block * blockFuses d + rest ≡ fuse = div-add-mod' fuse (blockFuses d) in
     by-cases (Lies d fuse) rest 7776
     (λ l.
-    split-row 9 6 6 (omega arith) (λ column bit. Lies d fuse (record { byte = Main block (rest / 108) column; bit = bit })) (rest % 108) (omega arith)
+    split-row 9 6 6 (omega arith) (λ column bit. Lies d fuse (record { byte = Main block (rest / 108) column; bit = bit }))
+    (rest % 108) (omega arith)
     (λ column bit hc hb e. (simp tests (omega arith), omega arith)))
     (λ g.
     split-row 1 7 4 (omega arith)
@@ -49,7 +50,8 @@ in-block d block rest h = rw (digits-div block h, digits-mod block h)
 abbrev pub Found : Device → Place → Type 0
 Found d p = (fuseOfPlace d p < fuseCount d) × (placeOfFuse d (fuseOfPlace d p) ≡ p)
 
-in-byte : (d : Device) (byte : BytePlace) (bit : ℕ) → hasByte d byte ≡ true → bit < widthOf byte → Found d (record { byte = byte; bit = bit })
+in-byte : (d : Device) (byte : BytePlace) (bit : ℕ) → hasByte d byte ≡ true → bit < widthOf byte
+    → Found d (record { byte = byte; bit = bit })
 unfolding fuseCount
 in-byte d (Main block row column) bit h hb =
     let facts = simp tests at h in
@@ -74,11 +76,21 @@ in-byte d (WireAnd block subarea row column) bit h hb =
     let past : ltb z 7776 ≡ false = le-ltb z 7776 (omega arith) in
     let back : z - 7776 ≡ subarea * 648 + y = omega arith in
     let found = join-row 1 7 4 (omega arith) column bit hb in
-    let sum : block * blockFuses d + (7776 + (subarea * 648 + (row * 36 + wireAndStart column))) + bit ≡ block * blockFuses d + z = omega arith in
+    let sum : block * blockFuses d + (7776 + (subarea * 648 + (row * 36 + wireAndStart column))) + bit ≡ block * blockFuses d + z =
+    omega arith in
     rw sum (
       digits-lt {q = block} {m = d .blocks} {r = z} {c = blockFuses d} (omega arith) (omega arith),
       in-block d block z (omega arith)
-          ∙ rw (past, back, digits-div subarea fits, digits-mod subarea fits, digits-div row short, digits-mod row short, found .0, found .1),
+          ∙ rw (
+            past,
+            back,
+            digits-div subarea fits,
+            digits-mod subarea fits,
+            digits-div row short,
+            digits-mod row short,
+            found .0,
+            found .1,
+          ),
     )
 
 pub of-place : (d : Device) (p : Place) → hasPlace d p ≡ true → Found d p

@@ -30,7 +30,9 @@ use Rattle.part.specs.declared.Place.{Place}
 use Rattle.part.specs.declared.BytePlace.{BytePlace}
 use Rattle.part.specs.declared.BytePlace.the-variants.{Main, WireAnd}
 use Rattle.part.specs.declared.Refusal.{Refusal}
-use Rattle.part.specs.declared.Refusal.the-variants.{UnknownDevice, WrongLength, NoSuchFuse, NoSuchSetting, NoSuchValue, StrayBit, BadForm, WrongFuseCount, MisplacedFuseList, WrongFuseSum, WrongTransmissionSum, RoomTooShort}
+use Rattle.part.specs.declared.Refusal.the-variants.{UnknownDevice, WrongLength, NoSuchFuse, NoSuchSetting, NoSuchValue, StrayBit}
+use Rattle.part.specs.declared.Refusal.the-variants.{BadForm, WrongFuseCount, MisplacedFuseList, WrongFuseSum, WrongTransmissionSum}
+use Rattle.part.specs.declared.Refusal.the-variants.{RoomTooShort}
 use Rattle.part.proofs.Facts.{and-iff, by-cases}
 use Rattle.part.proofs.Addresses.{again, address-small}
 use Rattle.part.proofs.Fuses.{of-place}
@@ -42,7 +44,9 @@ pub use Rattle.part.proofs.Readouts.{each-valid, ascending, none-left-o
 -- the refusal of a number and a value
 refusal : ℕ → ℕ → Refusal
 refusal k v =
-    cond (eqb k 1) UnknownDevice (cond (eqb k 2) WrongLength (cond (eqb k 3) NoSuchFuse (cond (eqb k 4) NoSuchSetting (cond (eqb k 5) NoSuchValue (cond (eqb k 6) (StrayBit v) (cond (eqb k 7) (BadForm v) (cond (eqb k 8) (WrongFuseCount v) (cond (eqb k 9) (MisplacedFuseList v) (cond (eqb k 10) (WrongFuseSum v) (cond (eqb k 11) (WrongTransmissionSum v) (RoomTooShort v)))))))))))
+    cond (eqb k 1) UnknownDevice (cond (eqb k 2) WrongLength (cond (eqb k 3) NoSuchFuse (cond (eqb k 4) NoSuchSetting
+    (cond (eqb k 5) NoSuchValue (cond (eqb k 6) (StrayBit v) (cond (eqb k 7) (BadForm v) (cond (eqb k 8) (WrongFuseCount v) (cond (eqb k 9)
+    (MisplacedFuseList v) (cond (eqb k 10) (WrongFuseSum v) (cond (eqb k 11) (WrongTransmissionSum v) (RoomTooShort v)))))))))))
 
 found : (r : Refusal) → refusal (refusalNumber r) (refusalValue r) ≡ r
 unfolding refusal
@@ -88,7 +92,8 @@ unfolding fuseOfAddress hasPlace valid
 each-address d k address bit v h =
     let p : Place = record { byte = byteOfAddress address; bit = bit } in
     let within : ltb bit (widthOf (byteOfAddress address)) ≡ true = lt-ltb bit (widthOf (byteOfAddress address)) h in
-    let there : hasPlace d p ≡ true = and-iff (hasByte d (p .byte)) _ .1 (and-iff (eqb (addressOfByte (p .byte)) address) (hasByte d (p .byte)) .0 v .1, within) in
+    let there : hasPlace d p ≡ true =
+    and-iff (hasByte d (p .byte)) _ .1 (and-iff (eqb (addressOfByte (p .byte)) address) (hasByte d (p .byte)) .0 v .1, within) in
     (fuseOfPlace d p, of-place d p there .0, rw (k, v, within))
 
 pub at-valid : (d : Device) (fuse address bit : ℕ) → addressOfFuse d fuse ≡ accepted (address, bit)
@@ -97,7 +102,8 @@ unfolding hasPlace
 at-valid d fuse address bit e =
     let s = address-of-fuse-iff d fuse address bit .0 e in
     let facts = and-iff _ _ .0 (s .there) in
-    let named : byteOfAddress address ≡ s .place .byte = ap byteOfAddress (sym (s .its-address)) ∙ again d (s .device) (s .place .byte) (facts .0) in (
+    let named : byteOfAddress address ≡ s .place .byte =
+    ap byteOfAddress (sym (s .its-address)) ∙ again d (s .device) (s .place .byte) (facts .0) in (
       valid-iff d (s .device) address .1 (s .place .byte, facts .0, s .its-address),
       rw (← s .its-address) (address-small d (s .device) (s .place .byte) (facts .0)),
       subst₂ (λ (b : BytePlace) (i : ℕ). i < widthOf b) (sym named) (s .its-bit) (ltb-true _ _ (facts .1)),
@@ -120,4 +126,25 @@ no-devices = (refl, refl)
 
 pub bench-cases : AllHold cases
 unfolding addressOfFuse fuseOfAddress known fuseCount placeOfFuse valid byteOfAddress
-bench-cases = ((refl, refl), ((refl, refl), ((refl, refl), ((refl, refl), ((refl, refl), ((refl, refl), ((refl, refl), ((refl, refl), ((refl, refl), ((refl, refl), (refl, (λ bit. refl, (λ bit. refl, (λ bit. refl, (λ bit. refl, tt)))))))))))))))
+bench-cases = (
+  (refl, refl),
+  (
+    (refl, refl),
+    (
+      (refl, refl),
+      (
+        (refl, refl),
+        (
+          (refl, refl),
+          (
+            (refl, refl),
+            (
+              (refl, refl),
+              ((refl, refl), ((refl, refl), ((refl, refl), (refl, (λ bit. refl, (λ bit. refl, (λ bit. refl, (λ bit. refl, tt)))))))),
+            ),
+          ),
+        ),
+      ),
+    ),
+  ),
+)

@@ -93,7 +93,8 @@ inside rest = cond (ltb rest 1080) (inMain rest) (4096 + inWireAnd (rest - 1080)
 address-of : (block rest : ℕ) → addressOfByte (byteInBlock block rest) ≡ block * 8192 + inside rest
 address-of block rest = go (ltb rest 1080)
   where
-    go : (t : Bool) → addressOfByte (cond t (Main block (rest / 15) (rest % 15)) (WireAnd block ((rest - 1080) / 90) ((rest - 1080) % 90 / 5) ((rest - 1080) % 90 % 5)))
+    go : (t : Bool) → addressOfByte (cond t (Main block (rest / 15) (rest % 15))
+        (WireAnd block ((rest - 1080) / 90) ((rest - 1080) % 90 / 5) ((rest - 1080) % 90 % 5)))
         ≡ block * 8192 + cond t (inMain rest) (4096 + inWireAnd (rest - 1080))
     go true = omega arith
     go false = omega arith
@@ -122,7 +123,8 @@ inside-order s s' h =
     (λ l.
     by-cases (λ x. inMain s < x) s' 1080 (λ l'. main-order s s' h) (λ g'. omega (arith, main-small s l)))
     (λ g.
-    by-cases (λ x. 4096 + inWireAnd (s - 1080) < x) s' 1080 (λ l'. omega arith) (λ g'. omega (arith, wire-and-order (s - 1080) (s' - 1080) (omega arith))))
+    by-cases (λ x. 4096 + inWireAnd (s - 1080) < x) s' 1080 (λ l'. omega arith)
+    (λ g'. omega (arith, wire-and-order (s - 1080) (s' - 1080) (omega arith))))
 
 inside-small : (s : ℕ) → s < mainBytes + 16 * subareaBytes → inside s < 8192
 inside-small s h =

@@ -16,7 +16,8 @@ abbrev pub tested : {A : Type 0} → Device → (l x m y : ℕ) → Outcome A �
 tested d l x m y inner = ifKnown d (ifLength l x (ifLength m y inner))
 
 -- an answer that is the outcome's, and what it leaves in the target
-pub says : {A : Type 0} (o answer : Outcome A) (result before : List ℕ) → answer ≡ o → Written o answer result before (written answer result before)
+pub says : {A : Type 0} (o answer : Outcome A) (result before : List ℕ) → answer ≡ o
+    → Written o answer result before (written answer result before)
 says o answer result before e = record { answers = e; holds = ap (λ (x : Outcome _). written x result before) e }
 
 module _ {A : Type 0} (d : Device) (l x m y : ℕ) (inner : Outcome A) (result before : List ℕ) where
@@ -30,10 +31,12 @@ module _ {A : Type 0} (d : Device) (l x m y : ℕ) (inner : Outcome A) (result b
     module _ (hl : l ≡ x') (y' : ℕ) (ey : y' ≡ y) where
       pub wrong-second : (m ≡ y' → ⊥) → Written (tested d l x m y inner) (refused 2 0) result before before
       wrong-second h =
-          says (tested d l x m y inner) (refused 2 0) result before (other-length m y _ y' ey h ∙ sym (the-length l x _ x' ex hl) ∙ sym (the-device d _ k))
+          says (tested d l x m y inner) (refused 2 0) result before
+          (other-length m y _ y' ey h ∙ sym (the-length l x _ x' ex hl) ∙ sym (the-device d _ k))
 
       pub right : m ≡ y' → (answer : Outcome A) → answer ≡ inner → (after : List ℕ) → after ≡ written answer result before
           → Written (tested d l x m y inner) answer result before after
       right h answer e after f =
-          let same : answer ≡ tested d l x m y inner = e ∙ sym (the-length m y _ y' ey h) ∙ sym (the-length l x _ x' ex hl) ∙ sym (the-device d _ k) in
+          let same : answer ≡ tested d l x m y inner =
+          e ∙ sym (the-length m y _ y' ey h) ∙ sym (the-length l x _ x' ex hl) ∙ sym (the-device d _ k) in
           record { answers = same; holds = f ∙ ap (λ (o : Outcome A). written o result before) same }

@@ -4,7 +4,10 @@ use Prim.Native.Nat.{ℕ}
 use Rattle.part.specs.Outcome.{Outcome}
 use Rattle.part.specs.Outcome.Outcome.{accepted, refused}
 use Rattle.part.specs.declared.Refusal.{Refusal}
-use Rattle.part.specs.declared.Refusal.the-variants.{UnknownDevice, WrongLength, NoSuchFuse, NoSuchSetting, NoSuchValue, StrayBit, BadForm, WrongFuseCount, MisplacedFuseList, WrongFuseSum, WrongTransmissionSum, RoomTooShort}
+use Rattle.part.specs.declared.Refusal.the-variants.{UnknownDevice, WrongLength, NoSuchFuse, NoSuchSetting}
+use Rattle.part.specs.declared.Refusal.the-variants.{NoSuchValue, StrayBit, BadForm, WrongFuseCount}
+use Rattle.part.specs.declared.Refusal.the-variants.{MisplacedFuseList, WrongFuseSum, WrongTransmissionSum}
+use Rattle.part.specs.declared.Refusal.the-variants.{RoomTooShort}
 use Rattle.part.specs.declared.Sizes.{Sizes}
 use Rattle.part.specs.declared.SizesAnswer.{SizesAnswer}
 use Rattle.part.specs.declared.SizesAnswer.the-variants as sizes

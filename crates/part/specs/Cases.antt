@@ -1,5 +1,5 @@
--- Document 01's table of sizes, and its bench cases that are marked P as one table, with what it is for a row to hold; two devices that are none.
--- The bench cases are for two blocks of the small class.
+-- Document 01's table of sizes, and its bench cases that are marked P as one table, with what it is for a row to hold;
+-- two devices that are none. The bench cases are for two blocks of the small class.
 use mathlib.Core.Path.{_≡_}
 use mathlib.Core.Bool.{true}
 use mathlib.Core.List.{List, [], _∷_}
@@ -9,7 +9,8 @@ use Rattle.part.specs.Device.{isClass}
 use Rattle.part.specs.Convert.{sizesOf, addressOfFuse, fuseOfAddress}
 use Rattle.part.specs.declared.Device.{Device}
 
--- n, fuses, image bytes, readout bytes, and the bytes of the text, which document 01 gives for 2 and 16 blocks; in either class
+-- n, fuses, image bytes, readout bytes, and the bytes of the text, which document 01 gives for 2
+-- and 16 blocks; in either class
 abbrev pub Row : ℕ → ℕ → ℕ → ℕ → ℕ → Type 0
 Row n fuses image readout text =
     (class : ℕ) → isClass class ≡ true
@@ -27,7 +28,9 @@ TableOfSizes =
 
 -- a block count and a class that no device has
 abbrev pub NoDevices : Type 0
-NoDevices = (sizesOf (record { blocks = 10; class = 0 }) ≡ refused 1 0) × (sizesOf (record { blocks = 2; class = 2 }) ≡ refused 1 0)
+NoDevices =
+    (sizesOf (record { blocks = 10; class = 0 }) ≡ refused 1 0)
+    × (sizesOf (record { blocks = 2; class = 2 }) ≡ refused 1 0)
 
 pub data Case : Type 0 where
   -- a fuse is a bit of an address, and the other way round

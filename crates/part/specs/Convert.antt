@@ -22,7 +22,12 @@ ifLength bytes exact answer = cond (eqb bytes exact) answer (refused 2 0)
 unfoldable pub sizesOf : Device → Outcome Sizes
 sizesOf d =
     ifKnown d
-    (accepted (record { fuses = fuseCount d; «image_bytes» = imageBytes d; «readout_bytes» = readoutBytes d; «text_bytes» = textBytes d }))
+    (accepted (record {
+      fuses = fuseCount d;
+      «image_bytes» = imageBytes d;
+      «readout_bytes» = readoutBytes d;
+      «text_bytes» = textBytes d;
+    }))
 
 -- the address and the bit of a fuse
 unfoldable pub addressOfFuse : Device → ℕ → Outcome (ℕ × ℕ)

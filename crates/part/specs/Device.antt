@@ -1,5 +1,6 @@
 -- Which devices there are, and how many fuses and bytes each has: document 01, "Covered by the first build" and
--- "Three pictures of one part". Contracts above speak of `known`, the fuse count and the lengths; those that are given a block count make a device of it.
+-- "Three pictures of one part". Contracts above speak of `known`, the fuse count and the lengths; those that are given
+-- a block count make a device of it.
 use Prim.Native.Nat.{ℕ, _+_, _*_, _-_, _/_}
 use mathlib.Core.Bool.{Bool, cond, _&&_, _||_}
 use lib.Dec.{eqb, ltb}
@@ -103,7 +104,8 @@ readoutBytes d = inDevice d mainBytes subareaBytes
 -- how many decimal digits a count has: at most seven
 abbrev pub decimalDigits : ℕ → ℕ
 decimalDigits x =
-    cond (ltb x 10) 1 (cond (ltb x 100) 2 (cond (ltb x 1000) 3 (cond (ltb x 10000) 4 (cond (ltb x 100000) 5 (cond (ltb x 1000000) 6 7)))))
+    cond (ltb x 10) 1
+    (cond (ltb x 100) 2 (cond (ltb x 1000) 3 (cond (ltb x 10000) 4 (cond (ltb x 100000) 5 (cond (ltb x 1000000) 6 7)))))
 
 -- an L line: L, seven digits, a space before each column's bits, `*`, LF
 abbrev pub lineBytes : ℕ → ℕ → ℕ
@@ -119,4 +121,6 @@ wireAndRowText = lineBytes wireAndColumns wireAndRowFuses
 
 -- STX `*` LF; `QF`, the count, `*` LF; `F0*` LF; the L lines; `C`, four digits, `*` LF; ETX and four digits
 unfoldable pub textBytes : Device → ℕ
-textBytes d = 3 + (2 + decimalDigits (fuseCount d) + 2) + 4 + inDevice d (mainRows * mainRowText) (wireAndRows * wireAndRowText) + (1 + 4 + 2) + (1 + 4)
+textBytes d =
+    3 + (2 + decimalDigits (fuseCount d) + 2) + 4
+    + inDevice d (mainRows * mainRowText) (wireAndRows * wireAndRowText) + (1 + 4 + 2) + (1 + 4)

@@ -1,9 +1,12 @@
--- Where a fuse lies (document 01's "place"): a byte, that is block, area, row and column, and a bit of it. Then the fuse
--- number, the address and the readout index of each. Document 01, "Three pictures of one part"; 003's forward routine decides.
+-- Where a fuse lies (document 01's "place"): a byte, that is block, area, row and column, and a bit of it.
+-- Then the fuse number, the address and the readout index of each. Document 01, "Three pictures of one part";
+-- 003's forward routine decides.
 use Prim.Native.Nat.{ℕ, _+_, _*_, _-_, _/_, _%_, _^_}
 use mathlib.Core.Bool.{Bool, cond, _&&_}
 use lib.Dec.{eqb, ltb}
-use Rattle.part.specs.Device.{mainRows, mainColumns, mainWidth, mainStart, mainRowFuses, mainFuses, mainBytes, wireAndRows, wireAndColumns, wireAndWidth, wireAndStart, wireAndRowFuses, subareaFuses, subareaBytes, blockFuses, blockBytes}
+use Rattle.part.specs.Device.{mainRows, mainColumns, mainWidth, mainStart, mainRowFuses, mainFuses, mainBytes}
+use Rattle.part.specs.Device.{wireAndRows, wireAndColumns, wireAndWidth, wireAndStart, wireAndRowFuses}
+use Rattle.part.specs.Device.{subareaFuses, subareaBytes, blockFuses, blockBytes}
 use Rattle.part.specs.declared.Device.{Device}
 use Rattle.part.specs.declared.Place.{Place}
 use Rattle.part.specs.declared.BytePlace.{BytePlace}
@@ -34,7 +37,8 @@ firstFuse d (WireAnd block subarea row column) =
 abbrev pub fuseOfPlace : Device → Place → ℕ
 fuseOfPlace d p = firstFuse d (p .byte) + p .bit
 
--- The place of a fuse, by the steps of 003's forward routine: the column of what is left in a row, and the bit of the column ..
+-- The place of a fuse, by the steps of 003's forward routine: the column of what is left in a
+-- row, and the bit of the column ..
 abbrev pub columnInRow : (wide narrow rest : ℕ) → ℕ
 columnInRow wide narrow rest = cond (ltb rest (wide * 8)) (rest / 8) (wide + (rest - wide * 8) / narrow)
 
@@ -44,13 +48,17 @@ bitInRow wide narrow rest = cond (ltb rest (wide * 8)) (rest % 8) ((rest - wide 
 -- .. the row of what is left in the main area, the subarea and the row of what is left in the wire-AND area ..
 abbrev pub placeInMain : ℕ → ℕ → Place
 placeInMain block rest =
-    record { byte = Main block (rest / mainRowFuses) (columnInRow 9 6 (rest % mainRowFuses)); bit = bitInRow 9 6 (rest % mainRowFuses) }
+    record {
+      byte = Main block (rest / mainRowFuses) (columnInRow 9 6 (rest % mainRowFuses));
+      bit = bitInRow 9 6 (rest % mainRowFuses);
+    }
 
 abbrev pub placeInWireAnd : ℕ → ℕ → Place
 placeInWireAnd block rest =
     record {
       byte =
-          WireAnd block (rest / subareaFuses) (rest % subareaFuses / wireAndRowFuses) (columnInRow 1 7 (rest % subareaFuses % wireAndRowFuses));
+          WireAnd block (rest / subareaFuses) (rest % subareaFuses / wireAndRowFuses)
+          (columnInRow 1 7 (rest % subareaFuses % wireAndRowFuses));
       bit = bitInRow 1 7 (rest % subareaFuses % wireAndRowFuses);
     }
 
@@ -61,9 +69,9 @@ placeInBlock block rest = cond (ltb rest mainFuses) (placeInMain block rest) (pl
 unfoldable pub placeOfFuse : Device → ℕ → Place
 placeOfFuse d fuse = placeInBlock (fuse / blockFuses d) (fuse % blockFuses d)
 
--- An address has 17 bits: the block number in bits 13 to 16, the area kind in bit 12 (0 main, 1 wire-AND). Main: row in bits 5
--- to 11, column div 5 in bits 3 and 4, column mod 5 in bits 0 to 2. Wire-AND: subarea in bits 8 to 11, row in bits 3 to 7,
--- column in bits 0 to 2
+-- An address has 17 bits: the block number in bits 13 to 16, the area kind in bit 12 (0 main, 1 wire-AND). Main: row in
+-- bits 5 to 11, column div 5 in bits 3 and 4, column mod 5 in bits 0 to 2. Wire-AND: subarea in bits 8 to 11, row in
+-- bits 3 to 7, column in bits 0 to 2
 abbrev pub addressOfByte : BytePlace → ℕ
 addressOfByte (Main block row column) = block * 2 ^ 13 + 0 * 2 ^ 12 + row * 2 ^ 5 + column / 5 * 2 ^ 3 + column % 5
 addressOfByte (WireAnd block subarea row column) = block * 2 ^ 13 + 1 * 2 ^ 12 + subarea * 2 ^ 8 + row * 2 ^ 3 + column
@@ -72,14 +80,16 @@ addressOfByte (WireAnd block subarea row column) = block * 2 ^ 13 + 1 * 2 ^ 12 +
 abbrev pub field : ℕ → ℕ → ℕ → ℕ
 field x from width = x / 2 ^ from % 2 ^ width
 
--- the byte that the fields of an address name; bits above bit 16 belong to no field, so an address that has one is not the one that its fields compose
+-- the byte that the fields of an address name; bits above bit 16 belong to no field, so an address that has one is not
+-- the one that its fields compose
 unfoldable pub byteOfAddress : ℕ → BytePlace
 byteOfAddress address =
     cond (eqb (field address 12 1) 0)
     (Main (field address 13 4) (field address 5 7) (field address 3 2 * 5 + field address 0 3))
     (WireAnd (field address 13 4) (field address 8 4) (field address 3 5) (field address 0 3))
 
--- an address is valid if it is composed as above from a block, row and column (wire-AND: subarea too) that the device has
+-- an address is valid if it is composed as above from a block, row and column (wire-AND:
+-- subarea too) that the device has
 unfoldable pub valid : Device → ℕ → Bool
 valid d address = eqb (addressOfByte (byteOfAddress address)) address && hasByte d (byteOfAddress address)
 

@@ -5,8 +5,11 @@ ghost use mathlib.Core.Bool.{true};
 ghost use Prim.Native.Nat.{_+_, _*_, _/_, _%_, _^_, _<_, _≤_};
 ghost use Rattle.part.specs.Outcome.Outcome.{accepted};
 ghost use Rattle.part.specs.Answer.{addressOutcome};
-ghost use Rattle.part.specs.Device.{isBlockCount, known, blocksOf, isLarge, columnWidth, columnStart, mainFuses, subareaFuses, inBlock, inDevice, blockFuses, fuseCount, imageBytes, readoutBytes, textBytes, decimalDigits};
-ghost use Rattle.part.specs.Place.{hasByte, widthOf, columnInRow, bitInRow, firstFuse, placeInMain, placeInWireAnd, placeOfFuse, field, addressOfByte, byteOfAddress, indexOfByte};
+ghost use Rattle.part.specs.Device.{isBlockCount, known, blocksOf, isLarge, columnWidth, columnStart, mainFuses};
+ghost use Rattle.part.specs.Device.{subareaFuses, inBlock, inDevice, blockFuses, fuseCount, imageBytes};
+ghost use Rattle.part.specs.Device.{readoutBytes, textBytes, decimalDigits};
+ghost use Rattle.part.specs.Place.{hasByte, widthOf, columnInRow, bitInRow, firstFuse, placeInMain};
+ghost use Rattle.part.specs.Place.{placeInWireAnd, placeOfFuse, field, addressOfByte, byteOfAddress, indexOfByte};
 use super::AddressAnswer;
 use super::BytePlace;
 use super::Device;
@@ -256,10 +259,11 @@ pub fn index_of_byte(d: Device, byte: BytePlace) -> u32
     }
 }
 
-// x / d by a product, where that is exact. Called with a number d and a power of two it compiles to a product and a shift; the compiler's own
-// way to divide by a number takes more steps, since it does not know how small x is.
+// x / d by a product, where that is exact. Called with a number d and a power of two it compiles to a product and a
+// shift; the compiler's own way to divide by a number takes more steps, since it does not know how small x is.
 fn quotient(x: u32, d: u32, scale: u32) -> u32
-    requires { ⌜ (0 < d) × (0 < scale) × (scale / d < 65536) × (x * (scale / d + 1) < 2 ^ 32) × (x * (scale / d + 1) / scale ≡ x / d) ⌝ }
+    requires { ⌜ (0 < d) × (0 < scale) × (scale / d < 65536) × (x * (scale / d + 1) < 2 ^ 32)
+        × (x * (scale / d + 1) / scale ≡ x / d) ⌝ }
     ensures { λ r. ⌜ r ≡ x / d ⌝ }
 {
     x * (scale / d + 1) / scale
@@ -290,8 +294,9 @@ fn column_and_bit(wide: u32, narrow: u32, rest: u32) -> ColumnBit
     }
 }
 
-// 2^34 divided by the fuses of a block of a part of n blocks, and one more: a fuse times this, divided by 2^34, is its block. The divisor
-// is given where it is called, so that the compiler divides: a division at run time takes most of the time of a conversion.
+// 2^34 divided by the fuses of a block of a part of n blocks, and one more: a fuse times this, divided by 2^34, is
+// its block. The divisor is given where it is called, so that the compiler divides: a division at run time takes
+// most of the time of a conversion.
 fn scaled(n: u32) -> u64
     requires { ⌜ n ≤ 16 ⌝ }
     ensures { λ r. ⌜ r ≡ 2 ^ 34 / (mainFuses + n * subareaFuses) + 1 ⌝ }

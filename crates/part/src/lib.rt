@@ -167,7 +167,8 @@ pub fn sizes_of(d: Device) -> SizesAnswer
     })
 }
 
-// The address and the bit of a fuse. Refused: 1, 3. The steps of `place_of_fuse` are written out, so that no place goes through memory.
+// The address and the bit of a fuse. Refused: 1, 3. The steps of `place_of_fuse` are written out, so
+// that no place goes through memory.
 pub fn address_of_fuse(d: Device, fuse: FuseNumber) -> AddressAnswer
     ensures { λ r. ⌜ addressOutcome r ≡ addressOfFuse d (fuse .0) ⌝ }
 {

@@ -1,5 +1,5 @@
-// Prints what `part` answers: the sizes of each device, document 01's bench cases, and digests over all fuses and addresses.
-// The file stdout beside src/ is what the independent program prints.
+// Prints what `part` answers: the sizes of each device, document 01's bench cases, and digests over all fuses and
+// addresses. The file stdout beside src/ is what the independent program prints.
 
 use part::Device;
 use part::SizesAnswer;

@@ -76,17 +76,20 @@ packed-join (w ∷ ws) cells h =
     let byte = mod-lt (getD cells 0 0) (pow-pos 8) in
     rw (high more 8 byte)
     (ap₂ (λ (y z : ℕ). y * 2 ^ w + z) (packed-join ws (drop 1 cells) (others-narrow w ws h))
-    (sym (in-byte (more * 2 ^ 8 + getD cells 0 0 % 2 ^ 8) w (first-narrow w ws h)) ∙ rw (low more 8 byte) (in-byte (getD cells 0 0) w (first-narrow w ws h))))
+    (sym (in-byte (more * 2 ^ 8 + getD cells 0 0 % 2 ^ 8) w (first-narrow w ws h))
+    ∙ rw (low more 8 byte) (in-byte (getD cells 0 0) w (first-narrow w ws h))))
 
 -- the same of a word of `size` bytes that begins `skip` bytes before the cells
-pub packed-at : (ws readout : List ℕ) (p at skip size word : ℕ) → narrow ws ≡ true → at ≡ p + skip → p + size ≤ length readout → skip + length ws ≤ size
-    → word ≡ join (replicate size 8) (drop p readout)
+pub packed-at : (ws readout : List ℕ) (p at skip size word : ℕ) → narrow ws ≡ true → at ≡ p + skip → p + size ≤ length readout
+    → skip + length ws ≤ size → word ≡ join (replicate size 8) (drop p readout)
     → join ws (cut (replicate (length ws) 8) (word / 2 ^ (skip * 8))) ≡ join ws (drop at readout)
 packed-at ws readout p at skip size word h i g f e =
     let bytes : List ℕ = replicate (length ws) 8 in
     let all : total bytes ≡ length ws * 8 = total-replicate (length ws) 8 in
-    let here : cut bytes (word / 2 ^ (skip * 8)) ≡ cut bytes (number readout / 2 ^ (p * 8 + skip * 8)) = rw e (piece readout bytes p (skip * 8) size g (omega arith)) in
-    let there : cut bytes (join bytes (drop at readout) / 2 ^ 0) ≡ cut bytes (number readout / 2 ^ (at * 8 + 0)) = piece readout bytes at 0 (length ws) (omega arith) (omega arith) in
+    let here : cut bytes (word / 2 ^ (skip * 8)) ≡ cut bytes (number readout / 2 ^ (p * 8 + skip * 8)) =
+    rw e (piece readout bytes p (skip * 8) size g (omega arith)) in
+    let there : cut bytes (join bytes (drop at readout) / 2 ^ 0) ≡ cut bytes (number readout / 2 ^ (at * 8 + 0)) =
+    piece readout bytes at 0 (length ws) (omega arith) (omega arith) in
     let same : p * 8 + skip * 8 ≡ at * 8 + 0 = omega arith in
     ap (join ws) (here ∙ ap (λ (j : ℕ). cut bytes (number readout / 2 ^ j)) same ∙ sym there)
     ∙ sym (packed-cells ws (join bytes (drop at readout) / 2 ^ 0) h)

@@ -38,9 +38,11 @@ use Rattle.part.proofs.Conversions.{fuse-of-address-iff, passed}
 use Rattle.image.specs.Bits.{bitOf, bitAt, putBit, withBit, gathered}
 use Rattle.image.specs.Image.{state, withFuse, imageFrom}
 use Rattle.image.proofs.Images.{image-from, same-image, image-own, image-changed, image-others}
-use Rattle.image.proofs.Bits.{put-same, put-other, put-small, with-same, with-other, gathered-small, gathered-bit, gathered-same, gathered-own, bit-above, tabulate-length, tabulate-at}
+use Rattle.image.proofs.Bits.{put-same, put-other, put-small, with-same, with-other, gathered-small, gathered-bit, gathered-same}
+use Rattle.image.proofs.Bits.{gathered-own, bit-above, tabulate-length, tabulate-at}
 use Rattle.image.proofs.Counts.{state-bit}
-use Rattle.readout.specs.Readout.{widthAt, fuseAt, readoutFrom, readoutOf, indexInReadout, bitInReadout, stateIn, imageOf, strayAt, firstStray, toImage}
+use Rattle.readout.specs.Readout.{widthAt, fuseAt, readoutFrom, readoutOf, indexInReadout, bitInReadout, stateIn, imageOf, strayAt}
+use Rattle.readout.specs.Readout.{firstStray, toImage}
 use Rattle.readout.proofs.Passages.{fuse-below, place-at}
 use Rattle.readout.proofs.Strays.{lowest-is, none-below}
 
@@ -84,11 +86,13 @@ lies-there d index bit h hb =
 
 -- a readout that is made from states has those states
 module _ (d : Device) (states : ℕ → ℕ) (small : (fuse : ℕ) → states fuse < 2) where
-  readout-byte : (index : ℕ) → index < readoutBytes d → getD (readoutFrom d states) index 0 ≡ gathered (λ bit. states (fuseAt d index bit)) (widthAt d index)
+  readout-byte : (index : ℕ) → index < readoutBytes d
+      → getD (readoutFrom d states) index 0 ≡ gathered (λ bit. states (fuseAt d index bit)) (widthAt d index)
   unfolding readoutFrom
   readout-byte index h = tabulate-at (readoutBytes d) _ index h
 
-  pub readout-from : (index bit : ℕ) → index < readoutBytes d → bit < widthAt d index → bitAt (readoutFrom d states) index bit ≡ states (fuseAt d index bit)
+  pub readout-from : (index bit : ℕ) → index < readoutBytes d → bit < widthAt d index
+      → bitAt (readoutFrom d states) index bit ≡ states (fuseAt d index bit)
   unfolding bitAt
   readout-from index bit h hb =
       rw (readout-byte index h) (gathered-bit (λ b. states (fuseAt d index b)) (λ b. small _) (widthAt d index) bit hb)
@@ -112,12 +116,13 @@ module _ (d : Device) (f g : ℕ → ℕ) (same : (fuse : ℕ) → fuse < fuseCo
       (λ index h.
       let below : index < n = rw (tabulate-length n (λ i. gathered (λ bit. f (fuseAt d i bit)) (widthAt d i))) at h in
       tabulate-at n _ index below
-      ∙ gathered-same (λ bit. f (fuseAt d index bit)) (λ bit. g (fuseAt d index bit)) (widthAt d index) (λ bit hb. same (fuseAt d index bit) (fuse-below d index bit below hb))
+      ∙ gathered-same (λ bit. f (fuseAt d index bit)) (λ bit. g (fuseAt d index bit)) (widthAt d index)
+      (λ bit hb. same (fuseAt d index bit) (fuse-below d index bit below hb))
       ∙ sym (tabulate-at n _ index below))
 
 -- a readout is made from its own states
-pub readout-own : (d : Device) (readout : List ℕ) → length readout ≡ readoutBytes d → ((i : ℕ) → i < readoutBytes d → getD readout i 0 < 2 ^ widthAt d i)
-    → readoutFrom d (stateIn d readout) ≡ readout
+pub readout-own : (d : Device) (readout : List ℕ) → length readout ≡ readoutBytes d
+    → ((i : ℕ) → i < readoutBytes d → getD readout i 0 < 2 ^ widthAt d i) → readoutFrom d (stateIn d readout) ≡ readout
 unfolding readoutFrom stateIn bitAt
 readout-own d readout e small =
     let n = readoutBytes d in
@@ -137,16 +142,19 @@ unfolding readoutOf hasPlace
 readout-bit d image index bit fuse h e =
     let s = fuse-of-address-iff d fuse (addressOfByte (byteOfIndex d index)) bit .0 e in
     let has = and-iff (hasByte d (s .place .byte)) (ltb (s .place .bit) (widthOf (s .place .byte))) .0 (s .there) in
-    let byte : s .place .byte ≡ byteOfIndex d index = sym (again d (s .device) (s .place .byte) (has .0)) ∙ ap byteOfAddress (s .its-address) ∙ again d (s .device) (byteOfIndex d index) (at-index d index h .0) in
+    let byte : s .place .byte ≡ byteOfIndex d index = sym (again d (s .device) (s .place .byte) (has .0))
+    ∙ ap byteOfAddress (s .its-address) ∙ again d (s .device) (byteOfIndex d index) (at-index d index h .0) in
     let within : bit < widthAt d index = subst₂ (λ (b : BytePlace) (i : ℕ). i < widthOf b) byte (s .its-bit) (ltb-true _ _ (has .1)) in
     let same : fuseAt d index bit ≡ fuse = ap₂ (λ (b : BytePlace) (i : ℕ). firstFuse d b + i) (sym byte) (sym (s .its-bit)) ∙ s .its-fuse in
     readout-from d (state image) (state-bit image) index bit h within ∙ ap (state image) same
 
 -- bits above the byte's width are 0
-pub readout-above : (d : Device) (image : List ℕ) (index bit : ℕ) → index < readoutBytes d → widthAt d index ≤ bit → bitAt (readoutOf d image) index bit ≡ 0
+pub readout-above : (d : Device) (image : List ℕ) (index bit : ℕ) → index < readoutBytes d → widthAt d index ≤ bit
+    → bitAt (readoutOf d image) index bit ≡ 0
 unfolding readoutOf bitAt
 readout-above d image index bit h hb =
-    bit-above (getD (readoutFrom d (state image)) index 0) (widthAt d index) bit (readout-within d (state image) (state-bit image) index h) hb
+    bit-above (getD (readoutFrom d (state image)) index 0) (widthAt d index) bit
+    (readout-within d (state image) (state-bit image) index h) hb
 
 -- Image to readout to image, and readout to image to readout.
 state-in-bit : (d : Device) (readout : List ℕ) (fuse : ℕ) → stateIn d readout fuse < 2
@@ -157,7 +165,8 @@ pub image-again : (d : Device) (image : List ℕ) → known d ≡ true → lengt
     → imageOf d (readoutOf d image) ≡ image
 unfolding imageOf readoutOf
 image-again d image k e small =
-    same-image d (stateIn d (readoutFrom d (state image))) (state image) (readout-state d (state image) (state-bit image)) k ∙ image-own d image e small
+    same-image d (stateIn d (readoutFrom d (state image))) (state image) (readout-state d (state image) (state-bit image)) k
+    ∙ image-own d image e small
 
 -- no byte has a bit above its width
 abbrev pub Within : Device → List ℕ → Type 0
@@ -167,7 +176,8 @@ pub readout-again : (d : Device) (readout : List ℕ) → known d ≡ true → l
     → readoutOf d (imageOf d readout) ≡ readout
 unfolding imageOf readoutOf
 readout-again d readout k e small =
-    same-readout d (state (imageFrom d (stateIn d readout))) (stateIn d readout) (image-from d (stateIn d readout) (state-in-bit d readout) k)
+    same-readout d (state (imageFrom d (stateIn d readout))) (stateIn d readout)
+    (image-from d (stateIn d readout) (state-in-bit d readout) k)
     ∙ readout-own d readout e small
 
 -- no stray bit exactly if the scan goes through
@@ -176,7 +186,8 @@ unfolding strayAt
 no-stray-iff d readout = (
   λ h index below. leb-false (2 ^ widthAt d index) (getD readout index 0) (none-below (strayAt d readout) (readoutBytes d) h index below),
   λ h.
-      le-of-eq (sym (lowest-is (strayAt d readout) (readoutBytes d) (readoutBytes d) (omega arith) (λ index below. lt-leb (2 ^ widthAt d index) (getD readout index 0) (h index below)) (λ bad. absurd (omega arith)))),
+      le-of-eq (sym (lowest-is (strayAt d readout) (readoutBytes d) (readoutBytes d) (omega arith)
+      (λ index below. lt-leb (2 ^ widthAt d index) (getD readout index 0) (h index below)) (λ bad. absurd (omega arith)))),
 )
 
 -- an image's readout has none
@@ -186,22 +197,33 @@ readout-accepted d image = readout-within d (state image) (state-bit image)
 
 -- A readout is accepted exactly if the device is known, the lengths are exact and no byte has a bit above its width.
 pub accepted-iff : (d : Device) (readout target : List ℕ)
-    → (toImage d readout target ≡ accepted tt) ↔ ((known d ≡ true) × (length readout ≡ readoutBytes d) × (length target ≡ imageBytes d) × Within d readout)
+    → (toImage d readout target ≡ accepted tt)
+    ↔ ((known d ≡ true) × (length readout ≡ readoutBytes d) × (length target ≡ imageBytes d) × Within d readout)
 unfolding toImage
 accepted-iff d readout target = (
   λ e.
       let one = passed (known d) _ 1 0 e in
       let two = passed (eqb (length readout) (readoutBytes d)) _ 2 0 (one .1) in
-      let three = passed (eqb (length target) (imageBytes d)) _ 2 0 (two .1) in
-      (one .0, eqb-true _ _ (two .0), eqb-true _ _ (three .0), no-stray-iff d readout .0 (not-refused (firstStray d readout) (readoutBytes d) (three .1))),
-  λ h. rw (h .0, eq-eqb (length readout) (readoutBytes d) (h .1), eq-eqb (length target) (imageBytes d) (h .2), le-ltb (firstStray d readout) (readoutBytes d) (no-stray-iff d readout .1 (h .3))),
+      let three = passed (eqb (length target) (imageBytes d)) _ 2 0 (two .1) in (
+        one .0,
+        eqb-true _ _ (two .0),
+        eqb-true _ _ (three .0),
+        no-stray-iff d readout .0 (not-refused (firstStray d readout) (readoutBytes d) (three .1)),
+      ),
+  λ h. rw (
+    h .0,
+    eq-eqb (length readout) (readoutBytes d) (h .1),
+    eq-eqb (length target) (imageBytes d) (h .2),
+    le-ltb (firstStray d readout) (readoutBytes d) (no-stray-iff d readout .1 (h .3)),
+  ),
 )
   where
     clash : (k : ℕ) → _≡_ {A = Outcome (Unit {0})} (refused 6 k) (accepted tt) → _≡_ {A = ℕ} 0 1
     clash k e = cc
 
     not-refused : (k n : ℕ) → cond (ltb k n) (refused 6 k) (accepted tt) ≡ accepted (tt {0}) → n ≤ k
-    not-refused k n e = compared k n (λ less. let z : _≡_ {A = ℕ} 0 1 = clash k (rw (lt-ltb k n less) at e) in absurd (omega arith)) (λ more. more)
+    not-refused k n e =
+        compared k n (λ less. let z : _≡_ {A = ℕ} 0 1 = clash k (rw (lt-ltb k n less) at e) in absurd (omega arith)) (λ more. more)
 
 -- A change of one fuse: in the image, and of the bit at its address in the readout.
 abbrev pub withFuseIn : Device → List ℕ → (fuse s : ℕ) → List ℕ
@@ -216,7 +238,8 @@ module _ (d : Device) (readout : List ℕ) (fuse s : ℕ) (l : length readout �
   unfolding stateIn
   readout-changed = with-same readout (indexInReadout d fuse) (bitInReadout d fuse) s there bit
 
-  pub readout-others : (other : ℕ) → other < fuseCount d → other ≢ fuse → stateIn d (withFuseIn d readout fuse s) other ≡ stateIn d readout other
+  pub readout-others : (other : ℕ) → other < fuseCount d → other ≢ fuse
+      → stateIn d (withFuseIn d readout fuse s) other ≡ stateIn d readout other
   unfolding stateIn
   readout-others other ho ne =
       with-other readout (indexInReadout d fuse) (bitInReadout d fuse) s there bit (indexInReadout d other) (bitInReadout d other)
@@ -249,7 +272,8 @@ module _ (d : Device) (image : List ℕ) (fuse s : ℕ) (within : fuse < length 
 
   changed-byte : (index : ℕ) → index < readoutBytes d → Dec (index ≡ indexInReadout d fuse)
       → getD (readoutFrom d new) index 0
-      ≡ getD (set (readoutFrom d old) (indexInReadout d fuse) (putBit (getD (readoutFrom d old) (indexInReadout d fuse) 0) (bitInReadout d fuse) s)) index 0
+      ≡ getD (set (readoutFrom d old) (indexInReadout d fuse)
+      (putBit (getD (readoutFrom d old) (indexInReadout d fuse) 0) (bitInReadout d fuse) s)) index 0
   unfolding old new
   changed-byte index below (yes same) =
       let l = lying d fuse h in
@@ -257,15 +281,26 @@ module _ (d : Device) (image : List ℕ) (fuse s : ℕ) (within : fuse < length 
       let b = bitInReadout d fuse in
       let put = putBit (getD (readoutFrom d old) j 0) b s in
       let at : new (fuseAt d j b) ≡ s = ap new (l .its-own) ∙ image-changed image fuse s within bit in
-      rw (same, getD-set-same (readoutFrom d old) j put 0 (rw (from-length d old) (l .index-below)), readout-byte d new (state-bit (withFuse image fuse s)) j (l .index-below), readout-byte d old (state-bit image) j (l .index-below))
+      rw (
+        same,
+        getD-set-same (readoutFrom d old) j put 0 (rw (from-length d old) (l .index-below)),
+        readout-byte d new (state-bit (withFuse image fuse s)) j (l .index-below),
+        readout-byte d old (state-bit image) j (l .index-below),
+      )
       (gathered-put (λ i. old (fuseAt d j i)) (λ i. new (fuseAt d j i)) (widthAt d j) b s (λ i. state-bit image _) bit (l .bit-below) at
-      (λ i hi ne. image-others image fuse s within bit (fuseAt d j i) (λ e. ne (sym (lies-there d j i (l .index-below) hi .1) ∙ ap (bitInReadout d) e))))
+      (λ i hi ne. image-others image fuse s within bit (fuseAt d j i)
+      (λ e. ne (sym (lies-there d j i (l .index-below) hi .1) ∙ ap (bitInReadout d) e))))
   changed-byte index below (no other) =
       let j = indexInReadout d fuse in
       let put = putBit (getD (readoutFrom d old) j 0) (bitInReadout d fuse) s in
-      rw (getD-set-other (readoutFrom d old) j index put 0 other, readout-byte d new (state-bit (withFuse image fuse s)) index below, readout-byte d old (state-bit image) index below)
+      rw (
+        getD-set-other (readoutFrom d old) j index put 0 other,
+        readout-byte d new (state-bit (withFuse image fuse s)) index below,
+        readout-byte d old (state-bit image) index below,
+      )
       (gathered-same (λ i. new (fuseAt d index i)) (λ i. old (fuseAt d index i)) (widthAt d index)
-      (λ i hi. image-others image fuse s within bit (fuseAt d index i) (λ e. other (sym (lies-there d index i below hi .0) ∙ ap (indexInReadout d) e))))
+      (λ i hi. image-others image fuse s within bit (fuseAt d index i)
+      (λ e. other (sym (lies-there d index i below hi .0) ∙ ap (indexInReadout d) e))))
 
 -- The readout of the changed image is the changed readout.
 pub change-agrees : (d : Device) (image : List ℕ) (fuse s : ℕ) → known d ≡ true → length image ≡ imageBytes d → fuse < fuseCount d → s < 2
@@ -278,4 +313,5 @@ change-agrees d image fuse s k e h bit =
     ext-getD 0 after (set before (indexInReadout d fuse) put)
     (from-length d (state (withFuse image fuse s)) ∙ sym (length-set before (indexInReadout d fuse) put ∙ from-length d (state image)))
     (λ index g.
-    changed-byte d image fuse s (omega (arith, image-whole d k)) h bit index (rw (from-length d (state (withFuse image fuse s))) at g) (ℕ-discrete index (indexInReadout d fuse)))
+    changed-byte d image fuse s (omega (arith, image-whole d k)) h bit index (rw (from-length d (state (withFuse image fuse s))) at g)
+    (ℕ-discrete index (indexInReadout d fuse)))

@@ -38,7 +38,8 @@ place-at d index bit h hb = and-iff _ _ .1 (at-index d index h .0, lt-ltb bit (w
 pub fuse-below : (d : Device) (index bit : ℕ) → index < readoutBytes d → bit < widthAt d index → fuseAt d index bit < fuseCount d
 fuse-below d index bit h hb = of-place d (record { byte = byteOfIndex d index; bit = bit }) (place-at d index bit h hb) .0
 
-pub readout-cut : (d : Device) (image : List ℕ) → known d ≡ true → length image ≡ imageBytes d → cut (widths d) (number image) ≡ readoutOf d image
+pub readout-cut : (d : Device) (image : List ℕ) → known d ≡ true → length image ≡ imageBytes d
+    → cut (widths d) (number image) ≡ readoutOf d image
 unfolding readoutOf readoutFrom
 readout-cut d image k e =
     ext-getD 0 (cut (widths d) (number image)) (readoutOf d image)
@@ -51,7 +52,8 @@ readout-cut d image k e =
     ∙ rw (at .0, at .1)
     (sym (gathered-own (number image / 2 ^ first) (widthAt d index))
     ∙ gathered-same (bitOf (number image / 2 ^ first)) (λ bit. state image (fuseAt d index bit)) (widthAt d index)
-    (λ bit hb. sym (bit-high (number image) first bit) ∙ number-bit image (first + bit) (omega (arith, fuse-below d index bit below hb, image-whole d k)))
+    (λ bit hb. sym (bit-high (number image) first bit)
+    ∙ number-bit image (first + bit) (omega (arith, fuse-below d index bit below hb, image-whole d k)))
     ∙ sym (tabulate-at (readoutBytes d) _ index below)))
 
 pub readout-length : (d : Device) (image : List ℕ) → length (readoutOf d image) ≡ readoutBytes d
@@ -64,7 +66,8 @@ sets-whole out cells e =
     ∙ rw (zero-add (length cells), drop-of-length-le out (le-of-eq e)) (append-nil cells)
 
 -- the state of a fuse in a readout is a bit of the number that its bytes join to
-pub readout-number-bit : (d : Device) (readout : List ℕ) → known d ≡ true → (fuse : ℕ) → fuse < fuseCount d → bitOf (join (widths d) readout) fuse ≡ stateIn d readout fuse
+pub readout-number-bit : (d : Device) (readout : List ℕ) → known d ≡ true → (fuse : ℕ) → fuse < fuseCount d
+    → bitOf (join (widths d) readout) fuse ≡ stateIn d readout fuse
 unfolding stateIn bitAt hasPlace
 readout-number-bit d readout k fuse h =
     let p = placeOfFuse d fuse in
@@ -74,9 +77,11 @@ readout-number-bit d readout k fuse h =
     let found = of-byte d (p .byte) (facts .0) in
     let at = subst (λ (b : BytePlace). At (widths d) index (widthOf b) (firstFuse d b)) (found .1) (widths-at d index (found .0)) in
     subst (λ (f : ℕ). bitOf (join (widths d) readout) f ≡ bitOf (getD readout index 0) (p .bit)) (lies .1)
-    (joined-bit (widths d) readout index (widthOf (p .byte)) (firstFuse d (p .byte)) (p .bit) (rw (widths-length d k) (found .0)) at (ltb-true _ _ (facts .1)))
+    (joined-bit (widths d) readout index (widthOf (p .byte)) (firstFuse d (p .byte)) (p .bit)
+    (rw (widths-length d k) (found .0)) at (ltb-true _ _ (facts .1)))
 
-pub image-cut : (d : Device) (readout : List ℕ) → known d ≡ true → cut (replicate (imageBytes d) 8) (join (widths d) readout) ≡ imageOf d readout
+pub image-cut : (d : Device) (readout : List ℕ) → known d ≡ true
+    → cut (replicate (imageBytes d) 8) (join (widths d) readout) ≡ imageOf d readout
 unfolding imageOf imageFrom
 image-cut d readout k =
     let n = imageBytes d in

@@ -13,7 +13,8 @@ use lib.Seq.{sets, length-sets, drop-drop}
 use mir.Syntax.{w64}
 use mir.Val.{Fits}
 use Rattle.cells.specs.Cells.{cut, join, total, repeat}
-use Rattle.cells.proofs.Laws.{cut-append, cut-low, cut-sets, cut-length, regrouped, join-append, join-small, join-few, total-append, total-replicate, sets-append}
+use Rattle.cells.proofs.Laws.{cut-append, cut-low, cut-sets, cut-length, regrouped, join-append, join-small, join-few, total-append}
+use Rattle.cells.proofs.Laws.{total-replicate, sets-append}
 use Rattle.part.specs.Device.{known, imageBytes, readoutBytes}
 use Rattle.part.specs.declared.Device.{Device}
 use Rattle.readout.proofs.Fields.{narrow, packed-at}
@@ -28,7 +29,8 @@ shifted cells shift h hs = shl-exact 48 shift 64 h (omega arith)
 pub word-fits : (cells carry shift : ℕ) → cells < 2 ^ 48 → shift ≤ 4 → carry < 2 ^ shift → Fits w64 (cells * 2 ^ shift % 2 ^ 64 + carry)
 word-fits cells carry shift h hs hc =
     let small : cells * 2 ^ shift + carry < 2 ^ 48 * 2 ^ shift = digits-lt h hc in
-    let few : 2 ^ 48 * 2 ^ shift ≤ 2 ^ 52 = subst (λ (y : ℕ). y ≤ 2 ^ 52) (pow-add 2 48 shift) (pow-mono {i = 48 + shift} {j = 52} (omega arith)) in
+    let few : 2 ^ 48 * 2 ^ shift ≤ 2 ^ 52 =
+    subst (λ (y : ℕ). y ≤ 2 ^ 52) (pow-add 2 48 shift) (pow-mono {i = 48 + shift} {j = 52} (omega arith)) in
     rw (shifted cells shift h hs) (omega arith)
 
 pub over : (cells carry shift bytes : ℕ) → cells < 2 ^ 48 → shift ≤ 4
@@ -36,7 +38,8 @@ pub over : (cells carry shift bytes : ℕ) → cells < 2 ^ 48 → shift ≤ 4
 over cells carry shift bytes h hs = ap (λ (y : ℕ). (y + carry) / 2 ^ (bytes * 8)) (shifted cells shift h hs)
 
 pub stored : (cells carry shift byte bytes : ℕ) (out next : List ℕ) → cells < 2 ^ 48 → shift ≤ 4
-    → next ≡ sets out byte (cut (replicate bytes 8) (cells * 2 ^ shift % 2 ^ 64 + carry)) → next ≡ sets out byte (cut (replicate bytes 8) (cells * 2 ^ shift + carry))
+    → next ≡ sets out byte (cut (replicate bytes 8) (cells * 2 ^ shift % 2 ^ 64 + carry))
+    → next ≡ sets out byte (cut (replicate bytes 8) (cells * 2 ^ shift + carry))
 stored cells carry shift byte bytes out next h hs e =
     e ∙ ap (λ (y : ℕ). sets out byte (cut (replicate bytes 8) (y + carry))) (shifted cells shift h hs)
 
@@ -47,8 +50,10 @@ few count width x cells hc hw e = rw e (join-few count width 6 cells hc hw)
 pub of-cells : (x cells carry shift byte bytes r : ℕ) (out next : List ℕ) → x ≡ cells → r ≡ (x * 2 ^ shift + carry) / 2 ^ (bytes * 8)
     → next ≡ sets out byte (cut (replicate bytes 8) (x * 2 ^ shift + carry))
     → (r ≡ (cells * 2 ^ shift + carry) / 2 ^ (bytes * 8)) × (next ≡ sets out byte (cut (replicate bytes 8) (cells * 2 ^ shift + carry)))
-of-cells x cells carry shift byte bytes r out next e f g =
-    (f ∙ ap (λ (y : ℕ). (y * 2 ^ shift + carry) / 2 ^ (bytes * 8)) e, g ∙ ap (λ (y : ℕ). sets out byte (cut (replicate bytes 8) (y * 2 ^ shift + carry))) e)
+of-cells x cells carry shift byte bytes r out next e f g = (
+  f ∙ ap (λ (y : ℕ). (y * 2 ^ shift + carry) / 2 ^ (bytes * 8)) e,
+  g ∙ ap (λ (y : ℕ). sets out byte (cut (replicate bytes 8) (y * 2 ^ shift + carry))) e,
+)
 
 -- the same of a whole word and eight bytes: what the shift loses is what is left over
 wrapped : (word x shift : ℕ) → x < 2 ^ shift → shift ≤ 36 → (word * 2 ^ shift + x) % 2 ^ 64 ≡ word % 2 ^ (64 - shift) * 2 ^ shift + x
@@ -58,7 +63,8 @@ wrapped word x shift h hs =
     ∙ mod-pow-add (word * 2 ^ shift + x) (64 - shift) shift
     ∙ ap₂ (λ (y z : ℕ). y % 2 ^ (64 - shift) * 2 ^ shift + z) (high word shift h) (low word shift h)
 
-eight-low : (word carry shift : ℕ) → carry < 2 ^ shift → shift ≤ 36 → word * 2 ^ shift % 2 ^ 64 + carry ≡ (word * 2 ^ shift + carry) % 2 ^ 64
+eight-low : (word carry shift : ℕ) → carry < 2 ^ shift → shift ≤ 36
+    → word * 2 ^ shift % 2 ^ 64 + carry ≡ (word * 2 ^ shift + carry) % 2 ^ 64
 eight-low word carry shift h hs =
     ap (λ (y : ℕ). y % 2 ^ 64 + carry) (sym (add-zero (word * 2 ^ shift)))
     ∙ ap (λ (y : ℕ). y + carry) (wrapped word 0 shift (pow-pos shift) hs ∙ add-zero (word % 2 ^ (64 - shift) * 2 ^ shift))
@@ -82,16 +88,19 @@ eight-over word carry shift h hs =
     ∙ ap (λ (j : ℕ). x / 2 ^ j) whole
 
 pub eight-stored : (word carry shift byte : ℕ) (out next : List ℕ) → carry < 2 ^ shift → shift ≤ 36
-    → next ≡ sets out byte (cut (replicate 8 8) (word * 2 ^ shift % 2 ^ 64 + carry)) → next ≡ sets out byte (cut (replicate 8 8) (word * 2 ^ shift + carry))
+    → next ≡ sets out byte (cut (replicate 8 8) (word * 2 ^ shift % 2 ^ 64 + carry))
+    → next ≡ sets out byte (cut (replicate 8 8) (word * 2 ^ shift + carry))
 unfolding total
 eight-stored word carry shift byte out next h hs e =
-    e ∙ ap (sets out byte) (ap (cut (replicate 8 8)) (eight-low word carry shift h hs) ∙ cut-low (replicate 8 8) (word * 2 ^ shift + carry) 0)
+    e
+    ∙ ap (sets out byte) (ap (cut (replicate 8 8)) (eight-low word carry shift h hs) ∙ cut-low (replicate 8 8) (word * 2 ^ shift + carry) 0)
 
 -- six cells of 6 bits, out of eight bytes
 pub few-six : (cells : List ℕ) (x : ℕ) → x ≡ join (replicate 6 6) cells → x < 2 ^ 48
 few-six cells x e = few 6 6 x cells (omega arith) (omega arith) e
 
-pub of-six : (readout : List ℕ) (at skip word x carry shift byte bytes r : ℕ) (out next : List ℕ) → skip ≤ 2 → skip ≤ at → at + (8 - skip) ≤ length readout
+pub of-six : (readout : List ℕ) (at skip word x carry shift byte bytes r : ℕ) (out next : List ℕ) → skip ≤ 2
+    → skip ≤ at → at + (8 - skip) ≤ length readout
     → word ≡ join (replicate 8 8) (drop (at - skip) readout) → x ≡ join (replicate 6 6) (cut (replicate 6 8) (word / 2 ^ (skip * 8)))
     → r ≡ (x * 2 ^ shift + carry) / 2 ^ (bytes * 8) → next ≡ sets out byte (cut (replicate bytes 8) (x * 2 ^ shift + carry))
     → (r ≡ (join (replicate 6 6) (drop at readout) * 2 ^ shift + carry) / 2 ^ (bytes * 8))
@@ -115,8 +124,8 @@ small-row cells x e = rw e (join-small (rowWidths false) cells)
 
 -- One step: of the cells `cs` and then `ws`, joined above a carry of s bits, k bytes are stored and s' bits are left over; what
 -- remains to be stored, stored now, gives what all gives.
-pub chunk : (cs ws readout out next : List ℕ) (at at' carry over s s' byte byte' k m : ℕ) → total cs + s ≡ s' + k * 8 → at' ≡ at + length cs → byte' ≡ byte + k
-    → over ≡ (join cs (drop at readout) * 2 ^ s + carry) / 2 ^ (k * 8)
+pub chunk : (cs ws readout out next : List ℕ) (at at' carry over s s' byte byte' k m : ℕ) → total cs + s ≡ s' + k * 8
+    → at' ≡ at + length cs → byte' ≡ byte + k → over ≡ (join cs (drop at readout) * 2 ^ s + carry) / 2 ^ (k * 8)
     → next ≡ sets out byte (cut (replicate k 8) (join cs (drop at readout) * 2 ^ s + carry))
     → sets next byte' (cut (replicate m 8) (join ws (drop at' readout) * 2 ^ s' + over))
     ≡ sets out byte (cut (replicate (k + m) 8) (join (cs ++ ws) (drop at readout) * 2 ^ s + carry))
@@ -125,20 +134,40 @@ chunk cs ws readout out next at at' carry over s s' byte byte' k m t ea eb eo en
     let word = join cs cells * 2 ^ s + carry in
     let rest = join ws (drop at' readout) in
     let there : drop (length cs) cells ≡ drop at' readout = drop-drop (length cs) at readout ∙ ap (λ (i : ℕ). drop i readout) (sym ea) in
-    let power : rest * 2 ^ (s + total cs) ≡ rest * 2 ^ s' * 2 ^ (k * 8) = ap (λ (i : ℕ). rest * 2 ^ i) (add-comm s (total cs) ∙ t) ∙ ap (λ (y : ℕ). rest * y) (pow-add 2 s' (k * 8)) ∙ sym (mul-assoc rest (2 ^ s') (2 ^ (k * 8))) in
-    let whole : join (cs ++ ws) cells * 2 ^ s + carry ≡ word + rest * 2 ^ s' * 2 ^ (k * 8) = ap (λ (y : ℕ). y * 2 ^ s + carry) (join-append cs ws cells ∙ ap (λ (l : List ℕ). join cs cells + join ws l * 2 ^ total cs) there) ∙ regrouped (join cs cells) rest carry (total cs) s ∙ ap (λ (y : ℕ). word + y) power in
+    let power : rest * 2 ^ (s + total cs) ≡ rest * 2 ^ s' * 2 ^ (k * 8) = ap (λ (i : ℕ). rest * 2 ^ i) (add-comm s (total cs) ∙ t)
+    ∙ ap (λ (y : ℕ). rest * y) (pow-add 2 s' (k * 8)) ∙ sym (mul-assoc rest (2 ^ s') (2 ^ (k * 8))) in
+    let whole : join (cs ++ ws) cells * 2 ^ s + carry ≡ word + rest * 2 ^ s' * 2 ^ (k * 8) =
+    ap (λ (y : ℕ). y * 2 ^ s + carry) (join-append cs ws cells ∙ ap (λ (l : List ℕ). join cs cells + join ws l * 2 ^ total cs) there)
+    ∙ regrouped (join cs cells) rest carry (total cs) s ∙ ap (λ (y : ℕ). word + y) power in
     let rep : List ℕ = replicate k 8 in
     let size : total rep ≡ k * 8 = total-replicate k 8 in
-    let low-part : cut rep (word + rest * 2 ^ s' * 2 ^ (k * 8)) ≡ cut rep word = sym (cut-low rep (word + rest * 2 ^ s' * 2 ^ (k * 8)) 0) ∙ ap (λ (i : ℕ). cut rep ((word + rest * 2 ^ s' * 2 ^ (k * 8)) % 2 ^ i)) (zero-add (total rep) ∙ size) ∙ ap (cut rep) (add-mul-mod-self-right word (rest * 2 ^ s') (2 ^ (k * 8))) ∙ ap (λ (i : ℕ). cut rep (word % 2 ^ i)) (sym (zero-add (total rep) ∙ size)) ∙ cut-low rep word 0 in
-    let high-part : (word + rest * 2 ^ s' * 2 ^ (k * 8)) / 2 ^ (k * 8) ≡ rest * 2 ^ s' + over = add-mul-div-right word (rest * 2 ^ s') (pow-pos (k * 8)) ∙ rw (← eo) (add-comm over (rest * 2 ^ s')) in
-    rw (whole, ← replicate-append-replicate {A = ℕ} k m 8, cut-append rep (replicate m 8) (word + rest * 2 ^ s' * 2 ^ (k * 8)), low-part, size, high-part, sets-append out byte (cut rep word) (cut (replicate m 8) (rest * 2 ^ s' + over)), cut-length rep word, length-replicate {A = ℕ} k 8, ← en, ← eb)
+    let low-part : cut rep (word + rest * 2 ^ s' * 2 ^ (k * 8)) ≡ cut rep word = sym (cut-low rep (word + rest * 2 ^ s' * 2 ^ (k * 8)) 0)
+    ∙ ap (λ (i : ℕ). cut rep ((word + rest * 2 ^ s' * 2 ^ (k * 8)) % 2 ^ i)) (zero-add (total rep) ∙ size)
+    ∙ ap (cut rep) (add-mul-mod-self-right word (rest * 2 ^ s') (2 ^ (k * 8)))
+    ∙ ap (λ (i : ℕ). cut rep (word % 2 ^ i)) (sym (zero-add (total rep) ∙ size)) ∙ cut-low rep word 0 in
+    let high-part : (word + rest * 2 ^ s' * 2 ^ (k * 8)) / 2 ^ (k * 8) ≡ rest * 2 ^ s' + over =
+    add-mul-div-right word (rest * 2 ^ s') (pow-pos (k * 8)) ∙ rw (← eo) (add-comm over (rest * 2 ^ s')) in
+    rw (
+      whole,
+      ← replicate-append-replicate {A = ℕ} k m 8,
+      cut-append rep (replicate m 8) (word + rest * 2 ^ s' * 2 ^ (k * 8)),
+      low-part,
+      size,
+      high-part,
+      sets-append out byte (cut rep word) (cut (replicate m 8) (rest * 2 ^ s' + over)),
+      cut-length rep word,
+      length-replicate {A = ℕ} k 8,
+      ← en,
+      ← eb,
+    )
 
 -- what is left over has only the bits that were not stored
 pub left-over : (cs cells : List ℕ) (carry over s s' k : ℕ) → carry < 2 ^ s → total cs + s ≡ s' + k * 8
     → over ≡ (join cs cells * 2 ^ s + carry) / 2 ^ (k * 8) → over < 2 ^ s'
 left-over cs cells carry over s s' k h t e =
     let small : join cs cells * 2 ^ s + carry < 2 ^ total cs * 2 ^ s = digits-lt (join-small cs cells) h in
-    let small' : join cs cells * 2 ^ s + carry < 2 ^ (s' + k * 8) = subst (λ (i : ℕ). join cs cells * 2 ^ s + carry < 2 ^ i) t (rw (pow-add 2 (total cs) s) small) in
+    let small' : join cs cells * 2 ^ s + carry < 2 ^ (s' + k * 8) =
+    subst (λ (i : ℕ). join cs cells * 2 ^ s + carry < 2 ^ i) t (rw (pow-add 2 (total cs) s) small) in
     rw e (shr-lt s' (k * 8) small')
 
 -- two rows of the main area
@@ -157,13 +186,19 @@ pub main-rows : (readout o0 o1 o2 o3 o4 o5 o6 : List ℕ) (at byte c1 c2 c3 c4 c
     → o6 ≡ sets o0 byte (bytesIn (pairWidths true) (drop at readout))
 unfolding rowWidths pairWidths wholeBytes bytesIn total cut
 main-rows readout o0 o1 o2 o3 o4 o5 o6 at byte c1 c2 c3 c4 c5 d1 e1 d2 e2 d3 e3 d4 e4 d5 e5 e6 =
-    let all : join (rowWidths true ++ rowWidths true) (drop at readout) * 2 ^ 0 + 0 ≡ join (rowWidths true ++ rowWidths true) (drop at readout) = omega arith in
+    let all : join (rowWidths true ++ rowWidths true) (drop at readout) * 2 ^ 0 + 0
+    ≡ join (rowWidths true ++ rowWidths true) (drop at readout) = omega arith in
     chunk (replicate 6 6) [] readout o5 o6 (at + 24) (at + 30) c5 _ 4 0 (byte + 22) (byte + 27) 5 0 refl (omega arith) (omega arith) refl e6
-    ∙ chunk (replicate 1 8) (replicate 6 6 ++ []) readout o4 o5 (at + 23) (at + 24) c4 c5 4 4 (byte + 21) (byte + 22) 1 5 refl (omega arith) (omega arith) d5 e5
-    ∙ chunk (replicate 8 8) (replicate 1 8 ++ (replicate 6 6 ++ [])) readout o3 o4 (at + 15) (at + 23) c3 c4 4 4 (byte + 13) (byte + 21) 8 6 refl (omega arith) (omega arith) d4 e4
-    ∙ chunk (replicate 6 6) (replicate 8 8 ++ (replicate 1 8 ++ (replicate 6 6 ++ []))) readout o2 o3 (at + 9) (at + 15) c2 c3 0 4 (byte + 9) (byte + 13) 4 14 refl (omega arith) (omega arith) d3 e3
-    ∙ chunk (replicate 1 8) (replicate 6 6 ++ (replicate 8 8 ++ (replicate 1 8 ++ (replicate 6 6 ++ [])))) readout o1 o2 (at + 8) (at + 9) c1 c2 0 0 (byte + 8) (byte + 9) 1 18 refl (omega arith) (omega arith) d2 e2
-    ∙ chunk (replicate 8 8) (replicate 1 8 ++ (replicate 6 6 ++ (replicate 8 8 ++ (replicate 1 8 ++ (replicate 6 6 ++ []))))) readout o0 o1 at (at + 8) 0 c1 0 0 byte (byte + 8) 8 19 refl (omega arith) (omega arith) d1 e1
+    ∙ chunk (replicate 1 8) (replicate 6 6 ++ []) readout o4 o5 (at + 23) (at + 24) c4 c5 4 4 (byte + 21) (byte + 22) 1 5 refl
+    (omega arith) (omega arith) d5 e5
+    ∙ chunk (replicate 8 8) (replicate 1 8 ++ (replicate 6 6 ++ [])) readout o3 o4 (at + 15) (at + 23) c3 c4 4 4 (byte + 13)
+    (byte + 21) 8 6 refl (omega arith) (omega arith) d4 e4
+    ∙ chunk (replicate 6 6) (replicate 8 8 ++ (replicate 1 8 ++ (replicate 6 6 ++ []))) readout o2 o3 (at + 9) (at + 15) c2 c3 0 4
+    (byte + 9) (byte + 13) 4 14 refl (omega arith) (omega arith) d3 e3
+    ∙ chunk (replicate 1 8) (replicate 6 6 ++ (replicate 8 8 ++ (replicate 1 8 ++ (replicate 6 6 ++ [])))) readout o1 o2 (at + 8)
+    (at + 9) c1 c2 0 0 (byte + 8) (byte + 9) 1 18 refl (omega arith) (omega arith) d2 e2
+    ∙ chunk (replicate 8 8) (replicate 1 8 ++ (replicate 6 6 ++ (replicate 8 8 ++ (replicate 1 8 ++ (replicate 6 6 ++ []))))) readout o0
+    o1 at (at + 8) 0 c1 0 0 byte (byte + 8) 8 19 refl (omega arith) (omega arith) d1 e1
     ∙ ap (λ (x : ℕ). sets o0 byte (cut (replicate 27 8) x)) all
 
 -- two rows of the wire-AND area
@@ -177,15 +212,17 @@ wire-and-rows readout o0 o1 o2 at byte one two top e1 e2 e3 e4 e5 =
     let ws = rowWidths false in
     let cells = drop at readout in
     let x = two * 2 ^ 36 + one in
-    let all : join (ws ++ ws) cells ≡ x = join-append ws ws cells ∙ ap (λ (l : List ℕ). join ws cells + join ws l * 2 ^ 36) (drop-drop 5 at readout) ∙ ap₂ (λ (y z : ℕ). y + z * 2 ^ 36) (sym e1) (sym e2) ∙ add-comm one (two * 2 ^ 36) in
+    let all : join (ws ++ ws) cells ≡ x =
+    join-append ws ws cells ∙ ap (λ (l : List ℕ). join ws cells + join ws l * 2 ^ 36) (drop-drop 5 at readout)
+    ∙ ap₂ (λ (y z : ℕ). y + z * 2 ^ 36) (sym e1) (sym e2) ∙ add-comm one (two * 2 ^ 36) in
     e5
     ∙ ap₂ (λ (l : List ℕ) (y : ℕ). sets l (byte + 8) (cut (replicate 1 8) y)) e4 e3
     ∙ cut-sets o0 (replicate 8 8) (replicate 1 8) byte x 8 64 refl refl
     ∙ ap (λ (y : ℕ). sets o0 byte (cut (replicate 9 8) y)) (sym all)
 
 -- cells in two parts, of which the first is whole bytes: their image bytes, stored part by part
-pub parts-in : (ws vs readout out next : List ℕ) (at at' byte byte' : ℕ) → total ws ≡ wholeBytes ws * 8 → at' ≡ at + length ws → byte' ≡ byte + wholeBytes ws
-    → next ≡ sets out byte (bytesIn ws (drop at readout))
+pub parts-in : (ws vs readout out next : List ℕ) (at at' byte byte' : ℕ) → total ws ≡ wholeBytes ws * 8 → at' ≡ at + length ws
+    → byte' ≡ byte + wholeBytes ws → next ≡ sets out byte (bytesIn ws (drop at readout))
     → sets next byte' (bytesIn vs (drop at' readout)) ≡ sets out byte (bytesIn (ws ++ vs) (drop at readout))
 unfolding bytesIn wholeBytes
 parts-in ws vs readout out next at at' byte byte' t ea eb en =
@@ -193,7 +230,8 @@ parts-in ws vs readout out next at at' byte byte' t ea eb en =
     let m = total vs / 8 in
     let x = join ws (drop at readout) in
     let plain : (y : ℕ) → y * 2 ^ 0 + 0 ≡ y = λ y. omega arith in
-    let none : 0 ≡ (x * 2 ^ 0 + 0) / 2 ^ (k * 8) = sym (rw (plain x) (div-eq-of-lt (subst (λ (i : ℕ). x < 2 ^ i) t (join-small ws (drop at readout))))) in
+    let none : 0 ≡ (x * 2 ^ 0 + 0) / 2 ^ (k * 8) =
+    sym (rw (plain x) (div-eq-of-lt (subst (λ (i : ℕ). x < 2 ^ i) t (join-small ws (drop at readout))))) in
     let both : (total ws + total vs) / 8 ≡ k + m = omega arith in
     let step = chunk ws vs readout out next at at' 0 0 0 0 byte byte' k m (omega arith) ea eb none (rw (plain x) en) in
     rw (total-append ws vs, both) (rw (plain (join vs (drop at' readout)), plain (join (ws ++ vs) (drop at readout))) at step)
@@ -222,12 +260,15 @@ module _ {ws readout before out : List ℕ} {at byte count a b left : ℕ} (now 
   turned-in next bytes whole h t e1 e2 e3 =
       let more : left ≡ suc (left - 1) = omega arith in
       let kept : length next ≡ length out = ap length e3 ∙ length-sets out b (bytesIn ws (drop a readout)) in
-      let all : sets out b (bytesIn (ws ++ repeat (left - 1) ws) (drop a readout)) ≡ sets before byte (bytesIn (repeat count ws) (drop at readout)) = rw more at (now .rest) in
+      let all : sets out b (bytesIn (ws ++ repeat (left - 1) ws) (drop a readout))
+      ≡ sets before byte (bytesIn (repeat count ws) (drop at readout)) = rw more at (now .rest) in
       record {
         cells-left = rw e1 (room left (length ws) a (length readout) h (now .cells-left) .1);
         bytes-left = rw (e2, kept) (room left (wholeBytes ws) b (length out) h (now .bytes-left) .1);
         same = kept ∙ now .same;
-        rest = parts-in ws (repeat (left - 1) ws) readout out next a (a + bytes) b (b + whole) t (ap (λ (i : ℕ). a + i) e1) (ap (λ (i : ℕ). b + i) e2) e3 ∙ all;
+        rest =
+            parts-in ws (repeat (left - 1) ws) readout out next a (a + bytes) b (b + whole) t (ap (λ (i : ℕ). a + i) e1)
+            (ap (λ (i : ℕ). b + i) e2) e3 ∙ all;
       }
 
   pub ended-in : left ≤ 0 → out ≡ sets before byte (bytesIn (repeat count ws) (drop at readout))
@@ -249,7 +290,8 @@ pub blocks-begun-in : (d : Device) (readout out : List ℕ) → known d ≡ true
 blocks-begun-in d readout out k e f =
     begun-in (blockWidths d) readout out 0 0 (d .blocks) (omega (arith, device-size d k .1)) (omega (arith, device-whole d k))
 
-pub blocks-ended-in : (d : Device) (readout before out : List ℕ) (a b left : ℕ) → LeftIn (blockWidths d) readout before out 0 0 (d .blocks) a b left → left ≤ 0
+pub blocks-ended-in : (d : Device) (readout before out : List ℕ) (a b left : ℕ)
+    → LeftIn (blockWidths d) readout before out 0 0 (d .blocks) a b left → left ≤ 0
     → out ≡ sets before 0 (bytesIn (widths d) (drop 0 readout))
 unfolding widths
 blocks-ended-in d readout before out a b left now h = ended-in now h

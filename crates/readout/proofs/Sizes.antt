@@ -31,18 +31,22 @@ block-size d =
     let w = wire-and-size false refl in
     let ms = rowWidths true in
     let vs = rowWidths false in (
-      rw (total-append (repeat 72 ms) (repeat (d .blocks * 18) vs), total-repeat 72 ms, total-repeat (d .blocks * 18) vs, m .0, w .0) (omega arith),
-      rw (length-append (repeat 72 ms) (repeat (d .blocks * 18) vs), length-repeat 72 ms, length-repeat (d .blocks * 18) vs, m .1, w .1) (omega arith),
+      rw (total-append (repeat 72 ms) (repeat (d .blocks * 18) vs), total-repeat 72 ms, total-repeat (d .blocks * 18) vs, m .0, w .0)
+          (omega arith),
+      rw (length-append (repeat 72 ms) (repeat (d .blocks * 18) vs), length-repeat 72 ms, length-repeat (d .blocks * 18) vs, m .1, w .1)
+          (omega arith),
     )
 
 -- the blocks of a known device have its fuses and its bytes
-pub device-size : (d : Device) → known d ≡ true → (d .blocks * total (blockWidths d) ≡ imageBytes d * 8) × (d .blocks * length (blockWidths d) ≡ readoutBytes d)
+pub device-size : (d : Device) → known d ≡ true
+    → (d .blocks * total (blockWidths d) ≡ imageBytes d * 8) × (d .blocks * length (blockWidths d) ≡ readoutBytes d)
 unfolding fuseCount readoutBytes
 device-size d k =
     (ap (λ (x : ℕ). d .blocks * x) (block-size d .0) ∙ image-whole d k, ap (λ (x : ℕ). d .blocks * x) (block-size d .1))
 
 -- the sizes of two rows of each kind
-pub pair-size : (main : Bool) → (total (pairWidths main) ≡ wholeBytes (pairWidths main) * 8) × (wholeBytes (pairWidths main) ≤ 27) × (length (pairWidths main) ≤ 30)
+pub pair-size : (main : Bool)
+    → (total (pairWidths main) ≡ wholeBytes (pairWidths main) * 8) × (wholeBytes (pairWidths main) ≤ 27) × (length (pairWidths main) ≤ 30)
 unfolding pairWidths rowWidths wholeBytes total
 pair-size true = omega arith
 pair-size false = omega arith
@@ -81,11 +85,13 @@ pub main-whole : wholeBytes (repeat 36 (pairWidths true)) ≡ 972
 unfolding wholeBytes
 main-whole = ap (λ (t : ℕ). t / 8) main-total
 
-pub block-whole : (d : Device) → (wholeBytes (blockWidths d) ≡ 972 + d .blocks * 81) × (total (blockWidths d) ≡ wholeBytes (blockWidths d) * 8)
+pub block-whole : (d : Device)
+    → (wholeBytes (blockWidths d) ≡ 972 + d .blocks * 81) × (total (blockWidths d) ≡ wholeBytes (blockWidths d) * 8)
 unfolding wholeBytes
 block-whole d = omega (arith, block-size d .0)
 
 pub device-whole : (d : Device) → known d ≡ true → d .blocks * wholeBytes (blockWidths d) ≡ imageBytes d
 device-whole d k =
-    let e : d .blocks * total (blockWidths d) ≡ d .blocks * wholeBytes (blockWidths d) * 8 = ap (λ (x : ℕ). d .blocks * x) (block-whole d .1) ∙ sym (mul-assoc (d .blocks) (wholeBytes (blockWidths d)) 8) in
+    let e : d .blocks * total (blockWidths d) ≡ d .blocks * wholeBytes (blockWidths d) * 8 =
+    ap (λ (x : ℕ). d .blocks * x) (block-whole d .1) ∙ sym (mul-assoc (d .blocks) (wholeBytes (blockWidths d)) 8) in
     omega (arith, device-size d k .0)

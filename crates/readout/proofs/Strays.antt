@@ -5,7 +5,8 @@ use mathlib.Core.Bool.{Bool, true, false, cond}
 use mathlib.Core.List.{List, [], _∷_, _++_}
 use Prim.Native.Nat.{ℕ, zero, suc, _+_, _*_, _-_, _/_, _%_, _^_, _≤_, _<_, suc-le-suc}
 use native.Mathlib.Omega.{arith}
-use native.Mathlib.Nat.{zero-add, add-zero, suc-add, div-eq-of-lt, add-assoc, not-suc-le-zero, le-of-suc-le-suc, le-of-lt, zero-mul, mod-lt, mod-eq-of-lt, mul-le-mul}
+use native.Mathlib.Nat.{zero-add, add-zero, suc-add, div-eq-of-lt, add-assoc, not-suc-le-zero, le-of-suc-le-suc, le-of-lt, zero-mul, mod-lt}
+use native.Mathlib.Nat.{mod-eq-of-lt, mul-le-mul}
 use native.Mathlib.Numerals.{one-add}
 use lib.Dec.{eqb}
 use lib.ListN.{length, getD, drop, replicate, length-replicate}
@@ -47,8 +48,8 @@ unfolding fine
 fine-on [] vs cells h = sym (zero-add (fine vs cells))
 fine-on (w ∷ ws) vs cells h = go (fine-on ws vs (drop 1 cells)) (eqb (getD cells 0 0 / 2 ^ w) 0) h
   where
-    go : (length ws ≤ fine ws (drop 1 cells) → fine (ws ++ vs) (drop 1 cells) ≡ length ws + fine vs (drop (length ws) (drop 1 cells))) → (t : Bool)
-        → suc (length ws) ≤ cond t (suc (fine ws (drop 1 cells))) 0
+    go : (length ws ≤ fine ws (drop 1 cells) → fine (ws ++ vs) (drop 1 cells) ≡ length ws + fine vs (drop (length ws) (drop 1 cells)))
+        → (t : Bool) → suc (length ws) ≤ cond t (suc (fine ws (drop 1 cells))) 0
         → cond t (suc (fine (ws ++ vs) (drop 1 cells))) 0 ≡ suc (length ws) + fine vs (drop (suc (length ws)) cells)
     go ih true g = rw (suc-add, ← one-add (length ws), ← drop-drop (length ws) 1 cells) (ap suc (ih (le-of-suc-le-suc g)))
     go ih false g = absurd (not-suc-le-zero g)
@@ -65,17 +66,20 @@ fine-found (w ∷ ws) vs cells h = go (fine-found ws vs (drop 1 cells)) (eqb (ge
     go ih false g = refl
 
 -- bytes taken as one word: none has a bit of the mask
-pub masked-fine : (k w : ℕ) (cells : List ℕ) → w ≤ 8 → ((i : ℕ) → Fits w8 (getD cells i 0)) → bitAnd (join (replicate k 8) cells) (strayMask k w) ≡ 0
-    → k ≤ fine (replicate k w) cells
+pub masked-fine : (k w : ℕ) (cells : List ℕ) → w ≤ 8 → ((i : ℕ) → Fits w8 (getD cells i 0))
+    → bitAnd (join (replicate k 8) cells) (strayMask k w) ≡ 0 → k ≤ fine (replicate k w) cells
 unfolding fine join strayMask
 masked-fine zero w cells h bytes e = omega arith
 masked-fine (suc k) w cells h bytes e =
     let c = getD cells 0 0 in
     let high = bitAnd (join (replicate k 8) (drop 1 cells)) (strayMask k w) in
     let small : 2 ^ 8 - 2 ^ w < 2 ^ 8 = pow-sub-lt 8 (pow-pos w) in
-    let parts : high * 2 ^ 8 + bitAnd (c % 2 ^ 8) (2 ^ 8 - 2 ^ w) ≡ 0 = sym (and-block 8 (join (replicate k 8) (drop 1 cells)) (strayMask k w) (c % 2 ^ 8) (2 ^ 8 - 2 ^ w) (mod-lt c (pow-pos 8)) small) ∙ e in
+    let parts : high * 2 ^ 8 + bitAnd (c % 2 ^ 8) (2 ^ 8 - 2 ^ w) ≡ 0 =
+    sym (and-block 8 (join (replicate k 8) (drop 1 cells)) (strayMask k w) (c % 2 ^ 8) (2 ^ 8 - 2 ^ w) (mod-lt c (pow-pos 8)) small) ∙ e in
     let whole : 8 - w + w ≡ 8 = omega arith in
-    let top : bitAnd (c % 2 ^ 8) (2 ^ 8 - 2 ^ w) ≡ (c % 2 ^ 8 / 2 ^ w % 2 ^ (8 - w)) * 2 ^ w = subst (λ (j : ℕ). bitAnd (c % 2 ^ 8) (2 ^ j - 2 ^ w) ≡ (c % 2 ^ 8 / 2 ^ w % 2 ^ (8 - w)) * 2 ^ w) whole (and-high (c % 2 ^ 8) (8 - w) w) in
+    let top : bitAnd (c % 2 ^ 8) (2 ^ 8 - 2 ^ w) ≡ (c % 2 ^ 8 / 2 ^ w % 2 ^ (8 - w)) * 2 ^ w =
+    subst (λ (j : ℕ). bitAnd (c % 2 ^ 8) (2 ^ j - 2 ^ w) ≡ (c % 2 ^ 8 / 2 ^ w % 2 ^ (8 - w)) * 2 ^ w) whole
+    (and-high (c % 2 ^ 8) (8 - w) w) in
     let zero-top : (c % 2 ^ 8 / 2 ^ w % 2 ^ (8 - w)) * 2 ^ w ≡ 0 = sym top ∙ omega arith in
     let byte : c % 2 ^ 8 ≡ c = mod-eq-of-lt (bytes 0 .fits) in
     let quotient : c / 2 ^ w % 2 ^ (8 - w) ≡ 0 = no-factor (c / 2 ^ w % 2 ^ (8 - w)) w (rw byte at zero-top) in
@@ -88,12 +92,14 @@ masked-fine (suc k) w cells h bytes e =
         compared 0 x (λ some. absurd (omega (arith, mul-le-mul {n₁ = 1} {m₁ = 1} some (pow-pos w)))) (λ none. omega arith)
 
 -- eight bytes taken as one word, without the first two
-last-six : (cells : List ℕ) (at word : ℕ) → word ≡ join (replicate 8 8) (drop (at + 7) cells) → word / 2 ^ 16 ≡ join (replicate 6 8) (drop (at + 9) cells)
+last-six : (cells : List ℕ) (at word : ℕ) → word ≡ join (replicate 8 8) (drop (at + 7) cells)
+    → word / 2 ^ 16 ≡ join (replicate 6 8) (drop (at + 9) cells)
 last-six cells at word e =
     let rest = drop (at + 7) cells in
     let there : at + 7 + 2 ≡ at + 9 = omega arith in
     let low : join (replicate 2 8) rest < 2 ^ 16 = join-few 2 8 2 rest (omega arith) (omega arith) in
-    let parts : word ≡ join (replicate 2 8) rest + join (replicate 6 8) (drop (at + 9) cells) * 2 ^ 16 = e ∙ join-append (replicate 2 8) (replicate 6 8) rest ∙ rw (total-replicate 2 8, drop-drop 2 (at + 7) cells, there) in
+    let parts : word ≡ join (replicate 2 8) rest + join (replicate 6 8) (drop (at + 9) cells) * 2 ^ 16 =
+    e ∙ join-append (replicate 2 8) (replicate 6 8) rest ∙ rw (total-replicate 2 8, drop-drop 2 (at + 7) cells, there) in
     omega arith
 
 -- A scan of `count` times the cells of `ws`: what holds when `left` times are still to come.
@@ -122,7 +128,8 @@ module _ {ws cells : List ℕ} {at count a left : ℕ} (now : Scan ws cells at c
       → Scan ws cells at count (a + bytes) (left - 1)
   scan-turned bytes found h e f g =
       let all : length ws ≤ fine ws (drop a cells) = omega arith in
-      let on : fine (ws ++ repeat (left - 1) ws) (drop a cells) ≡ length ws + fine (repeat (left - 1) ws) (drop (length ws) (drop a cells)) = fine-on ws (repeat (left - 1) ws) (drop a cells) all in
+      let on : fine (ws ++ repeat (left - 1) ws) (drop a cells)
+      ≡ length ws + fine (repeat (left - 1) ws) (drop (length ws) (drop a cells)) = fine-on ws (repeat (left - 1) ws) (drop a cells) all in
       record {
         cells-left = rw e (room left (length ws) a (length cells) h (now .cells-left) .1);
         rest = rw (e, ← drop-drop (length ws) a cells) (add-assoc a (length ws) _ ∙ ap (λ (x : ℕ). a + x) (sym on) ∙ next-of h);
@@ -150,7 +157,8 @@ unfolding fine
 run-found cells at width count a left now h bad =
     let here : getD (drop a cells) 0 0 ≡ getD cells a 0 = getD-drop a cells 0 0 ∙ ap (λ (i : ℕ). getD cells i 0) (add-zero a) in
     let none : fine (width ∷ []) (drop a cells) ≡ 0 = rw (here, ne-eqb (getD cells a 0 / 2 ^ width) 0 bad) in
-    scan-found now 1 a h refl (rw none (sym (add-zero a))) (omega arith) ∙ ap (λ (ws : List ℕ). at + fine ws (drop at cells)) (repeat-one count width)
+    scan-found now 1 a h refl (rw none (sym (add-zero a))) (omega arith)
+    ∙ ap (λ (ws : List ℕ). at + fine ws (drop at cells)) (repeat-one count width)
 
 pub run-turned : (cells : List ℕ) (at width count a left : ℕ) → Scan (width ∷ []) cells at count a left → 0 < left
     → getD cells a 0 / 2 ^ width ≡ 0 → Scan (width ∷ []) cells at count (a + 1) (left - 1)
@@ -160,8 +168,10 @@ run-turned cells at width count a left now h good =
     let one : fine (width ∷ []) (drop a cells) ≡ 1 = rw (here, eq-eqb (getD cells a 0 / 2 ^ width) 0 good) in
     scan-turned now 1 (a + 1) h refl (rw one) (omega arith)
 
-run-clear : (cells : List ℕ) (at width count word mask : ℕ) → ((i : ℕ) → Fits w8 (getD cells i 0)) → width ≤ 8 → mask ≡ strayMask count width
-    → word ≡ join (replicate count 8) (drop at cells) → bitAnd word mask ≡ 0 → at + count ≡ at + fine (replicate count width) (drop at cells)
+run-clear : (cells : List ℕ) (at width count word mask : ℕ) → ((i : ℕ) → Fits w8 (getD cells i 0)) → width ≤ 8
+    → mask ≡ strayMask count width
+    → word ≡ join (replicate count 8) (drop at cells) → bitAnd word mask ≡ 0
+    → at + count ≡ at + fine (replicate count width) (drop at cells)
 run-clear cells at width count word mask bytes h e f z =
     let all = masked-fine count width (drop at cells) h (λ i. rw (getD-drop at cells i 0) (bytes (at + i))) (rw (← e, ← f) z) in
     omega (arith, fine-le (replicate count width) (drop at cells), length-replicate {A = ℕ} count width)
@@ -202,39 +212,50 @@ wire-and-row-fine readout main at found h e f = rw e (row-fine readout at 1 7 4 
 
 -- no bit above in any byte of a row
 pub main-row-clear : (readout : List ℕ) (main : Bool) (at word : ℕ) → ((i : ℕ) → Fits w8 (getD readout i 0)) → main ≡ true
-    → word ≡ join (replicate 8 8) (drop (at + 7) readout) → bitAnd (word / 2 ^ 16) 0xC0C0C0C0C0C0 ≡ 0 → at + 15 ≡ at + fine (rowWidths main) (drop at readout)
+    → word ≡ join (replicate 8 8) (drop (at + 7) readout) → bitAnd (word / 2 ^ 16) 0xC0C0C0C0C0C0 ≡ 0
+    → at + 15 ≡ at + fine (rowWidths main) (drop at readout)
 unfolding strayMask
 main-row-clear readout main at word h e f z =
     let past : at + 15 ≡ at + 9 + 6 = omega arith in
-    main-row-fine readout main at (at + 15) h e (past ∙ run-clear readout (at + 9) 6 6 (word / 2 ^ 16) 0xC0C0C0C0C0C0 h (omega arith) refl (last-six readout at word f) z)
+    main-row-fine readout main at (at + 15) h e
+    (past ∙ run-clear readout (at + 9) 6 6 (word / 2 ^ 16) 0xC0C0C0C0C0C0 h (omega arith) refl (last-six readout at word f) z)
 
 pub wire-and-row-clear : (readout : List ℕ) (main : Bool) (at word : ℕ) → ((i : ℕ) → Fits w8 (getD readout i 0)) → main ≡ false
-    → word ≡ join (replicate 4 8) (drop (at + 1) readout) → bitAnd word 0x80808080 ≡ 0 → at + 5 ≡ at + fine (rowWidths main) (drop at readout)
+    → word ≡ join (replicate 4 8) (drop (at + 1) readout) → bitAnd word 0x80808080 ≡ 0
+    → at + 5 ≡ at + fine (rowWidths main) (drop at readout)
 unfolding strayMask
 wire-and-row-clear readout main at word h e f z =
     let past : at + 5 ≡ at + 1 + 4 = omega arith in
     wire-and-row-fine readout main at (at + 5) h e (past ∙ run-clear readout (at + 1) 7 4 word 0x80808080 h (omega arith) refl f z)
 
 -- a block: the main rows, and the wire-AND rows behind them
-pub block-fine-found : (d : Device) (readout : List ℕ) (at found : ℕ) → found ≡ at + fine (repeat 72 (rowWidths true)) (drop at readout) → found < at + 1080
+pub block-fine-found : (d : Device) (readout : List ℕ) (at found : ℕ)
+    → found ≡ at + fine (repeat 72 (rowWidths true)) (drop at readout) → found < at + 1080
     → found ≡ at + fine (blockWidths d) (drop at readout)
 unfolding blockWidths
 block-fine-found d readout at found e h =
-    let size : length (repeat 72 (rowWidths true)) ≡ 1080 = length-repeat 72 (rowWidths true) ∙ ap (λ (k : ℕ). 72 * k) (main-size true refl .1) in
-    e ∙ ap (λ (x : ℕ). at + x) (sym (fine-found (repeat 72 (rowWidths true)) (repeat (d .blocks * 18) (rowWidths false)) (drop at readout) (omega arith)))
+    let size : length (repeat 72 (rowWidths true)) ≡ 1080 =
+    length-repeat 72 (rowWidths true) ∙ ap (λ (k : ℕ). 72 * k) (main-size true refl .1) in
+    e ∙ ap (λ (x : ℕ). at + x)
+    (sym (fine-found (repeat 72 (rowWidths true)) (repeat (d .blocks * 18) (rowWidths false)) (drop at readout) (omega arith)))
 
-pub block-fine-on : (d : Device) (readout : List ℕ) (at found last : ℕ) → found ≡ at + fine (repeat 72 (rowWidths true)) (drop at readout) → at + 1080 ≤ found
-    → last ≡ at + 1080 + fine (repeat (d .blocks * 18) (rowWidths false)) (drop (at + 1080) readout) → last ≡ at + fine (blockWidths d) (drop at readout)
+pub block-fine-on : (d : Device) (readout : List ℕ) (at found last : ℕ)
+    → found ≡ at + fine (repeat 72 (rowWidths true)) (drop at readout) → at + 1080 ≤ found
+    → last ≡ at + 1080 + fine (repeat (d .blocks * 18) (rowWidths false)) (drop (at + 1080) readout)
+    → last ≡ at + fine (blockWidths d) (drop at readout)
 unfolding blockWidths
 block-fine-on d readout at found last e h f =
-    let size : length (repeat 72 (rowWidths true)) ≡ 1080 = length-repeat 72 (rowWidths true) ∙ ap (λ (k : ℕ). 72 * k) (main-size true refl .1) in
+    let size : length (repeat 72 (rowWidths true)) ≡ 1080 =
+    length-repeat 72 (rowWidths true) ∙ ap (λ (k : ℕ). 72 * k) (main-size true refl .1) in
     let on = fine-on (repeat 72 (rowWidths true)) (repeat (d .blocks * 18) (rowWidths false)) (drop at readout) (omega arith) in
     f ∙ rw (on, size, drop-drop 1080 at readout) (add-assoc at 1080 _)
 
-pub blocks-scan : (d : Device) (readout : List ℕ) → known d ≡ true → length readout ≡ readoutBytes d → Scan (blockWidths d) readout 0 (d .blocks) 0 (d .blocks)
+pub blocks-scan : (d : Device) (readout : List ℕ) → known d ≡ true → length readout ≡ readoutBytes d
+    → Scan (blockWidths d) readout 0 (d .blocks) 0 (d .blocks)
 blocks-scan d readout k e = scan-begun (blockWidths d) readout 0 (d .blocks) (omega (arith, device-size d k .1))
 
-pub blocks-found : (d : Device) (readout : List ℕ) (a left bytes found : ℕ) → Scan (blockWidths d) readout 0 (d .blocks) a left → 0 < left → bytes ≡ length (blockWidths d)
+pub blocks-found : (d : Device) (readout : List ℕ) (a left bytes found : ℕ) → Scan (blockWidths d) readout 0 (d .blocks) a left → 0 < left
+    → bytes ≡ length (blockWidths d)
     → found ≡ a + fine (blockWidths d) (drop a readout) → found < a + bytes → found ≡ 0 + fine (widths d) (drop 0 readout)
 unfolding widths
 blocks-found d readout a left bytes found now h e f g = scan-found now bytes found h e f g
@@ -250,7 +271,8 @@ unfolding fine
 fine-before [] cells i h = absurd (not-suc-le-zero h)
 fine-before (w ∷ ws) cells i h = go i (eqb (getD cells 0 0 / 2 ^ w) 0) refl (fine-before ws (drop 1 cells)) h
   where
-    go : (i : ℕ) (t : Bool) → eqb (getD cells 0 0 / 2 ^ w) 0 ≡ t → ((j : ℕ) → j < fine ws (drop 1 cells) → getD (drop 1 cells) j 0 / 2 ^ getD ws j 0 ≡ 0)
+    go : (i : ℕ) (t : Bool) → eqb (getD cells 0 0 / 2 ^ w) 0 ≡ t
+        → ((j : ℕ) → j < fine ws (drop 1 cells) → getD (drop 1 cells) j 0 / 2 ^ getD ws j 0 ≡ 0)
         → i < cond t (suc (fine ws (drop 1 cells))) 0 → getD cells i 0 / 2 ^ getD (w ∷ ws) i 0 ≡ 0
     go zero true e ih g = eqb-true _ _ e
     go (suc i) true e ih g = rw (getD-drop 1 cells i 0, one-add) at (ih i (le-of-suc-le-suc g))
@@ -263,7 +285,8 @@ fine-at [] cells h e = not-suc-le-zero h
 fine-at (w ∷ ws) cells h e = go (eqb (getD cells 0 0 / 2 ^ w) 0) refl (fine-at ws (drop 1 cells)) h e
   where
     go : (t : Bool) → eqb (getD cells 0 0 / 2 ^ w) 0 ≡ t
-        → (fine ws (drop 1 cells) < length ws → getD (drop 1 cells) (fine ws (drop 1 cells)) 0 / 2 ^ getD ws (fine ws (drop 1 cells)) 0 ≡ 0 → ⊥)
+        → (fine ws (drop 1 cells) < length ws
+        → getD (drop 1 cells) (fine ws (drop 1 cells)) 0 / 2 ^ getD ws (fine ws (drop 1 cells)) 0 ≡ 0 → ⊥)
         → cond t (suc (fine ws (drop 1 cells))) 0 < suc (length ws)
         → getD cells (cond t (suc (fine ws (drop 1 cells))) 0) 0 / 2 ^ getD (w ∷ ws) (cond t (suc (fine ws (drop 1 cells))) 0) 0 ≡ 0 → ⊥
     go true f ih g z = ih (le-of-suc-le-suc g) (rw (getD-drop 1 cells (fine ws (drop 1 cells)) 0, one-add) z)

@@ -5,7 +5,8 @@ use mathlib.Core.Bool.{true, false}
 use mathlib.Core.List.{List, _++_}
 use Prim.Native.Nat.{ℕ, zero, suc, _+_, _*_, _-_, _/_, _%_, _<_}
 use native.Mathlib.Omega.{arith}
-use native.Mathlib.Nat.{zero-add, zero-mul, suc-mul, add-comm, mod-lt, div-add-mod', div-lt-iff-lt-mul, not-suc-le-zero, le-of-suc-le-suc, le-of-lt}
+use native.Mathlib.Nat.{zero-add, zero-mul, suc-mul, add-comm, mod-lt, div-add-mod', div-lt-iff-lt-mul, not-suc-le-zero, le-of-suc-le-suc}
+use native.Mathlib.Nat.{le-of-lt}
 use lib.ListN.{length, getD, take, replicate, length-replicate, List·getD-append}
 use lib.Seq.{take-append-le, take-append-add, getD-append-add}
 use borrow.Author.Tests.{lt-ltb, le-ltb}
@@ -25,8 +26,10 @@ at-left ws vs i w b h a =
     (List·getD-append ws vs 0 i h ∙ a .0, ap total (take-append-le i ws vs (le-of-lt h)) ∙ a .1)
 
 at-right : (ws vs : List ℕ) (j w b : ℕ) → At vs j w b → At (ws ++ vs) (length ws + j) w (total ws + b)
-at-right ws vs j w b a =
-    (getD-append-add ws vs j 0 ∙ a .0, ap total (take-append-add ws vs j) ∙ total-append ws (take j vs) ∙ ap (λ (x : ℕ). total ws + x) (a .1))
+at-right ws vs j w b a = (
+  getD-append-add ws vs j 0 ∙ a .0,
+  ap total (take-append-add ws vs j) ∙ total-append ws (take j vs) ∙ ap (λ (x : ℕ). total ws + x) (a .1),
+)
 
 at-repeat : (m : ℕ) (ws : List ℕ) (q r w b : ℕ) → q < m → r < length ws → At ws r w b
     → At (repeat m ws) (q * length ws + r) w (q * total ws + b)
@@ -39,13 +42,16 @@ at-repeat (suc m) ws (suc q) r w b hq hr a =
     rw (e, f) (at-right ws (repeat m ws) (q * length ws + r) w (q * total ws + b) (at-repeat m ws q r w b (le-of-suc-le-suc hq) hr a))
 
 -- a row of wide columns of 8 bits and more columns of narrow bits
-at-row : (wide narrow more c : ℕ) → c < wide + more → At (replicate wide 8 ++ replicate more narrow) c (columnWidth wide narrow c) (columnStart wide narrow c)
+at-row : (wide narrow more c : ℕ) → c < wide + more
+    → At (replicate wide 8 ++ replicate more narrow) c (columnWidth wide narrow c) (columnStart wide narrow c)
 at-row wide narrow more c h =
     compared c wide
-    (λ l. rw (lt-ltb c wide l) (at-left (replicate wide 8) (replicate more narrow) c 8 (c * 8) (rw (length-replicate {A = ℕ} wide 8) l) (at-replicate wide 8 c l)))
+    (λ l. rw (lt-ltb c wide l)
+    (at-left (replicate wide 8) (replicate more narrow) c 8 (c * 8) (rw (length-replicate {A = ℕ} wide 8) l) (at-replicate wide 8 c l)))
     (λ g.
     let e : c ≡ wide + (c - wide) = omega arith in
-    let right = at-right (replicate wide 8) (replicate more narrow) (c - wide) narrow ((c - wide) * narrow) (at-replicate more narrow (c - wide) (omega arith)) in
+    let right = at-right (replicate wide 8) (replicate more narrow) (c - wide) narrow ((c - wide) * narrow)
+    (at-replicate more narrow (c - wide) (omega arith)) in
     rw (le-ltb c wide g)
     (subst (λ (k : ℕ). At (replicate wide 8 ++ replicate more narrow) k narrow (wide * 8 + (c - wide) * narrow)) (sym e)
     (rw (length-replicate {A = ℕ} wide 8, total-replicate wide 8) at right)))
@@ -67,14 +73,16 @@ at-block d block rest h =
     by-cases (InBlock d block rest) rest 1080
     (λ l.
     let c = rest % 15 in
-    let here = at-repeat 72 ms (rest / 15) c (columnWidth 9 6 c) (columnStart 9 6 c) (omega arith) (omega (arith, m .1)) (at-row 9 6 6 c (omega arith)) in
+    let here = at-repeat 72 ms (rest / 15) c (columnWidth 9 6 c) (columnStart 9 6 c) (omega arith) (omega (arith, m .1))
+    (at-row 9 6 6 c (omega arith)) in
     let there = rw (m .0, m .1) at here in
     let e : rest / 15 * 15 + c ≡ rest = omega arith in
     (rest / 15 * 108 + columnStart 9 6 c, at-left rows (repeat (d .blocks * 18) vs) rest _ _ (rw rows-length l) (rw e at there), refl))
     (λ g.
     let r = rest - 1080 in
     let c = r % 5 in
-    let here = at-repeat (d .blocks * 18) vs (r / 5) c (columnWidth 1 7 c) (columnStart 1 7 c) (omega arith) (omega (arith, w .1)) (at-row 1 7 4 c (omega arith)) in
+    let here = at-repeat (d .blocks * 18) vs (r / 5) c (columnWidth 1 7 c) (columnStart 1 7 c) (omega arith) (omega (arith, w .1))
+    (at-row 1 7 4 c (omega arith)) in
     let there = rw (w .0, w .1) at here in
     let e : r / 5 * 5 + c ≡ r = omega arith in
     let past : 1080 + r ≡ rest = omega arith in
@@ -83,7 +91,8 @@ at-block d block rest h =
     (7776 + (r / 5 * 36 + columnStart 1 7 c), rw c' right, rw c' (omega arith)))
 
 -- the width at an index is that of its byte, and the bits before it are the fuses before it
-pub widths-at : (d : Device) (index : ℕ) → index < readoutBytes d → At (widths d) index (widthOf (byteOfIndex d index)) (firstFuse d (byteOfIndex d index))
+pub widths-at : (d : Device) (index : ℕ) → index < readoutBytes d
+    → At (widths d) index (widthOf (byteOfIndex d index)) (firstFuse d (byteOfIndex d index))
 unfolding widths readoutBytes byteOfIndex
 widths-at d index h =
     let B = blockBytes d in
@@ -94,7 +103,8 @@ widths-at d index h =
     let inside : block < d .blocks = div-lt-iff-lt-mul {k = B} {x = index} {y = d .blocks} (omega arith) .1 h in
     let whole : block * B + rest ≡ index = div-add-mod' index B in
     let here = at-block d block rest left in
-    let there = at-repeat (d .blocks) (blockWidths d) block rest (widthOf (byteInBlock block rest)) (here .0) inside (rw (size .1) left) (here .1) in
+    let there =
+    at-repeat (d .blocks) (blockWidths d) block rest (widthOf (byteInBlock block rest)) (here .0) inside (rw (size .1) left) (here .1) in
     rw (size .0, size .1, whole, here .2) at there
 
 pub widths-length : (d : Device) → known d ≡ true → length (widths d) ≡ readoutBytes d

@@ -1,5 +1,6 @@
--- Readout: one byte for each valid address, in ascending address order, value in the low bits, bits above the byte's width 0.
--- The two passages between image and readout, refusals and target bytes included. Document 01, "Three pictures of one part".
+-- Readout: one byte for each valid address, in ascending address order, value in the low bits, bits above the
+-- byte's width 0. The two passages between image and readout, refusals and target bytes included. Document
+-- 01, "Three pictures of one part".
 use Prim.Native.Nat.{ℕ, zero, suc, _^_}
 use mathlib.Core.Bool.{Bool, cond}
 use mathlib.Core.List.{List}
@@ -23,12 +24,14 @@ fuseAt d index bit = fuseOfPlace d (record { byte = byteOfIndex d index; bit = b
 
 -- in an image's readout, each bit b within a byte's width is the state of the fuse with that byte's address and bit b
 unfoldable pub readoutFrom : Device → (ℕ → ℕ) → List ℕ
-readoutFrom d states = tabulate (readoutBytes d) (λ index. gathered (λ bit. states (fuseAt d index bit)) (widthAt d index))
+readoutFrom d states =
+    tabulate (readoutBytes d) (λ index. gathered (λ bit. states (fuseAt d index bit)) (widthAt d index))
 
 unfoldable pub readoutOf : Device → List ℕ → List ℕ
 readoutOf d image = readoutFrom d (state image)
 
--- where a readout keeps a fuse: the index of the byte with its address, and its bit there (`kept-at-address` in proofs/Laws.antt)
+-- where a readout keeps a fuse: the index of the byte with its address, and its bit there
+-- (`kept-at-address` in proofs/Laws.antt)
 abbrev pub indexInReadout : Device → ℕ → ℕ
 indexInReadout d fuse = indexOfByte d (placeOfFuse d fuse .byte)
 

@@ -17,7 +17,8 @@ use part::Device;
 // The bytes of a main row of an image that starts at a bit of a byte.
 fn main_row_out(image: &[u8], byte: usize, shift: u32, out: &mut [u8], at: usize)
     requires { ⌜ (shift ≤ 4) × (byte + 14 ≤ length (now image)) × (at + 15 ≤ length (now out)) ⌝ }
-    ensures { λ _. ⌜ now (out .exit) ≡ sets (now (out .entry)) at (cut (rowWidths true) (number (now (image .entry)) / 2 ^ (byte * 8 + shift))) ⌝ }
+    ensures { λ _. ⌜ now (out .exit)
+        ≡ sets (now (out .entry)) at (cut (rowWidths true) (number (now (image .entry)) / 2 ^ (byte * 8 + shift))) ⌝ }
 {
     put_cells(word8(image, byte) >> shift, 8, 4, out, at);
     put_cells(word8(image, byte + 4) >> shift, 8, 5, out, at + 4);
@@ -27,7 +28,8 @@ fn main_row_out(image: &[u8], byte: usize, shift: u32, out: &mut [u8], at: usize
 // The bytes of a wire-AND row of an image that starts at a bit of the eight bytes taken: the last row ends the image.
 fn wire_and_row_out(image: &[u8], byte: usize, shift: u32, out: &mut [u8], at: usize)
     requires { ⌜ (shift ≤ 28) × (byte + 8 ≤ length (now image)) × (at + 5 ≤ length (now out)) ⌝ }
-    ensures { λ _. ⌜ now (out .exit) ≡ sets (now (out .entry)) at (cut (rowWidths false) (number (now (image .entry)) / 2 ^ (byte * 8 + shift))) ⌝ }
+    ensures { λ _. ⌜ now (out .exit)
+        ≡ sets (now (out .entry)) at (cut (rowWidths false) (number (now (image .entry)) / 2 ^ (byte * 8 + shift))) ⌝ }
 {
     let word = word8(image, byte) >> shift;
     put_cells(word, 8, 1, out, at);
@@ -65,8 +67,10 @@ fn pair_readout_bytes(main: bool) -> usize
 
 // The bytes of two rows of an image, of which the second starts in the middle of a byte.
 fn pair_out(main: bool, image: &[u8], byte: usize, out: &mut [u8], at: usize)
-    requires { ⌜ (byte + wholeBytes (pairWidths main) ≤ length (now image)) × (at + length (pairWidths main) ≤ length (now out)) ⌝ }
-    ensures { λ _. ⌜ now (out .exit) ≡ sets (now (out .entry)) at (cut (pairWidths main) (number (now (image .entry)) / 2 ^ (byte * 8))) ⌝ }
+    requires { ⌜ (byte + wholeBytes (pairWidths main) ≤ length (now image))
+        × (at + length (pairWidths main) ≤ length (now out)) ⌝ }
+    ensures { λ _. ⌜ now (out .exit)
+        ≡ sets (now (out .entry)) at (cut (pairWidths main) (number (now (image .entry)) / 2 ^ (byte * 8))) ⌝ }
 {
     if main {
         main_row_out(image, byte, 0, out, at);
@@ -79,8 +83,10 @@ fn pair_out(main: bool, image: &[u8], byte: usize, out: &mut [u8], at: usize)
 
 // The bytes of some pairs of rows of an image, one after another.
 fn pairs_out(main: bool, image: &[u8], byte: usize, out: &mut [u8], at: usize, count: usize)
-    requires { ⌜ (byte + count * wholeBytes (pairWidths main) ≤ length (now image)) × (at + count * length (pairWidths main) ≤ length (now out)) ⌝ }
-    ensures { λ _. ⌜ now (out .exit) ≡ sets (now (out .entry)) at (cut (repeat count (pairWidths main)) (number (now (image .entry)) / 2 ^ (byte * 8))) ⌝ }
+    requires { ⌜ (byte + count * wholeBytes (pairWidths main) ≤ length (now image))
+        × (at + count * length (pairWidths main) ≤ length (now out)) ⌝ }
+    ensures { λ _. ⌜ now (out .exit) ≡ sets (now (out .entry)) at (cut (repeat count (pairWidths main))
+        (number (now (image .entry)) / 2 ^ (byte * 8))) ⌝ }
 {
     let whole = pair_image_bytes(main);
     let bytes = pair_readout_bytes(main);
@@ -114,8 +120,10 @@ fn block_bytes(d: Device) -> usize
 
 // The bytes of a block of an image.
 fn block_out(d: Device, image: &[u8], byte: usize, out: &mut [u8], at: usize)
-    requires { ⌜ (known d ≡ true) × (byte + wholeBytes (blockWidths d) ≤ length (now image)) × (at + length (blockWidths d) ≤ length (now out)) ⌝ }
-    ensures { λ _. ⌜ now (out .exit) ≡ sets (now (out .entry)) at (cut (blockWidths d) (number (now (image .entry)) / 2 ^ (byte * 8))) ⌝ }
+    requires { ⌜ (known d ≡ true) × (byte + wholeBytes (blockWidths d) ≤ length (now image))
+        × (at + length (blockWidths d) ≤ length (now out)) ⌝ }
+    ensures { λ _. ⌜ now (out .exit)
+        ≡ sets (now (out .entry)) at (cut (blockWidths d) (number (now (image .entry)) / 2 ^ (byte * 8))) ⌝ }
 {
     pairs_out(true, image, byte, out, at, 36);
     let pairs = d.blocks as usize * 9;
@@ -125,7 +133,8 @@ fn block_out(d: Device, image: &[u8], byte: usize, out: &mut [u8], at: usize)
 // The bytes of all blocks of an image.
 pub fn blocks_out(d: Device, image: &[u8], out: &mut [u8])
     requires { ⌜ (known d ≡ true) × (length (now image) ≡ imageBytes d) × (length (now out) ≡ readoutBytes d) ⌝ }
-    ensures { λ _. ⌜ now (out .exit) ≡ sets (now (out .entry)) 0 (cut (widths d) (number (now (image .entry)) / 2 ^ (0 * 8))) ⌝ }
+    ensures { λ _.
+        ⌜ now (out .exit) ≡ sets (now (out .entry)) 0 (cut (widths d) (number (now (image .entry)) / 2 ^ (0 * 8))) ⌝ }
 {
     let whole = block_image_bytes(d);
     let bytes = block_bytes(d);
@@ -140,12 +149,14 @@ pub fn blocks_out(d: Device, image: &[u8], out: &mut [u8])
     }
 }
 
-// The number that some cells join to, above the bits that the cells before left over, and of that whole bytes put into an
-// image. Answers what is left over now.
+// The number that some cells join to, above the bits that the cells before left over, and of that whole bytes put into
+// an image. Answers what is left over now.
 fn put_above(cells: u64, carry: u64, shift: u32, image: &mut [u8], byte: usize, bytes: usize) -> u64
-    requires { ⌜ (cells < 2 ^ 48) × (carry < 2 ^ shift) × (shift ≤ 4) × (byte + bytes ≤ length (now image)) × (bytes ≤ 7) ⌝ }
+    requires { ⌜ (cells < 2 ^ 48) × (carry < 2 ^ shift) × (shift ≤ 4)
+        × (byte + bytes ≤ length (now image)) × (bytes ≤ 7) ⌝ }
     ensures { λ r. ⌜ r ≡ (cells * 2 ^ shift + carry) / 2 ^ (bytes * 8) ⌝ }
-    ensures { λ _. ⌜ now (image .exit) ≡ sets (now (image .entry)) byte (cut (replicate bytes 8) (cells * 2 ^ shift + carry)) ⌝ }
+    ensures { λ _.
+        ⌜ now (image .exit) ≡ sets (now (image .entry)) byte (cut (replicate bytes 8) (cells * 2 ^ shift + carry)) ⌝ }
 {
     let word = (cells << shift) + carry;
     put_cells(word, 8, bytes, image, byte);
@@ -164,9 +175,12 @@ fn push(
     byte: usize,
     bytes: usize,
 ) -> u64
-    requires { ⌜ (at + count ≤ length (now readout)) × (width ≤ 8) × (count ≤ 6) × (carry < 2 ^ shift) × (shift ≤ 4) × (byte + bytes ≤ length (now image)) × (bytes ≤ 7) ⌝ }
-    ensures { λ r. ⌜ r ≡ (join (replicate count width) (drop at (now (readout .entry))) * 2 ^ shift + carry) / 2 ^ (bytes * 8) ⌝ }
-    ensures { λ _. ⌜ now (image .exit) ≡ sets (now (image .entry)) byte (cut (replicate bytes 8) (join (replicate count width) (drop at (now (readout .entry))) * 2 ^ shift + carry)) ⌝ }
+    requires { ⌜ (at + count ≤ length (now readout)) × (width ≤ 8) × (count ≤ 6) × (carry < 2 ^ shift) × (shift ≤ 4)
+        × (byte + bytes ≤ length (now image)) × (bytes ≤ 7) ⌝ }
+    ensures { λ r.
+        ⌜ r ≡ (join (replicate count width) (drop at (now (readout .entry))) * 2 ^ shift + carry) / 2 ^ (bytes * 8) ⌝ }
+    ensures { λ _. ⌜ now (image .exit) ≡ sets (now (image .entry)) byte (cut (replicate bytes 8)
+        (join (replicate count width) (drop at (now (readout .entry))) * 2 ^ shift + carry)) ⌝ }
 {
     put_above(
         joined(readout, at, width, count),
@@ -182,7 +196,8 @@ fn push(
 fn put_eight(word: u64, carry: u64, shift: u32, image: &mut [u8], byte: usize) -> u64
     requires { ⌜ (carry < 2 ^ shift) × (shift ≤ 36) × (byte + 8 ≤ length (now image)) ⌝ }
     ensures { λ r. ⌜ r ≡ (word * 2 ^ shift + carry) / 2 ^ (8 * 8) ⌝ }
-    ensures { λ _. ⌜ now (image .exit) ≡ sets (now (image .entry)) byte (cut (replicate 8 8) (word * 2 ^ shift + carry)) ⌝ }
+    ensures { λ _.
+        ⌜ now (image .exit) ≡ sets (now (image .entry)) byte (cut (replicate 8 8) (word * 2 ^ shift + carry)) ⌝ }
 {
     put_cells((word << shift) + carry, 8, 8, image, byte);
     (word >> 1) >> (63 - shift)
@@ -197,15 +212,17 @@ fn push_eight(
     image: &mut [u8],
     byte: usize,
 ) -> u64
-    requires { ⌜ (at + 8 ≤ length (now readout)) × (carry < 2 ^ shift) × (shift ≤ 4) × (byte + 8 ≤ length (now image)) ⌝ }
+    requires { ⌜ (at + 8 ≤ length (now readout)) × (carry < 2 ^ shift) × (shift ≤ 4)
+        × (byte + 8 ≤ length (now image)) ⌝ }
     ensures { λ r. ⌜ r ≡ (join (replicate 8 8) (drop at (now (readout .entry))) * 2 ^ shift + carry) / 2 ^ (8 * 8) ⌝ }
-    ensures { λ _. ⌜ now (image .exit) ≡ sets (now (image .entry)) byte (cut (replicate 8 8) (join (replicate 8 8) (drop at (now (readout .entry))) * 2 ^ shift + carry)) ⌝ }
+    ensures { λ _. ⌜ now (image .exit) ≡ sets (now (image .entry)) byte
+        (cut (replicate 8 8) (join (replicate 8 8) (drop at (now (readout .entry))) * 2 ^ shift + carry)) ⌝ }
 {
     put_eight(word8(readout, at), carry, shift, image, byte)
 }
 
-// Six cells of 6 bits, each in a byte of a word, put together: first each with the one above it, then two and two. At the end
-// what is below is moved up and all down again: so it stays one word for the compiler, and is stored as one.
+// Six cells of 6 bits, each in a byte of a word, put together: first each with the one above it, then two and two. At
+// the end what is below is moved up and all down again: so it stays one word for the compiler, and is stored as one.
 fn six_together(word: u64) -> u64
     ensures { λ r. ⌜ r ≡ join (replicate 6 6) (cut (replicate 6 8) word) ⌝ }
 {
@@ -239,9 +256,12 @@ fn push_six(
     byte: usize,
     bytes: usize,
 ) -> u64
-    requires { ⌜ (skip ≤ 2) × (skip ≤ at) × (at + (8 - skip) ≤ length (now readout)) × (carry < 2 ^ shift) × (shift ≤ 4) × (byte + bytes ≤ length (now image)) × (bytes ≤ 7) ⌝ }
-    ensures { λ r. ⌜ r ≡ (join (replicate 6 6) (drop at (now (readout .entry))) * 2 ^ shift + carry) / 2 ^ (bytes * 8) ⌝ }
-    ensures { λ _. ⌜ now (image .exit) ≡ sets (now (image .entry)) byte (cut (replicate bytes 8) (join (replicate 6 6) (drop at (now (readout .entry))) * 2 ^ shift + carry)) ⌝ }
+    requires { ⌜ (skip ≤ 2) × (skip ≤ at) × (at + (8 - skip) ≤ length (now readout)) × (carry < 2 ^ shift) × (shift ≤ 4)
+        × (byte + bytes ≤ length (now image)) × (bytes ≤ 7) ⌝ }
+    ensures { λ r.
+        ⌜ r ≡ (join (replicate 6 6) (drop at (now (readout .entry))) * 2 ^ shift + carry) / 2 ^ (bytes * 8) ⌝ }
+    ensures { λ _. ⌜ now (image .exit) ≡ sets (now (image .entry)) byte
+        (cut (replicate bytes 8) (join (replicate 6 6) (drop at (now (readout .entry))) * 2 ^ shift + carry)) ⌝ }
 {
     put_above(
         six_together(word8(readout, at - skip) >> (skip * 8)),
@@ -256,7 +276,8 @@ fn push_six(
 // The 27 image bytes of two main rows of a readout.
 fn main_rows_in(readout: &[u8], at: usize, image: &mut [u8], byte: usize)
     requires { ⌜ (at + 30 ≤ length (now readout)) × (byte + 27 ≤ length (now image)) ⌝ }
-    ensures { λ _. ⌜ now (image .exit) ≡ sets (now (image .entry)) byte (bytesIn (pairWidths true) (drop at (now (readout .entry)))) ⌝ }
+    ensures { λ _. ⌜ now (image .exit)
+        ≡ sets (now (image .entry)) byte (bytesIn (pairWidths true) (drop at (now (readout .entry)))) ⌝ }
 {
     let one = push_eight(readout, at, 0, 0, image, byte);
     let two = push(readout, at + 8, 8, 1, one, 0, image, byte + 8, 1);
@@ -277,7 +298,8 @@ fn wire_and_row(readout: &[u8], at: usize, skip: usize) -> u64
 // The 9 image bytes of two wire-AND rows of a readout.
 fn wire_and_rows_in(readout: &[u8], at: usize, image: &mut [u8], byte: usize)
     requires { ⌜ (at + 10 ≤ length (now readout)) × (byte + 9 ≤ length (now image)) ⌝ }
-    ensures { λ _. ⌜ now (image .exit) ≡ sets (now (image .entry)) byte (bytesIn (pairWidths false) (drop at (now (readout .entry)))) ⌝ }
+    ensures { λ _. ⌜ now (image .exit)
+        ≡ sets (now (image .entry)) byte (bytesIn (pairWidths false) (drop at (now (readout .entry)))) ⌝ }
 {
     let one = wire_and_row(readout, at, 0);
     let two = wire_and_row(readout, at + 5, 3);
@@ -286,8 +308,10 @@ fn wire_and_rows_in(readout: &[u8], at: usize, image: &mut [u8], byte: usize)
 }
 
 fn pair_in(main: bool, readout: &[u8], at: usize, image: &mut [u8], byte: usize)
-    requires { ⌜ (at + length (pairWidths main) ≤ length (now readout)) × (byte + wholeBytes (pairWidths main) ≤ length (now image)) ⌝ }
-    ensures { λ _. ⌜ now (image .exit) ≡ sets (now (image .entry)) byte (bytesIn (pairWidths main) (drop at (now (readout .entry)))) ⌝ }
+    requires { ⌜ (at + length (pairWidths main) ≤ length (now readout))
+        × (byte + wholeBytes (pairWidths main) ≤ length (now image)) ⌝ }
+    ensures { λ _. ⌜ now (image .exit)
+        ≡ sets (now (image .entry)) byte (bytesIn (pairWidths main) (drop at (now (readout .entry)))) ⌝ }
 {
     if main {
         main_rows_in(readout, at, image, byte);
@@ -298,8 +322,10 @@ fn pair_in(main: bool, readout: &[u8], at: usize, image: &mut [u8], byte: usize)
 
 // The image bytes of some pairs of rows of a readout, one after another.
 fn pairs_in(main: bool, readout: &[u8], at: usize, image: &mut [u8], byte: usize, count: usize)
-    requires { ⌜ (at + count * length (pairWidths main) ≤ length (now readout)) × (byte + count * wholeBytes (pairWidths main) ≤ length (now image)) ⌝ }
-    ensures { λ _. ⌜ now (image .exit) ≡ sets (now (image .entry)) byte (bytesIn (repeat count (pairWidths main)) (drop at (now (readout .entry)))) ⌝ }
+    requires { ⌜ (at + count * length (pairWidths main) ≤ length (now readout))
+        × (byte + count * wholeBytes (pairWidths main) ≤ length (now image)) ⌝ }
+    ensures { λ _. ⌜ now (image .exit)
+        ≡ sets (now (image .entry)) byte (bytesIn (repeat count (pairWidths main)) (drop at (now (readout .entry)))) ⌝ }
 {
     let whole = pair_image_bytes(main);
     let bytes = pair_readout_bytes(main);
@@ -316,8 +342,10 @@ fn pairs_in(main: bool, readout: &[u8], at: usize, image: &mut [u8], byte: usize
 
 // The image bytes of a block of a readout.
 fn block_in(d: Device, readout: &[u8], at: usize, image: &mut [u8], byte: usize)
-    requires { ⌜ (known d ≡ true) × (at + length (blockWidths d) ≤ length (now readout)) × (byte + wholeBytes (blockWidths d) ≤ length (now image)) ⌝ }
-    ensures { λ _. ⌜ now (image .exit) ≡ sets (now (image .entry)) byte (bytesIn (blockWidths d) (drop at (now (readout .entry)))) ⌝ }
+    requires { ⌜ (known d ≡ true) × (at + length (blockWidths d) ≤ length (now readout))
+        × (byte + wholeBytes (blockWidths d) ≤ length (now image)) ⌝ }
+    ensures { λ _. ⌜ now (image .exit)
+        ≡ sets (now (image .entry)) byte (bytesIn (blockWidths d) (drop at (now (readout .entry)))) ⌝ }
 {
     pairs_in(true, readout, at, image, byte, 36);
     let pairs = d.blocks as usize * 9;
@@ -327,7 +355,8 @@ fn block_in(d: Device, readout: &[u8], at: usize, image: &mut [u8], byte: usize)
 // The image bytes of all blocks of a readout.
 pub fn blocks_in(d: Device, readout: &[u8], image: &mut [u8])
     requires { ⌜ (known d ≡ true) × (length (now readout) ≡ readoutBytes d) × (length (now image) ≡ imageBytes d) ⌝ }
-    ensures { λ _. ⌜ now (image .exit) ≡ sets (now (image .entry)) 0 (bytesIn (widths d) (drop 0 (now (readout .entry)))) ⌝ }
+    ensures { λ _.
+        ⌜ now (image .exit) ≡ sets (now (image .entry)) 0 (bytesIn (widths d) (drop 0 (now (readout .entry)))) ⌝ }
 {
     let whole = block_image_bytes(d);
     let bytes = block_bytes(d);

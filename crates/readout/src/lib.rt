@@ -11,7 +11,8 @@ pub mod internal;
 
 // The readout of an image, put into `readout`. Refused: 1, 2.
 pub fn image_to_readout(d: Device, image: &[u8], readout: &mut [u8]) -> DoneAnswer
-    ensures { λ r. ⌜ Written (toReadout d (now (image .entry)) (now (readout .entry))) (doneOutcome r) (readoutOf d (now (image .entry))) (now (readout .entry)) (now (readout .exit)) ⌝ }
+    ensures { λ r. ⌜ Written (toReadout d (now (image .entry)) (now (readout .entry))) (doneOutcome r)
+        (readoutOf d (now (image .entry))) (now (readout .entry)) (now (readout .exit)) ⌝ }
 {
     if !part::is_known(d) {
         return DoneAnswer::Refused(Refusal::UnknownDevice);
@@ -28,7 +29,8 @@ pub fn image_to_readout(d: Device, image: &[u8], readout: &mut [u8]) -> DoneAnsw
 
 // The image of a readout, put into `image`. Refused: 1, 2, 6.
 pub fn readout_to_image(d: Device, readout: &[u8], image: &mut [u8]) -> DoneAnswer
-    ensures { λ r. ⌜ Written (toImage d (now (readout .entry)) (now (image .entry))) (doneOutcome r) (imageOf d (now (readout .entry))) (now (image .entry)) (now (image .exit)) ⌝ }
+    ensures { λ r. ⌜ Written (toImage d (now (readout .entry)) (now (image .entry))) (doneOutcome r)
+        (imageOf d (now (readout .entry))) (now (image .entry)) (now (image .exit)) ⌝ }
 {
     if !part::is_known(d) {
         return DoneAnswer::Refused(Refusal::UnknownDevice);

@@ -32,11 +32,13 @@ use Rattle.jedec.specs.Meaning.{meaning}
 use Rattle.jedec_writer.proofs.Lines.{digits-length}
 use Rattle.jedec_writer.proofs.Text.{stored-first}
 use Rattle.jedec_reader.specs.Reader.{verdict, resultOf, toImageFromText, imageIn}
-use Rattle.report.specs.Report.{ofBlocks, fieldsIn, firstCount, blocksBy, blocksFor, outcomeOf, wordBlocks, wordFuses, wordZero, wordSum, wordRefused, wordAt, line, countLines, refusalLine, linesOf, reportOf, bytesPut, atStart}
+use Rattle.report.specs.Report.{ofBlocks, fieldsIn, firstCount, blocksBy, blocksFor, outcomeOf, wordBlocks, wordFuses, wordZero}
+use Rattle.report.specs.Report.{wordSum, wordRefused, wordAt, line, countLines, refusalLine, linesOf, reportOf, bytesPut, atStart}
 use Rattle.report.specs.Put.{Put}
 
 -- the lines of an outcome, by what is answered and the image
-image-lines : (d : Device) (o : Outcome (List ℕ)) (image : List ℕ) → accepted tt ≡ verdict o → image ≡ resultOf o → countLines d image ≡ linesOf d o
+image-lines : (d : Device) (o : Outcome (List ℕ)) (image : List ℕ) → accepted tt ≡ verdict o → image ≡ resultOf o
+    → countLines d image ≡ linesOf d o
 image-lines d (accepted x) image e f = ap (countLines d) f
 image-lines d (refused n v) image e f = cc
 
@@ -56,8 +58,8 @@ module _ (d : Device) (text before image : List ℕ) (k : known d ≡ true) (l :
       let done : toImageFromText d text before ≡ accepted tt = sym (w .answers) ∙ ap doneOutcome e in
       rw (image-lines d (meaning (fuseCount d) text) image (sym done ∙ read) (rw done at (w .holds))) at p
 
-  pub of-refusal : (r : Refusal) (n v : ℕ) → a ≡ answer.Refused r → n ≡ refusalNumber r → v ≡ refusalValue r → Put out after 0 (refusalLine n v) end
-      → Put out after 0 (linesOf d (meaning (fuseCount d) text)) end
+  pub of-refusal : (r : Refusal) (n v : ℕ) → a ≡ answer.Refused r → n ≡ refusalNumber r → v ≡ refusalValue r
+      → Put out after 0 (refusalLine n v) end → Put out after 0 (linesOf d (meaning (fuseCount d) text)) end
   of-refusal r n v e en ev p =
       let said : refused n v ≡ verdict (meaning (fuseCount d) text) = rw (en, ev) (ap doneOutcome (sym e)) ∙ w .answers ∙ read in
       rw (refused-lines d (meaning (fuseCount d) text) n v said) at p
@@ -96,8 +98,8 @@ module _ (text out after : List ℕ) (end : ℕ) where
   unfolding outcomeOf reportOf
   too-long h p = rw (lt-ltb 65536 (length text) h) p
 
-  pub not-too-long : (b : ℕ) → b ≡ blocksFor text → length text ≤ 65536 → Put out after 0 (linesOf (ofBlocks b) (meaning (fuseCount (ofBlocks b)) text)) end
-      → Put out after 0 (reportOf text) end
+  pub not-too-long : (b : ℕ) → b ≡ blocksFor text → length text ≤ 65536
+      → Put out after 0 (linesOf (ofBlocks b) (meaning (fuseCount (ofBlocks b)) text)) end → Put out after 0 (reportOf text) end
   unfolding outcomeOf reportOf
   not-too-long b e h p = rw (le-ltb 65536 (length text) h) (rw e at p)
 
@@ -174,12 +176,14 @@ module _ (text blank lines : List ℕ) (n : ℕ) (p : Put blank lines 0 (reportO
 bytes-fit : (bytes room : List ℕ) (n : ℕ) → accepted n ≡ bytesPut bytes room → n ≤ length room
 bytes-fit bytes room n e = go (ltb (length room) (length bytes)) refl e
   where
-    go : (t : Bool) → ltb (length room) (length bytes) ≡ t → accepted n ≡ cond t (refused 12 (length bytes)) (accepted (length bytes)) → n ≤ length room
+    go : (t : Bool) → ltb (length room) (length bytes) ≡ t
+        → accepted n ≡ cond t (refused 12 (length bytes)) (accepted (length bytes)) → n ≤ length room
     go true f g = absurd (let z : _≡_ {A = ℕ} 0 1 = cc in omega arith)
     go false f g = let is : n ≡ length bytes = cc in omega (arith, ltb-false (length room) (length bytes) f)
 
 module _ (text room after : List ℕ) (l : length after ≡ length room) (a : NumberAnswer)
-    (w : Written (bytesPut (reportOf text) room) (numberOutcome a) (atStart (reportOf text) room) room after) (n : ℕ) (e : a ≡ number-answer.Number n) where
+    (w : Written (bytesPut (reportOf text) room) (numberOutcome a) (atStart (reportOf text) room) room after) (n : ℕ)
+    (e : a ≡ number-answer.Number n) where
   pub in-room : n ≤ length after
   in-room = rw l (bytes-fit (reportOf text) room n (ap numberOutcome (sym e) ∙ w .answers))
 

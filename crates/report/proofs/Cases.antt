@@ -21,15 +21,21 @@ use Rattle.report.specs.Report.{firstCount, blocksFor, outcomeOf, countL
 use Rattle.report.specs.Cases.{BenchText, EmptyText, FourBlocks, TwoBlocks}
 
 pub empty-text : EmptyText
-unfolding reportOf outcomeOf blocksFor firstCount countLines refusalLine fuseCount meaning concluded pieces blanksBefore fieldsFrom holdsMark tailFrom unbroken statesIn listIn judge allFields misplaced digitsRead numberIn sumIn byteSum sum16 digitsOf zerosBelow state bitAt orElse
+unfolding reportOf outcomeOf blocksFor firstCount countLines refusalLine fuseCount meaning concluded pieces blanksBefore fieldsFrom
+    holdsMark tailFrom unbroken statesIn listIn judge allFields misplaced digitsRead numberIn sumIn byteSum sum16 digitsOf
+    zerosBelow state bitAt orElse
 empty-text = refl
 
 pub four-blocks : FourBlocks
-unfolding reportOf outcomeOf blocksFor firstCount countLines refusalLine fuseCount meaning concluded pieces blanksBefore fieldsFrom holdsMark tailFrom unbroken statesIn listIn judge allFields misplaced digitsRead numberIn sumIn byteSum sum16 digitsOf zerosBelow state bitAt orElse
+unfolding reportOf outcomeOf blocksFor firstCount countLines refusalLine fuseCount meaning concluded pieces blanksBefore fieldsFrom
+    holdsMark tailFrom unbroken statesIn listIn judge allFields misplaced digitsRead numberIn sumIn byteSum sum16 digitsOf
+    zerosBelow state bitAt orElse
 four-blocks = refl
 
 pub two-blocks : TwoBlocks
-unfolding reportOf outcomeOf blocksFor firstCount countLines refusalLine fuseCount meaning concluded pieces blanksBefore fieldsFrom holdsMark tailFrom unbroken statesIn listIn judge allFields misplaced digitsRead numberIn sumIn byteSum sum16 digitsOf zerosBelow state bitAt orElse
+unfolding reportOf outcomeOf blocksFor firstCount countLines refusalLine fuseCount meaning concluded pieces blanksBefore fieldsFrom
+    holdsMark tailFrom unbroken statesIn listIn judge allFields misplaced digitsRead numberIn sumIn byteSum sum16 digitsOf
+    zerosBelow state bitAt orElse
 two-blocks = refl
 
 all-ones-in : onesIn allOnes ≡ 18144
@@ -42,5 +48,6 @@ no-zeros =
     omega (arith, e, all-ones-in)
 
 pub bench-text : BenchText
-unfolding reportOf outcomeOf blocksFor firstCount countLines refusalLine fuseCount meaning concluded pieces blanksBefore fieldsFrom holdsMark tailFrom unbroken statesIn listIn judge allFields misplaced digitsRead numberIn sumIn byteSum sum16 digitsOf orElse
+unfolding reportOf outcomeOf blocksFor firstCount countLines refusalLine fuseCount meaning concluded pieces blanksBefore fieldsFrom
+    holdsMark tailFrom unbroken statesIn listIn judge allFields misplaced digitsRead numberIn sumIn byteSum sum16 digitsOf orElse
 bench-text = rw (all-ones, no-zeros)

@@ -82,13 +82,16 @@ module _ (text : List ℕ) (from at : ℕ) (e : first (fieldsAt at (drop at text
     judged : Says (drop 1 (take (star - start) (drop start text))) (judge (take (star - start) (drop start text))) fs
     judged = rw w at (s .judged)
 
-    pub a-count : (count r : ℕ) → fs ≡ says.Count count → r ≡ blocksBy (some count) → r ≡ blocksBy (firstCount (fieldsAt from (drop from text) .fields))
+    pub a-count : (count r : ℕ) → fs ≡ says.Count count → r ≡ blocksBy (some count)
+        → r ≡ blocksBy (firstCount (fieldsAt from (drop from text) .fields))
     unfolding firstCount orElse
     a-count count r g h =
-        let reads : fuseCountIn (judge field) ≡ some count = ap fuseCountIn (sym (judged .is)) ∙ ap (λ (k : FieldSays). fuseCountIn (judgedAfter (drop 1 field) k)) g in
+        let reads : fuseCountIn (judge field) ≡ some count =
+        ap fuseCountIn (sym (judged .is)) ∙ ap (λ (k : FieldSays). fuseCountIn (judgedAfter (drop 1 field) k)) g in
         h ∙ ap blocksBy (rw reads at (by-next (next.Field start star fs) w))
 
-    pub no-count : OneOf (1 ∷ 2 ∷ 3 ∷ 4 ∷ 5 ∷ []) (tagOf the-type fs) → first (fieldsAt (star + 1) (drop (star + 1) text)) ≡ first (fieldsAt from (drop from text))
+    pub no-count : OneOf (1 ∷ 2 ∷ 3 ∷ 4 ∷ 5 ∷ []) (tagOf the-type fs)
+        → first (fieldsAt (star + 1) (drop (star + 1) text)) ≡ first (fieldsAt from (drop from text))
     unfolding firstCount orElse
     no-count h =
         let reads : fuseCountIn (judge field) ≡ none = ap fuseCountIn (sym (judged .is)) ∙ no-qf (drop 1 field) fs h in
@@ -111,4 +114,5 @@ module _ (text : List ℕ) (star : ℕ) (e : star ≡ 0 + untilStar (drop 0 text
       let cut : Cuts text star = rw is (pieces-star text less) in
       let rest = pieces (drop (suc star) text) in
       let at : length (take star text) + 1 ≡ suc star = rw (length-take-le star text m) (add-one star) in
-      g ∙ rw (add-one star, cut .ended, cut .rest) (ap (λ (k : ℕ). blocksBy (firstCount (fieldsFrom k (rest .ended) (rest .rest) .fields))) (sym at))
+      g ∙ rw (add-one star, cut .ended, cut .rest)
+      (ap (λ (k : ℕ). blocksBy (firstCount (fieldsFrom k (rest .ended) (rest .rest) .fields))) (sym at))

@@ -34,7 +34,8 @@ unfolding fuseCount
 fuses-few text = by-device (λ n. fuseCount (ofBlocks n) < 10 ^ 7) (omega arith) (omega arith) text
 
 pub counts-whole : (text image : List ℕ)
-    → Whole (blocksFor text) × Whole (fuseCount (ofBlocks (blocksFor text))) × Whole (zerosBelow image (fuseCount (ofBlocks (blocksFor text))))
+    → Whole (blocksFor text) × Whole (fuseCount (ofBlocks (blocksFor text)))
+    × Whole (zerosBelow image (fuseCount (ofBlocks (blocksFor text))))
 counts-whole text image =
     let fuses = fuseCount (ofBlocks (blocksFor text)) in (
       count-back (blocksFor text) (by-device (λ n. n < 10 ^ 7) (omega arith) (omega arith) text),
@@ -46,7 +47,8 @@ pub refusal-whole : (text : List ℕ) (number value : ℕ) → outcomeOf text �
 unfolding outcomeOf
 refusal-whole text number value e = go (ltb most (length text)) e
   where
-    go : (t : Bool) → cond t (refused 7 most) (meaning (fuseCount (ofBlocks (blocksFor text))) text) ≡ refused number value → Whole number × Whole value
+    go : (t : Bool) → cond t (refused 7 most) (meaning (fuseCount (ofBlocks (blocksFor text))) text) ≡ refused number value
+        → Whole number × Whole value
     go true f =
         let n : 7 ≡ number = cc in
         let v : most ≡ value = cc in

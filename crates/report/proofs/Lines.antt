@@ -59,7 +59,8 @@ no-digit out all at zero rest h e = e
 no-digit out all at (suc i) rest h e = absurd (omega arith)
 
 -- one part after another
-pub then : (before middle after xs ys : List ℕ) (at next end : ℕ) → Put before middle at xs next → Put middle after next ys end → Put before after at (xs ++ ys) end
+pub then : (before middle after xs ys : List ℕ) (at next end : ℕ) → Put before middle at xs next → Put middle after next ys end
+    → Put before after at (xs ++ ys) end
 then before middle after xs ys at next end p q =
     record {
       holds = q .holds ∙ rw (p .ends, p .holds) (sym (sets-append before at xs ys));
@@ -84,10 +85,13 @@ word-number before middle after word x at behind digits p e f =
 
 -- a word and four hex digits
 pub hex-line : (out one two three word : List ℕ) (at behind end sum four : ℕ) → Put out one at word behind → four ≡ number (fourHex sum)
-    → two ≡ sets one behind (cut (replicate 4 8) four) → Put two three (behind + 4) (lf ∷ []) end → Put out three at (line word (fourHex sum)) end
+    → two ≡ sets one behind (cut (replicate 4 8) four) → Put two three (behind + 4) (lf ∷ []) end
+    → Put out three at (line word (fourHex sum)) end
 hex-line out one two three word at behind end sum four p e f q =
-    let digits : Put one two behind (fourHex sum) (behind + 4) = record { holds = f ∙ rw (e, hex-cut sum); ends = rw (digits-length 16 hexDigit 4 sum) } in
-    then out two three (word ++ fourHex sum) (lf ∷ []) at (behind + 4) end (then out one two word (fourHex sum) at behind (behind + 4) p digits) q
+    let digits : Put one two behind (fourHex sum) (behind + 4) =
+    record { holds = f ∙ rw (e, hex-cut sum); ends = rw (digits-length 16 hexDigit 4 sum) } in
+    then out two three (word ++ fourHex sum) (lf ∷ []) at (behind + 4) end
+    (then out one two word (fourHex sum) at behind (behind + 4) p digits) q
 
 -- the four lines of an image
 pub four-lines : (d : Device) (image out one two three four : List ℕ) (i j k end blocks fuses zeros sum : ℕ)

@@ -1,4 +1,5 @@
--- Document 01's text and what the bench program writes for it; the empty text, and texts for which it takes four blocks and two.
+-- Document 01's text and what the bench program writes for it; the empty text, and texts for
+-- which it takes four blocks and two.
 -- Assumes nothing.
 use mathlib.Core.Path.{_≡_}
 use mathlib.Core.List.{List, [], _∷_, _++_}
@@ -14,12 +15,14 @@ line characters = chars characters ++ lf ∷ []
 
 abbrev pub BenchText : Type 0
 BenchText =
-    reportOf (file "*QF18144*F1*CD324*" "03DD") ≡ line "blocks 2" ++ line "fuses 18144" ++ line "zero 0" ++ line "sum D324"
+    reportOf (file "*QF18144*F1*CD324*" "03DD")
+    ≡ line "blocks 2" ++ line "fuses 18144" ++ line "zero 0" ++ line "sum D324"
 
 abbrev pub EmptyText : Type 0
 EmptyText = reportOf [] ≡ line "refused 7 at 0"
 
--- 41472 is the count of four blocks, so the list that runs past it is the fault; any other count is compared with that of two
+-- 41472 is the count of four blocks, so the list that runs past it is the fault; any other
+-- count is compared with that of two
 abbrev pub FourBlocks : Type 0
 FourBlocks = reportOf (file "*QF41472*L41471 11*" "0000") ≡ line "refused 9 at 10"
 

@@ -1,5 +1,6 @@
--- What the bench program writes for its input: document 01, "Bench cases". "The bench program reads standard input (at most 65,536 bytes, more
--- is 7 at 65536), takes n = 4 where the first QF field reads 41472, else 2, and writes .. exactly these lines"; for a refusal, `refused N at V`.
+-- What the bench program writes for its input: document 01, "Bench cases". "The bench program reads standard input (at
+-- most 65,536 bytes, more is 7 at 65536), takes n = 4 where the first QF field reads 41472, else 2, and writes ..
+-- exactly these lines"; for a refusal, `refused N at V`.
 use Prim.Native.Nat.{ℕ, _+_}
 use mathlib.Core.Bool.{cond}
 use mathlib.Core.List.{List, [], _∷_, _++_}
@@ -31,7 +32,8 @@ abbrev pub fieldsIn : (ended : List (List ℕ)) → (rest : List ℕ) → List F
 fieldsIn [] rest = []
 fieldsIn (design ∷ ended) rest = fieldsFrom (length design + 1) ended rest .fields
 
--- what a field reads as a QF field: the fuse count that it is judged to give. One of bad form reads none; its text is refused 7 for any device
+-- what a field reads as a QF field: the fuse count that it is judged to give. One of bad form reads none; its
+-- text is refused 7 for any device
 abbrev pub fuseCountIn : Judged → Option ℕ
 fuseCountIn (count n) = some n
 fuseCountIn (start s) = none
@@ -99,7 +101,8 @@ linesOf d (refused number value) = refusalLine number value
 unfoldable pub reportOf : (text : List ℕ) → List ℕ
 reportOf text = linesOf (ofBlocks (blocksFor text)) (outcomeOf text)
 
--- some bytes put at the start of a room: how many they are, or refusal 12 with the bytes needed; what the room then holds
+-- some bytes put at the start of a room: how many they are, or refusal 12 with the bytes
+-- needed; what the room then holds
 abbrev pub bytesPut : (bytes room : List ℕ) → Outcome ℕ
 bytesPut bytes room = cond (ltb (length room) (length bytes)) (refused 12 (length bytes)) (accepted (length bytes))
 

@@ -14,7 +14,8 @@ ghost use Rattle.part.specs.Outcome.{Written};
 ghost use Rattle.jedec.specs.Characters.{decimalDigit, digitsOf, countDigits, fourHex};
 ghost use Rattle.jedec.specs.Meaning.{meaning};
 ghost use Rattle.jedec_fields.specs.Fields.{fieldsAt};
-ghost use Rattle.report.specs.Report.{firstCount, blocksBy, blocksFor, wordSum, line, countLines, refusalLine, linesOf, reportOf, bytesPut, atStart};
+ghost use Rattle.report.specs.Report.{firstCount, blocksBy, blocksFor, wordSum, line, countLines, refusalLine};
+ghost use Rattle.report.specs.Report.{linesOf, reportOf, bytesPut, atStart};
 ghost use Rattle.report.specs.Put.{Put};
 use jedec_fields::FieldSays;
 use jedec_fields::NextSays;
@@ -59,7 +60,8 @@ fn put_digits(x: u32, count: usize, out: &mut [u8], at: usize)
 // A word and a number.
 fn put_number(word: &[u8], x: u32, out: &mut [u8], at: usize) -> usize
     requires { ⌜ at + length (now word) + 7 ≤ length (now out) ⌝ }
-    ensures { λ r. ⌜ (Put (now (out .entry)) (now (out .exit)) at (now (word .entry) ++ countDigits x) r) × (r ≤ at + length (now (word .entry)) + 7) ⌝ }
+    ensures { λ r. ⌜ (Put (now (out .entry)) (now (out .exit)) at (now (word .entry) ++ countDigits x) r)
+        × (r ≤ at + length (now (word .entry)) + 7) ⌝ }
 {
     let behind = put(word, out, at);
     let digits = part::internal::decimal_digits(x) as usize;
@@ -70,7 +72,8 @@ fn put_number(word: &[u8], x: u32, out: &mut [u8], at: usize) -> usize
 // A line of a word and a number.
 fn put_line(word: &[u8], x: u32, out: &mut [u8], at: usize) -> usize
     requires { ⌜ at + length (now word) + 8 ≤ length (now out) ⌝ }
-    ensures { λ r. ⌜ (Put (now (out .entry)) (now (out .exit)) at (line (now (word .entry)) (countDigits x)) r) × (r ≤ at + length (now (word .entry)) + 8) ⌝ }
+    ensures { λ r. ⌜ (Put (now (out .entry)) (now (out .exit)) at (line (now (word .entry)) (countDigits x)) r)
+        × (r ≤ at + length (now (word .entry)) + 8) ⌝ }
 {
     let behind = put_number(word, x, out, at);
     put(b"\n", out, behind)
@@ -168,7 +171,8 @@ fn blocks_for(text: &[u8]) -> u32
 // The lines of a text for a device, by way of its image.
 fn put_lines(d: Device, text: &[u8], image: &mut [u8], out: &mut [u8]) -> usize
     requires { ⌜ (known d ≡ true) × (length (now image) ≡ imageBytes d) × (64 ≤ length (now out)) ⌝ }
-    ensures { λ r. ⌜ Put (now (out .entry)) (now (out .exit)) 0 (linesOf d (meaning (fuseCount d) (now (text .entry)))) r ⌝ }
+    ensures { λ r.
+        ⌜ Put (now (out .entry)) (now (out .exit)) 0 (linesOf d (meaning (fuseCount d) (now (text .entry)))) r ⌝ }
 {
     let answer = jedec_reader::text_to_image(d, text, image);
     match answer {
@@ -206,7 +210,8 @@ fn put_report(text: &[u8], out: &mut [u8]) -> usize
 // What the bench program writes for a text, put at the start of `out`: how many bytes it has. Refused: 12.
 // It is made in bytes of its own, since a refusal changes no byte.
 pub fn report(text: &[u8], out: &mut [u8]) -> NumberAnswer
-    ensures { λ r. ⌜ Written (bytesPut (reportOf (now (text .entry))) (now (out .entry))) (numberOutcome r) (atStart (reportOf (now (text .entry))) (now (out .entry))) (now (out .entry)) (now (out .exit)) ⌝ }
+    ensures { λ r. ⌜ Written (bytesPut (reportOf (now (text .entry))) (now (out .entry))) (numberOutcome r)
+        (atStart (reportOf (now (text .entry))) (now (out .entry))) (now (out .entry)) (now (out .exit)) ⌝ }
 {
     let mut lines = [0u8; 64];
     let n = put_report(text, &mut lines);

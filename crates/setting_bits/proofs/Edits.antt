@@ -40,8 +40,8 @@ pub inside : (d : Device) (layout : Layout) (f : ℕ) → known d ≡ true → f
 inside d Image f k h = omega (arith, image-whole d k)
 inside d Readout f k h = lying d f h .index-below
 
-pub one-fuse : (d : Device) (layout : Layout) (f g : ℕ) → f < fuseCount d → g < fuseCount d → byteOf d layout f ≡ byteOf d layout g → bitIn d layout f ≡ bitIn d layout g
-    → f ≡ g
+pub one-fuse : (d : Device) (layout : Layout) (f g : ℕ) → f < fuseCount d → g < fuseCount d → byteOf d layout f ≡ byteOf d layout g
+    → bitIn d layout f ≡ bitIn d layout g → f ≡ g
 one-fuse d Image f g hf hg e b = omega arith
 one-fuse d Readout f g hf hg e b = sym (lying d f hf .its-own) ∙ ap₂ (fuseAt d) e b ∙ lying d g hg .its-own
 
@@ -136,13 +136,15 @@ module _ (d : Device) (k : known d ≡ true) (layout : Layout) (bytes : List ℕ
       → patternAt d layout (withPattern d layout bytes s pattern) t ≡ patternAt d layout bytes t
   unfolding patternAt
   set-others-read t ht ne =
-      gathered-same (λ b. stateOf d layout (withPattern d layout bytes s pattern) (fuseOf d t b)) (λ b. stateOf d layout bytes (fuseOf d t b)) (bitsOf t)
+      gathered-same (λ b. stateOf d layout (withPattern d layout bytes s pattern) (fuseOf d t b))
+      (λ b. stateOf d layout bytes (fuseOf d t b)) (bitsOf t)
       (λ b l.
       set-other-fuses (fuseOf d t b) (fuse-below d k t ht b l)
       (λ c m x. ne (places.apart d k t s b c (listed d t ht b l) (listed d s h c m) (sym x) .0)))
 
 -- so many of the bits put: the length stays
-bits-length : (d : Device) → known d ≡ true → (layout : Layout) (bytes : List ℕ) → length bytes ≡ bytesOf d layout → (s : Setting) → hasSetting d s ≡ true
+bits-length : (d : Device) → known d ≡ true → (layout : Layout) (bytes : List ℕ) → length bytes ≡ bytesOf d layout
+    → (s : Setting) → hasSetting d s ≡ true
     → (pattern w : ℕ) → w ≤ bitsOf s → length (withBits d layout bytes s pattern w) ≡ bytesOf d layout
 bits-length d k layout bytes e s h pattern w l =
     rw (as-put d layout bytes s pattern w)
@@ -158,7 +160,8 @@ module _ (d : Device) (k : known d ≡ true) (image : List ℕ) (e : length imag
   unfolding withBits
   bits-agree zero l = refl
   bits-agree (suc w) l =
-      change-agrees d (withBits d Image image s pattern w) (fuseOf d s w) (bitOf pattern w) k (bits-length d k Image image e s h pattern w (omega arith))
+      change-agrees d (withBits d Image image s pattern w) (fuseOf d s w) (bitOf pattern w) k
+      (bits-length d k Image image e s h pattern w (omega arith))
       (fuse-below d k s h w l) (a-bit pattern w)
       ∙ ap (λ (r : List ℕ). withState d Readout r (fuseOf d s w) (bitOf pattern w)) (bits-agree w (omega arith))
 
@@ -172,7 +175,8 @@ module _ (d : Device) (image : List ℕ) where
   unfolding readoutOf stateIn state
   same-state f h = readout-state d (state image) (state-bit image) f h
 
-  pub same-pattern : known d ≡ true → (t : Setting) → hasSetting d t ≡ true → patternAt d Readout (readoutOf d image) t ≡ patternAt d Image image t
+  pub same-pattern : known d ≡ true → (t : Setting) → hasSetting d t ≡ true
+      → patternAt d Readout (readoutOf d image) t ≡ patternAt d Image image t
   unfolding patternAt
   same-pattern k t h =
       gathered-same (λ b. stateOf d Readout (readoutOf d image) (fuseOf d t b)) (λ b. stateOf d Image image (fuseOf d t b)) (bitsOf t)
@@ -197,8 +201,10 @@ module _ (d : Device) (k : known d ≡ true) (layout : Layout) (bytes : List ℕ
   unfolding withBits
   bits-kept zero l i own = own
   bits-kept (suc w) l i own =
-      with-kept (withBits d layout bytes s pattern w) (byteOf d layout (fuseOf d s w)) (bitIn d layout (fuseOf d s w)) (bitOf pattern w) bound
-      (rw (bits-length d k layout bytes e s h pattern w (omega arith)) (inside d layout (fuseOf d s w) k (fuse-below d k s h w l))) (a-bit pattern w) (within w l)
+      with-kept (withBits d layout bytes s pattern w) (byteOf d layout (fuseOf d s w))
+      (bitIn d layout (fuseOf d s w)) (bitOf pattern w) bound
+      (rw (bits-length d k layout bytes e s h pattern w (omega arith)) (inside d layout (fuseOf d s w) k (fuse-below d k s h w l)))
+      (a-bit pattern w) (within w l)
       i (bits-kept w (omega arith) i own)
 
   set-kept : (i : ℕ) → getD bytes i 0 < 2 ^ bound i → getD (withPattern d layout bytes s pattern) i 0 < 2 ^ bound i

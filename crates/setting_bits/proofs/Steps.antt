@@ -39,7 +39,8 @@ use Rattle.setting_bits.proofs.Edits.{fuse-below}
 least : (d : Device) (main subarea : ℕ) → known d ≡ true → 2 * (main + 2 * subarea) ≤ inDevice d main subarea
 least d main subarea k =
     let two : 2 ≤ d .blocks =
-    by-count (λ n. 2 ≤ n) (omega arith) (omega arith) (omega arith) (omega arith) (omega arith) (omega arith) (d .blocks) (known-count d k) in
+    by-count (λ n. 2 ≤ n) (omega arith) (omega arith) (omega arith) (omega arith) (omega arith) (omega arith)
+    (d .blocks) (known-count d k) in
     mul-le-mul two (omega (arith, mul-le-mul-right subarea two))
 
 pub bytes-between : (d : Device) (layout : Layout) → known d ≡ true → (2268 ≤ bytesOf d layout) × (bytesOf d layout ≤ 40320)
@@ -68,7 +69,11 @@ module _ (d : Device) (k : known d ≡ true) (s : Setting) (h : hasSetting d s �
   -- the bit of a byte is below 8
   pub bit-small : (layout : Layout) → bitIn d layout (fuseOf d s b) < 8
   bit-small Image = omega arith
-  bit-small Readout = omega (arith, lying d (fuseOf d s b) (fuse-below d k s h b l) .bit-below, width-small (byteOfIndex d (byteOf d Readout (fuseOf d s b))))
+  bit-small Readout = omega (
+    arith,
+    lying d (fuseOf d s b) (fuse-below d k s h b l) .bit-below,
+    width-small (byteOfIndex d (byteOf d Readout (fuseOf d s b))),
+  )
 
 -- one more bit read: a state is 0 or 1, and the bits so far are below 2^bit
 abbrev pub bitsRead : Device → Layout → List ℕ → Setting → ℕ → ℕ
@@ -98,7 +103,9 @@ pub above-iff : (x w : ℕ) → not (eqb (x / 2 ^ w) 0) ≡ leb (2 ^ w) x
 above-iff x w = compared x (2 ^ w) (λ less. rw (div-eq-of-lt less, lt-leb (2 ^ w) x less)) (λ more. rw (some more, le-leb (2 ^ w) x more))
   where
     some : 2 ^ w ≤ x → eqb (x / 2 ^ w) 0 ≡ false
-    some more = ne-eqb (x / 2 ^ w) 0 (λ e. let small : x / 2 ^ w < 1 = omega arith in let less = div-lt-iff-lt-mul {k = 2 ^ w} {x = x} {y = 1} (pow-pos w) .0 small in omega arith)
+    some more =
+        ne-eqb (x / 2 ^ w) 0 (λ e. let small : x / 2 ^ w < 1 = omega arith in
+        let less = div-lt-iff-lt-mul {k = 2 ^ w} {x = x} {y = 1} (pow-pos w) .0 small in omega arith)
 
 module _ (d : Device) (k : known d ≡ true) (readout : List ℕ) (s : Setting) (h : hasSetting d s ≡ true) (b : ℕ) (l : b < bitsOf s)
     (p : Place) (e : p ≡ placeOf s b) (index : ℕ) (g : index ≡ indexOfByte d (p .byte)) where
@@ -117,5 +124,6 @@ module _ (d : Device) (k : known d ≡ true) (readout : List ℕ) (s : Setting) 
   unfolding strayAt
   its-test above lowest w q r m =
       let width : w ≡ widthAt d index = q ∙ its-width in
-      let test : not (eqb above 0) ≡ leb (2 ^ widthAt d index) (getD readout index 0) = rw (r, width) (above-iff (getD readout index 0) (widthAt d index)) in
+      let test : not (eqb above 0) ≡ leb (2 ^ widthAt d index) (getD readout index 0) =
+      rw (r, width) (above-iff (getD readout index 0) (widthAt d index)) in
       rw (test, m, its-index)

@@ -83,11 +83,13 @@ module _ (d : Device) (k : known d ≡ true) (s : Setting) (h : hasSetting d s �
       ∙ sym (clean-through d readout s (bitsOf s) (λ b l.
       let index = indexOfByte d (placeOf s b .byte) in
       let eight : widthAt d (byteOf d Readout (fuseOf d s b)) ≡ 8 =
-      ap (widthAt d) (sym (its-index d k readout s h b l (placeOf s b) refl index refl)) ∙ sym (its-width d k readout s h b l (placeOf s b) refl index refl) ∙ wide b l in
+      ap (widthAt d) (sym (its-index d k readout s h b l (placeOf s b) refl index refl))
+      ∙ sym (its-width d k readout s h b l (placeOf s b) refl index refl) ∙ wide b l in
       rw eight (small (byteOf d Readout (fuseOf d s b)))))
 
   -- of a setting of one bit, its byte is looked at
-  pub one-stray : bitsOf s ≡ 1 → (readout : List ℕ) (p : Place) → p ≡ placeOf s 0 → (index w above : ℕ) → index ≡ byteOf d Readout (fuseOf d s 0)
+  pub one-stray : bitsOf s ≡ 1 → (readout : List ℕ) (p : Place) → p ≡ placeOf s 0 → (index w above : ℕ)
+      → index ≡ byteOf d Readout (fuseOf d s 0)
       → w ≡ widthOf (p .byte) → above ≡ getD readout index 0 / 2 ^ w → strayOf d readout s ≡ cond (not (eqb above 0)) index (readoutBytes d)
   unfolding strayAmong
   one-stray one readout p e index w above i v a =

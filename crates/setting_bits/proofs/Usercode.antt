@@ -59,7 +59,8 @@ module _ (d : Device) where
     pub its-pattern : (layout : Layout) (bytes : List ℕ) → patternAt d layout bytes usercode ≡ patternAt d layout bytes s
     its-pattern layout bytes = rw (the-usercode s h (sym e ∙ q))
 
-    pub its-bytes : (layout : Layout) (bytes : List ℕ) (pattern : ℕ) → withPattern d layout bytes usercode pattern ≡ withPattern d layout bytes s pattern
+    pub its-bytes : (layout : Layout) (bytes : List ℕ) (pattern : ℕ)
+        → withPattern d layout bytes usercode pattern ≡ withPattern d layout bytes s pattern
     its-bytes layout bytes pattern = rw (the-usercode s h (sym e ∙ q))
 
 -- the row and the column of a pair
@@ -81,9 +82,11 @@ in-usercode b l = l
 -- the two fuses of a pair with the states that a pattern needs: a pair more in place
 abbrev pub bothStates : Device → Layout → List ℕ → (pattern pair : ℕ) → List ℕ
 bothStates d layout bytes pattern pair =
-    withState d layout (withState d layout bytes (fuseOf d usercode (2 * pair)) (bitOf pattern (2 * pair))) (fuseOf d usercode (2 * pair + 1)) (bitOf pattern (2 * pair + 1))
+    withState d layout (withState d layout bytes (fuseOf d usercode (2 * pair)) (bitOf pattern (2 * pair)))
+    (fuseOf d usercode (2 * pair + 1)) (bitOf pattern (2 * pair + 1))
 
-pub two-put : (d : Device) (layout : Layout) (before bytes after : List ℕ) (pattern pair : ℕ) → bytes ≡ withBits d layout before usercode pattern (2 * pair)
+pub two-put : (d : Device) (layout : Layout) (before bytes after : List ℕ) (pattern pair : ℕ)
+    → bytes ≡ withBits d layout before usercode pattern (2 * pair)
     → after ≡ bothStates d layout bytes pattern pair → after ≡ withBits d layout before usercode pattern (2 * (pair + 1))
 unfolding withBits
 two-put d layout before bytes after pattern pair e g =
@@ -137,12 +140,15 @@ module _ (d : Device) (k : known d ≡ true) (h : hasSetting d usercode ≡ true
     upper Readout =
         let twice : 2 * pair < 32 = omega arith in
         let next : 2 * pair + 1 < 32 = omega arith in
-        rw (its-index (2 * pair) twice, its-index (2 * pair + 1) next, its-bit (2 * pair) twice, its-bit (2 * pair + 1) next) (omega arith, omega arith)
+        rw (its-index (2 * pair) twice, its-index (2 * pair + 1) next, its-bit (2 * pair) twice, its-bit (2 * pair + 1) next)
+        (omega arith, omega arith)
 
     -- the byte is there
-    module _ (layout : Layout) (index bit : ℕ) (x : index ≡ byteOf d layout (fuseOf d usercode (2 * pair))) (y : bit ≡ bitIn d layout (fuseOf d usercode (2 * pair))) where
+    module _ (layout : Layout) (index bit : ℕ) (x : index ≡ byteOf d layout (fuseOf d usercode (2 * pair)))
+        (y : bit ≡ bitIn d layout (fuseOf d usercode (2 * pair))) where
       pub spot-in : (bytes : List ℕ) → length bytes ≡ bytesOf d layout → index < length bytes
-      spot-in bytes e = rw (e, x) (inside d layout (fuseOf d usercode (2 * pair)) k (fuse-below d k usercode h (2 * pair) (in-usercode (2 * pair) (omega arith))))
+      spot-in bytes e = rw (e, x)
+          (inside d layout (fuseOf d usercode (2 * pair)) k (fuse-below d k usercode h (2 * pair) (in-usercode (2 * pair) (omega arith))))
 
       pub spot-low : bit < 7
       spot-low = rw y (low layout)
@@ -159,7 +165,8 @@ module _ (d : Device) (k : known d ≡ true) (h : hasSetting d usercode ≡ true
           let lower : bitAt bytes index bit ≡ state (2 * pair) = ap₂ (bitAt bytes) x y in
           let higher : bitAt bytes index (bit + 1) ≡ state (2 * pair + 1) =
           ap₂ (bitAt bytes) (x ∙ sym (upper layout .0)) (ap (λ (n : ℕ). n + 1) y ∙ sym (upper layout .1)) in
-          let both : states ≡ state (2 * pair) + 2 * state (suc (2 * pair)) = g ∙ ap₂ (λ (m n : ℕ). m + 2 * n) lower (higher ∙ ap state one) in
+          let both : states ≡ state (2 * pair) + 2 * state (suc (2 * pair)) =
+          g ∙ ap₂ (λ (m n : ℕ). m + 2 * n) lower (higher ∙ ap state one) in
           let small : (b : ℕ) → state b < 2 = λ b. state-small d layout bytes (fuseOf d usercode b) in
           let few : states < 2 ^ 2 = omega (arith, small (2 * pair), small (suc (2 * pair))) in
           let exact : states * 2 ^ (2 * pair) % 2 ^ 32 ≡ states * 2 ^ (2 * pair) = shl-exact 2 (2 * pair) 32 few (omega arith) in
@@ -167,7 +174,8 @@ module _ (d : Device) (k : known d ≡ true) (h : hasSetting d usercode ≡ true
           ap₂ (λ (m n : ℕ). m + n * 2 ^ (2 * pair)) e both ∙ sym (two-more state (2 * pair)) in
           let up : suc (suc (2 * pair)) ≤ 32 = omega arith in
           let most : 2 ^ suc (suc (2 * pair)) ≤ 2 ^ 32 = pow-mono up in
-          let below : bitsRead d layout bytes usercode (suc (suc (2 * pair))) < 2 ^ suc (suc (2 * pair)) = gathered-small state small (suc (suc (2 * pair))) in
+          let below : bitsRead d layout bytes usercode (suc (suc (2 * pair))) < 2 ^ suc (suc (2 * pair)) =
+          gathered-small state small (suc (suc (2 * pair))) in
           rw (exact, next) (sum, rw sum (omega arith))
 
       -- a pair put in place
@@ -176,5 +184,6 @@ module _ (d : Device) (k : known d ≡ true) (h : hasSetting d usercode ≡ true
           → after ≡ bothStates d layout bytes pattern pair
       pair-put bytes after pattern g =
           let lower : pattern / 2 ^ (2 * pair) % 4 % 2 ≡ bitOf pattern (2 * pair) = omega arith in
-          let higher : pattern / 2 ^ (2 * pair) % 4 / 2 ≡ bitOf pattern (2 * pair + 1) = rw (next-bit pattern (2 * pair)) (field (pattern / 2 ^ (2 * pair)) 1 1) in
+          let higher : pattern / 2 ^ (2 * pair) % 4 / 2 ≡ bitOf pattern (2 * pair + 1) =
+          rw (next-bit pattern (2 * pair)) (field (pattern / 2 ^ (2 * pair)) 1 1) in
           rw (upper layout .0, upper layout .1, ← x, ← y, ← lower, ← higher) g

@@ -1,5 +1,6 @@
--- The bits of a setting in an image or a readout: where a fuse stands, the states that stand there as a pattern, a pattern put there,
--- and the lowest byte that has a bit above its width. Document 01, "What the statements must settle" and refusal 6.
+-- The bits of a setting in an image or a readout: where a fuse stands, the states that stand there as a
+-- pattern, a pattern put there, and the lowest byte that has a bit above its width. Document 01, "What the
+-- statements must settle" and refusal 6.
 use Prim.Native.Nat.{ℕ, zero, suc, _/_, _%_}
 use mathlib.Core.Bool.{Bool, true, false, cond, _&&_}
 use mathlib.Core.List.{List}
@@ -23,7 +24,8 @@ abbrev pub isReadout : Layout → Bool
 isReadout Image = false
 isReadout Readout = true
 
--- the byte and the bit of a fuse: in an image byte f div 8 and bit f mod 8; in a readout the byte with its address and its bit there
+-- the byte and the bit of a fuse: in an image byte f div 8 and bit f mod 8; in a readout the byte
+-- with its address and its bit there
 abbrev pub byteOf : Device → Layout → ℕ → ℕ
 byteOf d Image fuse = fuse / 8
 byteOf d Readout fuse = indexInReadout d fuse
@@ -52,12 +54,14 @@ withBits d layout bytes s pattern (suc bit) =
 unfoldable pub withPattern : Device → Layout → List ℕ → Setting → ℕ → List ℕ
 withPattern d layout bytes s pattern = withBits d layout bytes s pattern (bitsOf s)
 
--- the lowest index of a readout byte that holds one of the setting's first bits and has a bit above its width, or the length
+-- the lowest index of a readout byte that holds one of the setting's first bits and has a bit
+-- above its width, or the length
 unfoldable pub strayAmong : Device → List ℕ → Setting → (width : ℕ) → ℕ
 strayAmong d readout s zero = readoutBytes d
 strayAmong d readout s (suc bit) =
     cond
-    (strayAt d readout (byteOf d Readout (fuseOf d s bit)) && ltb (byteOf d Readout (fuseOf d s bit)) (strayAmong d readout s bit))
+    (strayAt d readout (byteOf d Readout (fuseOf d s bit))
+    && ltb (byteOf d Readout (fuseOf d s bit)) (strayAmong d readout s bit))
     (byteOf d Readout (fuseOf d s bit))
     (strayAmong d readout s bit)
 

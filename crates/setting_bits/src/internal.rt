@@ -12,7 +12,8 @@ ghost use Rattle.settings.specs.declared.GlobalField.the-variants.{Usercode};
 ghost use Rattle.settings.specs.declared.Setting.the-variants.{Global};
 ghost use Rattle.setting_places.specs.Places.{placeOf, bitsOf, fuseOf};
 ghost use Rattle.setting_bits.specs.declared.Layout.the-variants.{Readout};
-ghost use Rattle.setting_bits.specs.SettingBits.{bytesOf, isReadout, byteOf, bitIn, withState, patternAt, withPattern, strayOf};
+ghost use Rattle.setting_bits.specs.SettingBits.{bytesOf, isReadout, byteOf, bitIn, withState, patternAt};
+ghost use Rattle.setting_bits.specs.SettingBits.{withPattern, strayOf};
 use super::Layout;
 use part::Device;
 use part::Place;
@@ -48,7 +49,8 @@ pub fn is_readout(layout: Layout) -> bool
 // Where the fuse at a place stands.
 pub fn spot_at(d: Device, layout: Layout, place: Place) -> Spot
     requires { ⌜ (known d ≡ true) × (hasPlace d place ≡ true) ⌝ }
-    ensures { λ r. ⌜ (r .index ≡ byteOf d layout (fuseOfPlace d place)) × (r .bit ≡ bitIn d layout (fuseOfPlace d place)) ⌝ }
+    ensures { λ r. ⌜ (r .index ≡ byteOf d layout (fuseOfPlace d place))
+        × (r .bit ≡ bitIn d layout (fuseOfPlace d place)) ⌝ }
 {
     let byte = place.byte;
     match layout {
@@ -76,10 +78,12 @@ fn spot_of(d: Device, layout: Layout, s: Setting, bit: u32) -> Spot
     spot_at(d, layout, place)
 }
 
-// Where bits 2k and 2k+1 of USERCODE stand: bits 6 and 7 of a byte of block 0, rows 6 and 7. No device has that byte elsewhere.
+// Where bits 2k and 2k+1 of USERCODE stand: bits 6 and 7 of a byte of block 0, rows 6 and 7. No
+// device has that byte elsewhere.
 fn usercode_spot(d: Device, layout: Layout, pair: u32) -> Spot
     requires { ⌜ (known d ≡ true) × (hasSetting d (Global Usercode) ≡ true) × (pair < 16) ⌝ }
-    ensures { λ r. ⌜ (r .index ≡ byteOf d layout (fuseOf d (Global Usercode) (2 * pair))) × (r .bit ≡ bitIn d layout (fuseOf d (Global Usercode) (2 * pair))) ⌝ }
+    ensures { λ r. ⌜ (r .index ≡ byteOf d layout (fuseOf d (Global Usercode) (2 * pair)))
+        × (r .bit ≡ bitIn d layout (fuseOf d (Global Usercode) (2 * pair))) ⌝ }
 {
     let row = 7 - pair / 8;
     let column = 7 - pair % 8;
@@ -100,7 +104,8 @@ fn usercode_spot(d: Device, layout: Layout, pair: u32) -> Spot
 
 // The states of USERCODE's fuses, two at a time.
 pub fn usercode_at(d: Device, layout: Layout, bytes: &[u8]) -> u32
-    requires { ⌜ (known d ≡ true) × (hasSetting d (Global Usercode) ≡ true) × (length (now bytes) ≡ bytesOf d layout) ⌝ }
+    requires { ⌜ (known d ≡ true) × (hasSetting d (Global Usercode) ≡ true)
+        × (length (now bytes) ≡ bytesOf d layout) ⌝ }
     ensures { λ r. ⌜ r ≡ patternAt d layout (now (bytes .entry)) (Global Usercode) ⌝ }
 {
     let mut pattern: u32 = 0;
@@ -116,17 +121,22 @@ pub fn usercode_at(d: Device, layout: Layout, bytes: &[u8]) -> u32
 
 // Bits 2k and 2k+1 of USERCODE put in place.
 fn put_usercode_pair(d: Device, layout: Layout, bytes: &mut [u8], pattern: u32, pair: u32)
-    requires { ⌜ (known d ≡ true) × (hasSetting d (Global Usercode) ≡ true) × (length (now bytes) ≡ bytesOf d layout) × (pair < 16) ⌝ }
-    ensures { λ _. ⌜ now (bytes .exit) ≡ withState d layout (withState d layout (now (bytes .entry)) (fuseOf d (Global Usercode) (2 * pair)) (bitOf pattern (2 * pair))) (fuseOf d (Global Usercode) (2 * pair + 1)) (bitOf pattern (2 * pair + 1)) ⌝ }
+    requires { ⌜ (known d ≡ true) × (hasSetting d (Global Usercode) ≡ true)
+        × (length (now bytes) ≡ bytesOf d layout) × (pair < 16) ⌝ }
+    ensures { λ _. ⌜ now (bytes .exit) ≡ withState d layout
+        (withState d layout (now (bytes .entry)) (fuseOf d (Global Usercode) (2 * pair)) (bitOf pattern (2 * pair)))
+        (fuseOf d (Global Usercode) (2 * pair + 1)) (bitOf pattern (2 * pair + 1)) ⌝ }
 {
     let spot = usercode_spot(d, layout, pair);
     let states = (pattern >> (2 * pair)) % 4;
     image::internal::set_pair(bytes, spot.index, spot.bit, states);
 }
 
-// The states of USERCODE's fuses put in place: row 7, then row 6. In a loop of one row, the compiler has each byte and bit as constants.
+// The states of USERCODE's fuses put in place: row 7, then row 6. In a loop of one row, the compiler has
+// each byte and bit as constants.
 pub fn put_usercode(d: Device, layout: Layout, bytes: &mut [u8], pattern: u32)
-    requires { ⌜ (known d ≡ true) × (hasSetting d (Global Usercode) ≡ true) × (length (now bytes) ≡ bytesOf d layout) ⌝ }
+    requires { ⌜ (known d ≡ true) × (hasSetting d (Global Usercode) ≡ true)
+        × (length (now bytes) ≡ bytesOf d layout) ⌝ }
     ensures { λ _. ⌜ now (bytes .exit) ≡ withPattern d layout (now (bytes .entry)) (Global Usercode) pattern ⌝ }
 {
     let mut pair: u32 = 0;
@@ -188,10 +198,12 @@ pub fn above_width(bytes: &[u8], index: usize, width: u32) -> u32
     bytes[index] as u32 >> width
 }
 
-// Whether every byte that holds the setting has 8 bits. Literals and wire-ANDs, of one bit each, lie in narrower ones too.
+// Whether every byte that holds the setting has 8 bits. Literals and wire-ANDs, of one bit
+// each, lie in narrower ones too.
 fn in_whole_bytes(d: Device, s: Setting) -> bool
     requires { ⌜ (known d ≡ true) × (hasSetting d s ≡ true) ⌝ }
-    ensures { λ r. ⌜ (r ≡ true → (b : ℕ) → b < bitsOf s → widthOf (placeOf s b .byte) ≡ 8) × (r ≡ false → bitsOf s ≡ 1) ⌝ }
+    ensures { λ r. ⌜ (r ≡ true → (b : ℕ) → b < bitsOf s → widthOf (placeOf s b .byte) ≡ 8)
+        × (r ≡ false → bitsOf s ≡ 1) ⌝ }
 {
     match s {
         Setting::Literal { .. } => false,

@@ -7,7 +7,8 @@
 --   unnamed-count     how many fuses are unnamed in each class (proofs/Unnamed.antt)
 --   usercode-rows     USERCODE's two rows in document 01's words, from place to bit
 --   bench-cases       document 01's cases about settings and fuses
---   corner-cases, field-cases, global-cases   the fuses of literals, wire-ANDs and every field, on the part of two blocks (specs/Cases.antt)
+--   corner-cases, field-cases, global-cases   the fuses of literals, wire-ANDs and every field, on the part of two blocks
+--                                             (specs/Cases.antt)
 use mathlib.Core.Path.{_≡_, refl, sym, _∙_, ap, subst}
 use mathlib.Core.Logic.{_↔_}
 use mathlib.Core.Bool.{Bool, true, false, cond, _&&_}
@@ -103,7 +104,8 @@ pub fuses-inverse : (d : Device) (s : Setting) (bit f : ℕ)
 fuses-inverse d s bit f = (fuses-to d s bit f, fuses-from d s bit f)
 
 -- a fuse that is named is one of a setting that the device has
-pub at-fuse-has : (d : Device) (f : ℕ) (s : Setting) (bit : ℕ) → settingAtFuse d f ≡ accepted (some (s, bit)) → (known d ≡ true) × (hasSetting d s ≡ true)
+pub at-fuse-has : (d : Device) (f : ℕ) (s : Setting) (bit : ℕ) → settingAtFuse d f ≡ accepted (some (s, bit))
+    → (known d ≡ true) × (hasSetting d s ≡ true)
 unfolding fuseOfBit
 at-fuse-has d f s bit e =
     let outer = passed (known d) _ 1 0 (fuses-from d s bit f e) in (outer .0, passed (hasSetting d s) _ 4 0 (outer .1) .0)
@@ -134,21 +136,26 @@ pub usercode-rows : UsercodeRows
 usercode-rows i b hi low high =
     (at (omega arith) (omega arith) (omega arith), at (omega arith) (omega arith) (omega arith))
   where
-    at : {row column bit row2 column2 bit2 : ℕ} → row ≡ row2 → column ≡ column2 → bit ≡ bit2 → main 0 row column bit ≡ main 0 row2 column2 bit2
+    at : {row column bit row2 column2 bit2 : ℕ} → row ≡ row2 → column ≡ column2 → bit ≡ bit2
+        → main 0 row column bit ≡ main 0 row2 column2 bit2
     at e f g = rw (e, f, g)
 
 pub bench-cases : AllHold twoSmall benchCases
-unfolding fuseOfBit settingAtFuse settingAt candidateAt known fuseCount placeOfFuse fieldIndexAtRow lastUpTo hasSetting bitsOf placeOf fuseOf
+unfolding fuseOfBit settingAtFuse settingAt candidateAt known fuseCount placeOfFuse fieldIndexAtRow lastUpTo
+    hasSetting bitsOf placeOf fuseOf
 bench-cases = (refl, refl)
 
 pub corner-cases : AllHold twoSmall corners
-unfolding fuseOfBit settingAtFuse settingAt candidateAt known fuseCount placeOfFuse fieldIndexAtRow lastUpTo hasSetting bitsOf placeOf fuseOf
+unfolding fuseOfBit settingAtFuse settingAt candidateAt known fuseCount placeOfFuse fieldIndexAtRow lastUpTo
+    hasSetting bitsOf placeOf fuseOf
 corner-cases = (refl, refl)
 
 pub field-cases : AllHold twoSmall ofMacrocellAndBlock
-unfolding fuseOfBit settingAtFuse settingAt candidateAt known fuseCount placeOfFuse fieldIndexAtRow lastUpTo hasSetting bitsOf placeOf fuseOf
+unfolding fuseOfBit settingAtFuse settingAt candidateAt known fuseCount placeOfFuse fieldIndexAtRow lastUpTo
+    hasSetting bitsOf placeOf fuseOf
 field-cases = (refl, refl)
 
 pub global-cases : AllHold twoLarge ofGlobals
-unfolding fuseOfBit settingAtFuse settingAt candidateAt known fuseCount placeOfFuse fieldIndexAtRow lastUpTo hasSetting bitsOf placeOf fuseOf
+unfolding fuseOfBit settingAtFuse settingAt candidateAt known fuseCount placeOfFuse fieldIndexAtRow lastUpTo
+    hasSetting bitsOf placeOf fuseOf
 global-cases = (refl, refl)

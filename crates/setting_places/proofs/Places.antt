@@ -22,8 +22,10 @@ use Rattle.settings.specs.declared.GlobalField.{GlobalField}
 use Rattle.settings.specs.declared.GlobalField.the-variants.{FsrInv, FclkInv, FoeInv, FclkMux, FoeMux, Usercode}
 use Rattle.settings.specs.declared.Setting.{Setting}
 use Rattle.settings.specs.declared.Setting.the-variants.{Literal, WireAnd, Macrocell, Block, Global}
-use Rattle.setting_places.specs.Places.{main, wireAnd, literalRow, firstRow, rows, blockPlace, globalPlace, globalBits, placeOf, bitsOf}
-use Rattle.setting_places.specs.Back.{polarityOfRow, lastUpTo, fieldIndexAtRow, fieldAtRow, globalBitNear, candidateInMain, candidateAt}
+use Rattle.setting_places.specs.Places.{main, wireAnd, literalRow, firstRow, rows, blockPlace, globalPlace, globalBits, placeOf}
+use Rattle.setting_places.specs.Places.{bitsOf}
+use Rattle.setting_places.specs.Back.{polarityOfRow, lastUpTo, fieldIndexAtRow, fieldAtRow, globalBitNear, candidateInMain}
+use Rattle.setting_places.specs.Back.{candidateAt}
 use Rattle.setting_places.specs.declared.internal.Candidate.{Candidate}
 use Rattle.part.proofs.Tables.{allBelow, below-all, Each, each-below}
 use Rattle.settings.proofs.Numbers.{block-0, few, numbered, macrocell-index, macrocell-at}
@@ -72,7 +74,8 @@ pub at-row : (row : ℕ) → 12 ≤ row → row < 55 → (fieldIndexAtRow row < 
 unfolding fieldIndexAtRow lastUpTo
 at-row row low high =
     let back : 12 + (row - 12) ≡ row = omega arith in
-    let test = below-all (λ i. ltb (fieldIndexAtRow (12 + i)) macrocellFields && ltb (firstRow (fieldAtRow (12 + i))) (12 + i + 1)) 43 refl (row - 12) (omega arith) in
+    let test = below-all (λ i. ltb (fieldIndexAtRow (12 + i)) macrocellFields && ltb (firstRow (fieldAtRow (12 + i))) (12 + i + 1)) 43 refl
+    (row - 12) (omega arith) in
     subst (λ r. (fieldIndexAtRow r < macrocellFields) × (firstRow (fieldAtRow r) ≤ r)) back (passed (12 + (row - 12)) test)
   where
     passed : (r : ℕ) → (ltb (fieldIndexAtRow r) macrocellFields && ltb (firstRow (fieldAtRow r)) (r + 1)) ≡ true
@@ -103,8 +106,8 @@ literal-row : (l : ℕ) (p : Polarity) → l < 36 → literalRow l p < 72
 literal-row l P h = omega arith
 literal-row l N h = omega arith
 
-global-place : (d : Device) (f : GlobalField) (bit : ℕ) → known d ≡ true → globalIndex (foes d) f < globalFields (foes d) → bit < globalBits f
-    → hasPlace d (globalPlace f bit) ≡ true
+global-place : (d : Device) (f : GlobalField) (bit : ℕ) → known d ≡ true
+    → globalIndex (foes d) f < globalFields (foes d) → bit < globalBits f → hasPlace d (globalPlace f bit) ≡ true
 global-place d FsrInv bit k h hb = high-place d 0 0 1 6 (block-0 d k) (omega arith) (omega arith) (omega arith)
 global-place d (FclkInv c) bit k h hb =
     let l = numbered c 3 1 _ h in high-place d 0 0 (2 + c) 6 (block-0 d k) (omega arith) (omega arith) (omega arith)
@@ -133,7 +136,8 @@ pub has-place : (d : Device) (s : Setting) (bit : ℕ) → known d ≡ true → 
 unfolding hasSetting bitsOf placeOf
 has-place d (Literal block j k l polarity) bit kn h hb =
     let facts = simp tests at h in
-    low-place d block (literalRow l polarity) (k + 5 * (j % 3)) (j / 3) (facts .0 .0 .0) (literal-row l polarity (facts .1)) (omega arith) (omega arith)
+    low-place d block (literalRow l polarity) (k + 5 * (j % 3)) (j / 3) (facts .0 .0 .0) (literal-row l polarity (facts .1))
+    (omega arith) (omega arith)
 has-place d (WireAnd i j k l) bit kn h hb =
     let facts = simp tests at h in
     wire-and-place d i k l (j % 5) (j / 5) (facts .0 .0 .0) (facts .0 .1) (facts .1) (omega arith) (omega arith)
@@ -214,7 +218,8 @@ at-global d (FoeInv e) bit h hb =
     bit hb
 at-global d (FclkMux c) bit h hb =
     each-below (Near (FclkMux c)) 2
-    (each-below (λ c. Each (Near (FclkMux c)) 2) 3 ((refl, (refl, tt)), ((refl, (refl, tt)), ((refl, (refl, tt)), tt))) c (numbered c 3 (4 + foes d) _ h))
+    (each-below (λ c. Each (Near (FclkMux c)) 2) 3 ((refl, (refl, tt)), ((refl, (refl, tt)), ((refl, (refl, tt)), tt))) c
+    (numbered c 3 (4 + foes d) _ h))
     bit hb
 at-global d (FoeMux e) bit h hb =
     let l = numbered e (foes d) (4 + foes d + 3) _ h in

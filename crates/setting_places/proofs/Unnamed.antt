@@ -173,13 +173,15 @@ module _ (d : Device) (k : known d ≡ true) (f : ℕ) (below : f < fuseCount d)
   main-unnamed block row column bit h e =
       rw (← e) (its (candidateInMain block row column bit) (candidate-in-main block row column bit))
     where
-      its : (c : Candidate) → CandidateInMain block c → oneIfNone (ifListed d f c) ≡ cond (named (foes d) (eqb 0 block) row column bit c) 0 1
+      its : (c : Candidate) → CandidateInMain block c
+          → oneIfNone (ifListed d f c) ≡ cond (named (foes d) (eqb 0 block) row column bit c) 0 1
       its c i =
           rw (lists-at block row column bit e (c .setting) (c .bit), stands-here block (c .bit) i, has-with block d h i)
           (one-unless (named (foes d) (eqb 0 block) row column bit c) (c .setting, c .bit))
 
   -- every fuse of a wire-AND area is named
-  wire-and-named : (block subarea row column bit : ℕ) → wireAnd block subarea row column bit ≡ placeOfFuse d f → oneIfNone (settingAt d f) ≡ 0
+  wire-and-named : (block subarea row column bit : ℕ) → wireAnd block subarea row column bit ≡ placeOfFuse d f
+      → oneIfNone (settingAt d f) ≡ 0
   unfolding hasPlace hasSetting bitsOf placeOf fuseOf
   wire-and-named block subarea row column bit e =
       let lies = at-fuse d f below in
@@ -195,7 +197,8 @@ module _ (d : Device) (k : known d ≡ true) (f : ℕ) (below : f < fuseCount d)
 -- How many are unnamed in a main area, computed row by row
 abbrev unnamedInRow : (foeCount : ℕ) (first : Bool) (block row rest : ℕ) → ℕ
 unnamedInRow e first block row rest =
-    cond (named e first row (columnInRow 9 6 rest) (bitInRow 9 6 rest) (candidateInMain block row (columnInRow 9 6 rest) (bitInRow 9 6 rest))) 0 1
+    cond (named e first row (columnInRow 9 6 rest) (bitInRow 9 6 rest)
+    (candidateInMain block row (columnInRow 9 6 rest) (bitInRow 9 6 rest))) 0 1
 
 abbrev unnamedInMain : (foeCount : ℕ) (first : Bool) (block : ℕ) → ℕ
 unnamedInMain e first block = sum (λ row. sum (unnamedInRow e first block row) 108) 72

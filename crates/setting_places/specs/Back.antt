@@ -1,5 +1,6 @@
--- The way from a fuse back to its setting: a candidate is taken from the place of the fuse, and it is the answer exactly if it lists
--- that fuse. So only `settingAt` is to be believed; `fuses-inverse` and `unnamed-iff` say what it gives.
+-- The way from a fuse back to its setting: a candidate is taken from the place of the fuse, and it is the
+-- answer exactly if it lists that fuse. So only `settingAt` is to be believed; `fuses-inverse` and
+-- `unnamed-iff` say what it gives.
 use Prim.Native.Nat.{ℕ, zero, suc, _+_, _*_, _-_, _/_, _%_}
 use mathlib.Core.Bool.{cond, _&&_}
 use mathlib.Core.Option.{Option}
@@ -16,7 +17,8 @@ use Rattle.settings.specs.declared.Polarity.{Polarity}
 use Rattle.settings.specs.declared.Polarity.the-variants.{P, N}
 use Rattle.settings.specs.declared.MacrocellField.{MacrocellField}
 use Rattle.settings.specs.declared.BlockField.{BlockField}
-use Rattle.settings.specs.declared.BlockField.the-variants.{Enable, ExportEnable, PullupDisable, ReadProtA, ReadProtB, WriteProt}
+use Rattle.settings.specs.declared.BlockField.the-variants.{Enable, ExportEnable, PullupDisable, ReadProtA, ReadProtB}
+use Rattle.settings.specs.declared.BlockField.the-variants.{WriteProt}
 use Rattle.settings.specs.declared.GlobalField.{GlobalField}
 use Rattle.settings.specs.declared.GlobalField.the-variants.{FsrInv, FclkInv, FoeInv, FclkMux, FoeMux, Usercode}
 use Rattle.settings.specs.declared.Setting.{Setting}
@@ -67,7 +69,10 @@ candidateInMain block row column bit =
     (cond (ltb row 12)
     (record { setting = Block block ReadProtA; bit = 0 })
     (cond (ltb row 55)
-    (record { setting = Macrocell block (column + 9 * (bit - 6)) (fieldAtRow row); bit = row - firstRow (fieldAtRow row) })
+    (record {
+      setting = Macrocell block (column + 9 * (bit - 6)) (fieldAtRow row);
+      bit = row - firstRow (fieldAtRow row);
+    })
     (record { setting = Block block (blockFieldNear row column); bit = 0 }))))
 
 abbrev pub candidateIn : BytePlace → ℕ → Candidate

@@ -1,4 +1,5 @@
--- Document 01's words and cases about places, on the part of two blocks: USERCODE's two rows from place to bit, the bench cases, and the fuses of every field.
+-- Document 01's words and cases about places, on the part of two blocks: USERCODE's two rows from place to bit, the
+-- bench cases, and the fuses of every field.
 -- Assumes nothing.
 use mathlib.Core.Path.{_≡_}
 use Prim.Native.Nat.{ℕ, suc, _+_, _*_, _-_, _<_, _≤_}
@@ -7,8 +8,11 @@ use mathlib.Core.Option.Option.{some}
 use Rattle.part.specs.Outcome.Outcome.{accepted}
 use Rattle.part.specs.declared.Device.{Device}
 use Rattle.settings.specs.declared.Polarity.the-variants.{P, N}
-use Rattle.settings.specs.declared.MacrocellField.the-variants.{Alloc, Inv, ImportUpAlloc, ImportDownAlloc, ExportDir, SumHp, IobOeMux, OeMux, OutMux, ClkMux, RegMode, RstMux, SetMux, Init, UimOeMux, UimOutInv, IobGnd, IobSlew, Hp}
-use Rattle.settings.specs.declared.BlockField.the-variants.{Enable, ExportEnable, PullupDisable, ReadProtA, ReadProtB, WriteProt}
+use Rattle.settings.specs.declared.MacrocellField.the-variants.{Alloc, Inv, ImportUpAlloc, ImportDownAlloc, ExportDir}
+use Rattle.settings.specs.declared.MacrocellField.the-variants.{SumHp, IobOeMux, OeMux, OutMux, ClkMux, RegMode, RstMux}
+use Rattle.settings.specs.declared.MacrocellField.the-variants.{SetMux, Init, UimOeMux, UimOutInv, IobGnd, IobSlew, Hp}
+use Rattle.settings.specs.declared.BlockField.the-variants.{Enable, ExportEnable, PullupDisable, ReadProtA, ReadProtB}
+use Rattle.settings.specs.declared.BlockField.the-variants.{WriteProt}
 use Rattle.settings.specs.declared.GlobalField.the-variants.{FsrInv, FclkInv, FoeInv, FclkMux, FoeMux, Usercode}
 use Rattle.settings.specs.declared.Setting.{Setting}
 use Rattle.settings.specs.declared.Setting.the-variants.{Literal, WireAnd, Macrocell, Block, Global}
@@ -34,7 +38,8 @@ is s bit fuse = record { setting = s; bit = bit; fuse = fuse }
 abbrev pub AllHold : Device → List Case → Type 0
 AllHold d cases =
     (map (λ (c : Case). fuseOfBit d (c .setting) (c .bit)) cases ≡ map (λ (c : Case). accepted (some (c .fuse))) cases)
-    × (map (λ (c : Case). settingAtFuse d (c .fuse)) cases ≡ map (λ (c : Case). accepted (some (c .setting, c .bit))) cases)
+    × (map (λ (c : Case). settingAtFuse d (c .fuse)) cases
+    ≡ map (λ (c : Case). accepted (some (c .setting, c .bit))) cases)
 
 -- the bench cases
 abbrev pub benchCases : List Case

@@ -1,5 +1,5 @@
--- The operations on the fuses of settings, with their refusals: 1 for an unknown device, 3 for a fuse at or over the count, 4 for a
--- setting that the device does not have.
+-- The operations on the fuses of settings, with their refusals: 1 for an unknown device, 3 for a fuse at or over the
+-- count, 4 for a setting that the device does not have.
 use Prim.Native.Nat.{ℕ}
 use mathlib.Core.Bool.{cond}
 use mathlib.Core.Option.{Option}

@@ -1,5 +1,5 @@
--- How many bits each setting has, and the place and the fuse of each bit: document 01, "Settings and where they lie", in its order and
--- with its numbers. Indices count from 0.
+-- How many bits each setting has, and the place and the fuse of each bit: document 01, "Settings and where they lie",
+-- in its order and with its numbers. Indices count from 0.
 use Prim.Native.Nat.{ℕ, _+_, _*_, _-_, _/_, _%_}
 use mathlib.Core.Bool.{Bool, _&&_}
 use lib.Dec.{ltb}
@@ -11,9 +11,12 @@ use Rattle.settings.specs.Settings.{hasSetting}
 use Rattle.settings.specs.declared.Polarity.{Polarity}
 use Rattle.settings.specs.declared.Polarity.the-variants.{P, N}
 use Rattle.settings.specs.declared.MacrocellField.{MacrocellField}
-use Rattle.settings.specs.declared.MacrocellField.the-variants.{Alloc, Inv, ImportUpAlloc, ImportDownAlloc, ExportDir, SumHp, IobOeMux, OeMux, OutMux, ClkMux, RegMode, RstMux, SetMux, Init, UimOeMux, UimOutInv, IobGnd, IobSlew, Hp}
+use Rattle.settings.specs.declared.MacrocellField.the-variants.{Alloc, Inv, ImportUpAlloc, ImportDownAlloc, ExportDir}
+use Rattle.settings.specs.declared.MacrocellField.the-variants.{SumHp, IobOeMux, OeMux, OutMux, ClkMux, RegMode, RstMux}
+use Rattle.settings.specs.declared.MacrocellField.the-variants.{SetMux, Init, UimOeMux, UimOutInv, IobGnd, IobSlew, Hp}
 use Rattle.settings.specs.declared.BlockField.{BlockField}
-use Rattle.settings.specs.declared.BlockField.the-variants.{Enable, ExportEnable, PullupDisable, ReadProtA, ReadProtB, WriteProt}
+use Rattle.settings.specs.declared.BlockField.the-variants.{Enable, ExportEnable, PullupDisable, ReadProtA, ReadProtB}
+use Rattle.settings.specs.declared.BlockField.the-variants.{WriteProt}
 use Rattle.settings.specs.declared.GlobalField.{GlobalField}
 use Rattle.settings.specs.declared.GlobalField.the-variants.{FsrInv, FclkInv, FoeInv, FclkMux, FoeMux, Usercode}
 use Rattle.settings.specs.declared.Setting.{Setting}
@@ -84,9 +87,9 @@ blockPlace block ReadProtA = main block 11 3 6
 blockPlace block ReadProtB = main block 68 3 6
 blockPlace block WriteProt = main block 68 0 6
 
--- Block 0: (0,1,6) FSR_INV; (0,2+c,6) FCLK[c].INV; (0,5+e,6) FOE[e].INV; rows 3 and 4, bit 6 of those same columns: FCLK[c].MUX and
--- FOE[e].MUX, bits 0 and 1. USERCODE: bits 16 to 31 in row 6, bits 0 to 15 in row 7 (`UsercodeRows` in specs/Cases.antt has document
--- 01's own words, from place to bit; law `usercode-rows`)
+-- Block 0: (0,1,6) FSR_INV; (0,2+c,6) FCLK[c].INV; (0,5+e,6) FOE[e].INV; rows 3 and 4, bit 6 of those same columns:
+-- FCLK[c].MUX and FOE[e].MUX, bits 0 and 1. USERCODE: bits 16 to 31 in row 6, bits 0 to 15 in row 7 (`UsercodeRows` in
+-- specs/Cases.antt has document 01's own words, from place to bit; law `usercode-rows`)
 abbrev pub globalPlace : GlobalField → ℕ → Place
 globalPlace FsrInv bit = main 0 0 1 6
 globalPlace (FclkInv c) bit = main 0 0 (2 + c) 6

@@ -1,5 +1,5 @@
--- How many fuses no setting has: document 01, "Settings and where they lie", "Every other fuse is unnamed: 624n - 48 of them in the
--- small class, 624n - 54 in the large". Law `unnamed-count`.
+-- How many fuses no setting has: document 01, "Settings and where they lie", "Every other fuse is unnamed: 624n - 48 of
+-- them in the small class, 624n - 54 in the large". Law `unnamed-count`.
 use mathlib.Core.Path.{_≡_}
 use mathlib.Core.Bool.{true, cond}
 use mathlib.Core.Option.{Option}

@@ -1,5 +1,6 @@
-// What the operations on the fuses of settings and the crates above need, and no caller: the tables and steps behind them.
-// A function here may require that the device is known or has the setting; nothing here is part of the public interface.
+// What the operations on the fuses of settings and the crates above need, and no caller: the tables and
+// steps behind them. A function here may require that the device is known or has the setting; nothing here
+// is part of the public interface.
 ghost use mathlib.Core.Path.{_≡_};
 ghost use mathlib.Core.Bool.{true};
 ghost use Prim.Native.Nat.{_+_, _<_, _≤_};
@@ -10,8 +11,10 @@ ghost use Rattle.settings.specs.Fields.{foes, globalFields, globalIndex};
 ghost use Rattle.settings.specs.Order.{macrocellFieldAt, start, settingOf};
 ghost use Rattle.settings.specs.Order.Group.{wireAnds};
 ghost use Rattle.settings.specs.declared.Setting.the-variants.{Literal};
-ghost use Rattle.setting_places.specs.Places.{main, literalRow, firstRow, rows, blockPlace, globalPlace, placeOf, globalBits, bitsOf, fuseOf};
-ghost use Rattle.setting_places.specs.Back.{polarityOfRow, fieldIndexAtRow, blockFieldNear, globalFieldNear, globalBitNear, candidateInMain, candidateAt};
+ghost use Rattle.setting_places.specs.Places.{main, literalRow, firstRow, rows, blockPlace, globalPlace, placeOf};
+ghost use Rattle.setting_places.specs.Places.{globalBits, bitsOf, fuseOf};
+ghost use Rattle.setting_places.specs.Back.{polarityOfRow, fieldIndexAtRow, blockFieldNear, globalFieldNear};
+ghost use Rattle.setting_places.specs.Back.{globalBitNear, candidateInMain, candidateAt};
 use part::BytePlace;
 use part::Device;
 use part::FuseNumber;

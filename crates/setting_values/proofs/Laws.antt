@@ -67,7 +67,8 @@ pub each-pattern : (d : Device) (s : Setting) (p : ℕ) → known d ≡ true →
 unfolding valueOfPattern
 each-pattern d s p k h = (
   λ l. (valueOf d s p, rw (k, h, lt-ltb p (2 ^ bitsOf s) l)),
-  λ (v, e). ltb-true p (2 ^ bitsOf s) (passed (ltb p (2 ^ bitsOf s)) _ 5 0 (passed (hasSetting d s) _ 4 0 (passed (known d) _ 1 0 e .1) .1) .0),
+  λ (v, e). ltb-true p (2 ^ bitsOf s)
+      (passed (ltb p (2 ^ bitsOf s)) _ 5 0 (passed (hasSetting d s) _ 4 0 (passed (known d) _ 1 0 e .1) .1) .0),
 )
 
 pub flag-true : (valueIn kind.Flag 0 ≡ value.Flag true) × (valueIn kind.Flag 1 ≡ value.Flag false)

@@ -23,7 +23,8 @@ use Rattle.setting_values.specs.Kinds.{macrocellKind, globalKind, kindOf
 macrocell-bits : (f : MacrocellField) → macrocellIndex f < macrocellFields → bitsIn (macrocellKind f) ≡ rows f
 macrocell-bits f h =
     subst (λ g. bitsIn (macrocellKind g) ≡ rows g) (macrocell-at f h)
-    (eqb-true _ _ (below-all (λ i. eqb (bitsIn (macrocellKind (macrocellFieldAt i))) (rows (macrocellFieldAt i))) macrocellFields refl (macrocellIndex f) h))
+    (eqb-true _ _ (below-all (λ i. eqb (bitsIn (macrocellKind (macrocellFieldAt i))) (rows (macrocellFieldAt i))) macrocellFields
+    refl (macrocellIndex f) h))
 
 global-bits : (d : Device) (f : GlobalField) → bitsIn (globalKind d f) ≡ globalBits f
 global-bits d FsrInv = refl

@@ -9,8 +9,11 @@ use Rattle.part.specs.declared.Device.{Device}
 use Rattle.part.specs.Cases.{twoSmall}
 use Rattle.settings.specs.Cases.{numbersFrom}
 use Rattle.settings.specs.declared.Polarity.the-variants.{P}
-use Rattle.settings.specs.declared.MacrocellField.the-variants.{Alloc, Inv, ImportUpAlloc, ImportDownAlloc, ExportDir, SumHp, IobOeMux, OeMux, OutMux, ClkMux, RegMode, RstMux, SetMux, Init, UimOeMux, UimOutInv, IobGnd, IobSlew, Hp}
-use Rattle.settings.specs.declared.BlockField.the-variants.{Enable, ExportEnable, PullupDisable, ReadProtA, ReadProtB, WriteProt}
+use Rattle.settings.specs.declared.MacrocellField.the-variants.{Alloc, Inv, ImportUpAlloc, ImportDownAlloc, ExportDir}
+use Rattle.settings.specs.declared.MacrocellField.the-variants.{SumHp, IobOeMux, OeMux, OutMux, ClkMux, RegMode, RstMux}
+use Rattle.settings.specs.declared.MacrocellField.the-variants.{SetMux, Init, UimOeMux, UimOutInv, IobGnd, IobSlew, Hp}
+use Rattle.settings.specs.declared.BlockField.the-variants.{Enable, ExportEnable, PullupDisable, ReadProtA, ReadProtB}
+use Rattle.settings.specs.declared.BlockField.the-variants.{WriteProt}
 use Rattle.settings.specs.declared.GlobalField.the-variants.{FsrInv, FclkInv, FoeInv, FclkMux, FoeMux, Usercode}
 use Rattle.settings.specs.declared.Setting.{Setting}
 use Rattle.settings.specs.declared.Setting.the-variants.{Literal, WireAnd, Macrocell, Block, Global}
@@ -42,15 +45,19 @@ means s values = record { setting = s; values = values }
 -- each pattern is its value, and each value has its pattern
 abbrev pub AllHold : Device → List Case → Type 0
 AllHold d cases =
-    (map (λ (c : Case). map (valueOfPattern d (c .setting)) (numbersFrom 0 (c .values))) cases ≡ map (λ (c : Case). map (λ (v : Value). accepted v) (c .values)) cases)
-    × (map (λ (c : Case). map (patternOfValue d (c .setting)) (c .values)) cases ≡ map (λ (c : Case). map (λ (k : ℕ). accepted k) (numbersFrom 0 (c .values))) cases)
+    (map (λ (c : Case). map (valueOfPattern d (c .setting)) (numbersFrom 0 (c .values))) cases
+    ≡ map (λ (c : Case). map (λ (v : Value). accepted v) (c .values)) cases)
+    × (map (λ (c : Case). map (patternOfValue d (c .setting)) (c .values)) cases
+    ≡ map (λ (c : Case). map (λ (k : ℕ). accepted k) (numbersFrom 0 (c .values))) cases)
 
 -- true at 0
 abbrev pub flag : List Value
 flag = value.Flag true ∷ value.Flag false ∷ []
 
 abbrev pub allocations : List Value
-allocations = value.TermAlloc termAlloc.Special ∷ value.TermAlloc termAlloc.Export ∷ value.TermAlloc termAlloc.Sum ∷ value.TermAlloc termAlloc.None ∷ []
+allocations =
+    value.TermAlloc termAlloc.Special ∷ value.TermAlloc termAlloc.Export ∷ value.TermAlloc termAlloc.Sum
+    ∷ value.TermAlloc termAlloc.None ∷ []
 
 abbrev pub imports : List Value
 imports = value.ImportAlloc importAlloc.Sum ∷ value.ImportAlloc importAlloc.Export ∷ []
@@ -70,15 +77,19 @@ small =
     ∷ means (Macrocell 0 0 ImportDownAlloc) imports
     ∷ means (Macrocell 0 0 ExportDir) (value.ExportDir exportDir.Down ∷ value.ExportDir exportDir.Up ∷ [])
     ∷ means (Macrocell 0 0 SumHp) flag
-    ∷ means (Macrocell 0 0 IobOeMux) (value.Unassigned 0 ∷ value.IobOeMux iobOeMux.Vcc ∷ value.IobOeMux iobOeMux.OeMux ∷ value.IobOeMux iobOeMux.Gnd ∷ [])
-    ∷ means (Macrocell 0 0 OeMux) (value.Unassigned 0 ∷ value.Unassigned 1 ∷ value.Unassigned 2 ∷ value.OeMux oeMux.Foe3 ∷ value.OeMux oeMux.Foe2 ∷ value.OeMux oeMux.Foe1 ∷ value.OeMux oeMux.Foe0 ∷ value.OeMux oeMux.Pt ∷ [])
+    ∷ means (Macrocell 0 0 IobOeMux) (value.Unassigned 0 ∷ value.IobOeMux iobOeMux.Vcc ∷ value.IobOeMux iobOeMux.OeMux
+    ∷ value.IobOeMux iobOeMux.Gnd ∷ [])
+    ∷ means (Macrocell 0 0 OeMux) (value.Unassigned 0 ∷ value.Unassigned 1 ∷ value.Unassigned 2 ∷ value.OeMux oeMux.Foe3
+    ∷ value.OeMux oeMux.Foe2 ∷ value.OeMux oeMux.Foe1 ∷ value.OeMux oeMux.Foe0 ∷ value.OeMux oeMux.Pt ∷ [])
     ∷ means (Macrocell 0 0 OutMux) (value.OutMux outMux.Ff ∷ value.OutMux outMux.Comb ∷ [])
-    ∷ means (Macrocell 0 0 ClkMux) (value.ClkMux clkMux.Pt ∷ value.ClkMux clkMux.Fclk0 ∷ value.ClkMux clkMux.Fclk2 ∷ value.ClkMux clkMux.Fclk1 ∷ [])
+    ∷ means (Macrocell 0 0 ClkMux)
+    (value.ClkMux clkMux.Pt ∷ value.ClkMux clkMux.Fclk0 ∷ value.ClkMux clkMux.Fclk2 ∷ value.ClkMux clkMux.Fclk1 ∷ [])
     ∷ means (Macrocell 0 0 RegMode) (value.RegMode regMode.Tff ∷ value.RegMode regMode.Dff ∷ [])
     ∷ means (Macrocell 0 0 RstMux) resets
     ∷ means (Macrocell 0 0 SetMux) resets
     ∷ means (Macrocell 0 0 Init) flag
-    ∷ means (Macrocell 0 0 UimOeMux) (value.Unassigned 0 ∷ value.UimOeMux uimOeMux.Vcc ∷ value.UimOeMux uimOeMux.Gnd ∷ value.UimOeMux uimOeMux.OeMux ∷ [])
+    ∷ means (Macrocell 0 0 UimOeMux) (value.Unassigned 0 ∷ value.UimOeMux uimOeMux.Vcc ∷ value.UimOeMux uimOeMux.Gnd
+    ∷ value.UimOeMux uimOeMux.OeMux ∷ [])
     ∷ means (Macrocell 0 0 UimOutInv) flag
     ∷ means (Macrocell 0 0 IobGnd) flag
     ∷ means (Macrocell 0 0 IobSlew) (value.IobSlew iobSlew.Fast ∷ value.IobSlew iobSlew.Slow ∷ [])
@@ -101,19 +112,28 @@ small =
     ∷ means (Global (FclkInv 2)) flag
     ∷ means (Global (FoeInv 0)) flag
     ∷ means (Global (FoeInv 1)) flag
-    ∷ means (Global (FclkMux 0)) (value.Unassigned 0 ∷ value.FclkMux fclkMux.Gclk0 ∷ value.FclkMux fclkMux.Gclk1 ∷ value.FclkMux fclkMux.None ∷ [])
-    ∷ means (Global (FclkMux 1)) (value.Unassigned 0 ∷ value.FclkMux fclkMux.Gclk1 ∷ value.FclkMux fclkMux.Gclk2 ∷ value.FclkMux fclkMux.None ∷ [])
-    ∷ means (Global (FclkMux 2)) (value.Unassigned 0 ∷ value.FclkMux fclkMux.Gclk2 ∷ value.FclkMux fclkMux.Gclk0 ∷ value.FclkMux fclkMux.None ∷ [])
-    ∷ means (Global (FoeMux 0)) (value.Unassigned 0 ∷ value.FoeMux foeMux.Goe0 ∷ value.FoeMux foeMux.Goe1 ∷ value.FoeMux foeMux.None ∷ [])
-    ∷ means (Global (FoeMux 1)) (value.Unassigned 0 ∷ value.FoeMux foeMux.Goe1 ∷ value.FoeMux foeMux.Goe0 ∷ value.FoeMux foeMux.None ∷ [])
+    ∷ means (Global (FclkMux 0))
+    (value.Unassigned 0 ∷ value.FclkMux fclkMux.Gclk0 ∷ value.FclkMux fclkMux.Gclk1 ∷ value.FclkMux fclkMux.None ∷ [])
+    ∷ means (Global (FclkMux 1))
+    (value.Unassigned 0 ∷ value.FclkMux fclkMux.Gclk1 ∷ value.FclkMux fclkMux.Gclk2 ∷ value.FclkMux fclkMux.None ∷ [])
+    ∷ means (Global (FclkMux 2))
+    (value.Unassigned 0 ∷ value.FclkMux fclkMux.Gclk2 ∷ value.FclkMux fclkMux.Gclk0 ∷ value.FclkMux fclkMux.None ∷ [])
+    ∷ means (Global (FoeMux 0))
+    (value.Unassigned 0 ∷ value.FoeMux foeMux.Goe0 ∷ value.FoeMux foeMux.Goe1 ∷ value.FoeMux foeMux.None ∷ [])
+    ∷ means (Global (FoeMux 1))
+    (value.Unassigned 0 ∷ value.FoeMux foeMux.Goe1 ∷ value.FoeMux foeMux.Goe0 ∷ value.FoeMux foeMux.None ∷ [])
     ∷ []
 
 abbrev pub large : List Case
 large =
-    means (Global (FoeMux 0)) (value.Unassigned 0 ∷ value.FoeMux foeMux.Goe0 ∷ value.FoeMux foeMux.Goe1 ∷ value.FoeMux foeMux.None ∷ [])
-    ∷ means (Global (FoeMux 1)) (value.Unassigned 0 ∷ value.FoeMux foeMux.Goe1 ∷ value.FoeMux foeMux.Goe2 ∷ value.FoeMux foeMux.None ∷ [])
-    ∷ means (Global (FoeMux 2)) (value.Unassigned 0 ∷ value.FoeMux foeMux.Goe2 ∷ value.FoeMux foeMux.Goe3 ∷ value.FoeMux foeMux.None ∷ [])
-    ∷ means (Global (FoeMux 3)) (value.Unassigned 0 ∷ value.FoeMux foeMux.Goe3 ∷ value.FoeMux foeMux.Goe0 ∷ value.FoeMux foeMux.None ∷ [])
+    means (Global (FoeMux 0))
+    (value.Unassigned 0 ∷ value.FoeMux foeMux.Goe0 ∷ value.FoeMux foeMux.Goe1 ∷ value.FoeMux foeMux.None ∷ [])
+    ∷ means (Global (FoeMux 1))
+    (value.Unassigned 0 ∷ value.FoeMux foeMux.Goe1 ∷ value.FoeMux foeMux.Goe2 ∷ value.FoeMux foeMux.None ∷ [])
+    ∷ means (Global (FoeMux 2))
+    (value.Unassigned 0 ∷ value.FoeMux foeMux.Goe2 ∷ value.FoeMux foeMux.Goe3 ∷ value.FoeMux foeMux.None ∷ [])
+    ∷ means (Global (FoeMux 3))
+    (value.Unassigned 0 ∷ value.FoeMux foeMux.Goe3 ∷ value.FoeMux foeMux.Goe0 ∷ value.FoeMux foeMux.None ∷ [])
     ∷ []
 
 -- a number is stored inverted

@@ -1,10 +1,12 @@
--- Which of 003's assignment lists each setting has. "Unless said otherwise a one-bit setting is true at fuse 0": a flag.
--- 003's lists are in the crate `values`, specs/Values.antt.
+-- Which of 003's assignment lists each setting has. "Unless said otherwise a one-bit setting is true at fuse 0": a
+-- flag. 003's lists are in the crate `values`, specs/Values.antt.
 use Prim.Native.Nat.{ℕ}
 use Rattle.part.specs.Device.{isLarge}
 use Rattle.part.specs.declared.Device.{Device}
 use Rattle.settings.specs.declared.MacrocellField.{MacrocellField}
-use Rattle.settings.specs.declared.MacrocellField.the-variants.{Alloc, Inv, ImportUpAlloc, ImportDownAlloc, ExportDir, SumHp, IobOeMux, OeMux, OutMux, ClkMux, RegMode, RstMux, SetMux, Init, UimOeMux, UimOutInv, IobGnd, IobSlew, Hp}
+use Rattle.settings.specs.declared.MacrocellField.the-variants.{Alloc, Inv, ImportUpAlloc, ImportDownAlloc, ExportDir}
+use Rattle.settings.specs.declared.MacrocellField.the-variants.{SumHp, IobOeMux, OeMux, OutMux, ClkMux, RegMode, RstMux}
+use Rattle.settings.specs.declared.MacrocellField.the-variants.{SetMux, Init, UimOeMux, UimOutInv, IobGnd, IobSlew, Hp}
 use Rattle.settings.specs.declared.GlobalField.{GlobalField}
 use Rattle.settings.specs.declared.GlobalField.the-variants.{FsrInv, FclkInv, FoeInv, FclkMux, FoeMux, Usercode}
 use Rattle.settings.specs.declared.Setting.{Setting}
@@ -14,8 +16,8 @@ use Rattle.values.specs.declared.Kind.{Kind}
 use Rattle.values.specs.declared.Kind.the-variants as kind
 use Rattle.values.specs.Values.{valueIn}
 
--- 003: PT[*].ALLOC; IMPORT_*_ALLOC; EXPORT_DIR; IOB_OE_MUX; OUT_MUX; OE_MUX; CLK_MUX; REG_MODE; RST_MUX, SET_MUX; UIM_OE_MUX; IOB_SLEW;
--- everything else: false, true
+-- 003: PT[*].ALLOC; IMPORT_*_ALLOC; EXPORT_DIR; IOB_OE_MUX; OUT_MUX; OE_MUX; CLK_MUX; REG_MODE; RST_MUX, SET_MUX;
+-- UIM_OE_MUX; IOB_SLEW; everything else: false, true
 abbrev pub macrocellKind : MacrocellField → Kind
 macrocellKind (Alloc k) = kind.TermAlloc
 macrocellKind Inv = kind.Flag

@@ -1,5 +1,5 @@
--- Values and patterns of the settings of a device, with their refusals: 1, 4, and 5 for a pattern that does not fit, a value of
--- another kind, a name that this setting does not have, or Unassigned carrying a pattern that has a name.
+-- Values and patterns of the settings of a device, with their refusals: 1, 4, and 5 for a pattern that does not fit, a
+-- value of another kind, a name that this setting does not have, or Unassigned carrying a pattern that has a name.
 use Prim.Native.Nat.{ℕ, _^_}
 use mathlib.Core.Bool.{cond}
 use mathlib.Core.Option.{Option}
@@ -23,7 +23,8 @@ valueOutcome (answer.Value v) = accepted v
 valueOutcome (answer.Refused r) = refused (refusalNumber r) (refusalValue r)
 
 unfoldable pub valueOfPattern : Device → Setting → ℕ → Outcome Value
-valueOfPattern d s pattern = ifSetting d s (cond (ltb pattern (2 ^ bitsOf s)) (accepted (valueOf d s pattern)) (refused 5 0))
+valueOfPattern d s pattern =
+    ifSetting d s (cond (ltb pattern (2 ^ bitsOf s)) (accepted (valueOf d s pattern)) (refused 5 0))
 
 -- the pattern that stands for a value (`pattern-iff`), or refusal 5
 abbrev pub ifPattern : Option ℕ → Outcome ℕ

@@ -1,5 +1,5 @@
-// The values of the settings of a device: which kind of value each setting has, and the two ways between values and patterns.
-// The definitions stand in specs/Kinds.antt; the lists of names are those of the crate `values`.
+// The values of the settings of a device: which kind of value each setting has, and the two ways between values and
+// patterns. The definitions stand in specs/Kinds.antt; the lists of names are those of the crate `values`.
 ghost use mathlib.Core.Path.{_≡_};
 ghost use Rattle.part.specs.Answer.{numberOutcome};
 ghost use Rattle.setting_values.specs.Operations.{valueOutcome, valueOfPattern, patternOfValue};

@@ -12,14 +12,18 @@ use Rattle.part.specs.Device.{known, blocksOf, isLarge}
 use Rattle.part.specs.declared.Device.{Device}
 use Rattle.part.proofs.Facts.{compared, tests}
 use Rattle.part.proofs.Devices.{by-count, known-count}
-use Rattle.settings.specs.Fields.{foes, listed, polarityIndex, macrocellFields, macrocellIndex, blockFields, blockIndex, globalFields, globalIndex}
+use Rattle.settings.specs.Fields.{foes, listed, polarityIndex, macrocellFields, macrocellIndex, blockFields, blockIndex, globalFields}
+use Rattle.settings.specs.Fields.{globalIndex}
 use Rattle.settings.specs.Settings.{hasSetting}
-use Rattle.settings.specs.Order.{Group, rank, group, indices, bounds, position, at, size, start, countOf, numberOf, polarityAt, macrocellFieldAt, blockFieldAt, globalFieldAt, fromIndices, inGroup, settingOf, earlier, before}
+use Rattle.settings.specs.Order.{Group, rank, group, indices, bounds, position, at, size, start, countOf, numberOf, polarityAt}
+use Rattle.settings.specs.Order.{macrocellFieldAt, blockFieldAt, globalFieldAt, fromIndices, inGroup, settingOf, earlier, before}
 use Rattle.settings.specs.Order.Group.{literals, wireAnds, macrocellSettings, blockSettings, globals}
 use Rattle.settings.specs.declared.Polarity.{Polarity}
 use Rattle.settings.specs.declared.Polarity.the-variants.{P, N}
 use Rattle.settings.specs.declared.MacrocellField.{MacrocellField}
-use Rattle.settings.specs.declared.MacrocellField.the-variants.{Alloc, Inv, ImportUpAlloc, ImportDownAlloc, ExportDir, SumHp, IobOeMux, OeMux, OutMux, ClkMux, RegMode, RstMux, SetMux, Init, UimOeMux, UimOutInv, IobGnd, IobSlew, Hp}
+use Rattle.settings.specs.declared.MacrocellField.the-variants.{Alloc, Inv, ImportUpAlloc, ImportDownAlloc, ExportDir, SumHp}
+use Rattle.settings.specs.declared.MacrocellField.the-variants.{IobOeMux, OeMux, OutMux, ClkMux, RegMode, RstMux, SetMux, Init}
+use Rattle.settings.specs.declared.MacrocellField.the-variants.{UimOeMux, UimOutInv, IobGnd, IobSlew, Hp}
 use Rattle.settings.specs.declared.BlockField.{BlockField}
 use Rattle.settings.specs.declared.BlockField.the-variants.{Enable, ExportEnable, PullupDisable, ReadProtA, ReadProtB, WriteProt}
 use Rattle.settings.specs.declared.GlobalField.{GlobalField}
@@ -212,13 +216,34 @@ pub in-its-group : (d : Device) (g : Group) (p : ℕ) → p < size d g → setti
 unfolding settingOf
 in-its-group d literals p h = rw (lt-ltb (0 + p) (size d literals) (omega arith), less 0 p)
 in-its-group d wireAnds p h =
-    rw (le-ltb (start d wireAnds + p) (start d wireAnds) (omega arith), lt-ltb (start d wireAnds + p) (start d macrocellSettings) (omega arith), less (start d wireAnds) p)
+    rw (
+      le-ltb (start d wireAnds + p) (start d wireAnds) (omega arith),
+      lt-ltb (start d wireAnds + p) (start d macrocellSettings) (omega arith),
+      less (start d wireAnds) p,
+    )
 in-its-group d macrocellSettings p h =
-    rw (le-ltb (start d macrocellSettings + p) (start d wireAnds) (omega arith), le-ltb (start d macrocellSettings + p) (start d macrocellSettings) (omega arith), lt-ltb (start d macrocellSettings + p) (start d blockSettings) (omega arith), less (start d macrocellSettings) p)
+    rw (
+      le-ltb (start d macrocellSettings + p) (start d wireAnds) (omega arith),
+      le-ltb (start d macrocellSettings + p) (start d macrocellSettings) (omega arith),
+      lt-ltb (start d macrocellSettings + p) (start d blockSettings) (omega arith),
+      less (start d macrocellSettings) p,
+    )
 in-its-group d blockSettings p h =
-    rw (le-ltb (start d blockSettings + p) (start d wireAnds) (omega arith), le-ltb (start d blockSettings + p) (start d macrocellSettings) (omega arith), le-ltb (start d blockSettings + p) (start d blockSettings) (omega arith), lt-ltb (start d blockSettings + p) (start d globals) (omega arith), less (start d blockSettings) p)
+    rw (
+      le-ltb (start d blockSettings + p) (start d wireAnds) (omega arith),
+      le-ltb (start d blockSettings + p) (start d macrocellSettings) (omega arith),
+      le-ltb (start d blockSettings + p) (start d blockSettings) (omega arith),
+      lt-ltb (start d blockSettings + p) (start d globals) (omega arith),
+      less (start d blockSettings) p,
+    )
 in-its-group d globals p h =
-    rw (le-ltb (start d globals + p) (start d wireAnds) (omega arith), le-ltb (start d globals + p) (start d macrocellSettings) (omega arith), le-ltb (start d globals + p) (start d blockSettings) (omega arith), le-ltb (start d globals + p) (start d globals) (omega arith), less (start d globals) p)
+    rw (
+      le-ltb (start d globals + p) (start d wireAnds) (omega arith),
+      le-ltb (start d globals + p) (start d macrocellSettings) (omega arith),
+      le-ltb (start d globals + p) (start d blockSettings) (omega arith),
+      le-ltb (start d globals + p) (start d globals) (omega arith),
+      less (start d globals) p,
+    )
 
 -- .. and every number below the count is in one
 pub by-group : (d : Device) (Q : ℕ → Type 0) → ((g : Group) (p : ℕ) → p < size d g → Q (start d g + p)) → (x : ℕ) → x < countOf d → Q x
@@ -353,12 +378,14 @@ listing-order d s t hs ht =
 
     same : rank (group t) ≤ rank (group s) → rank (group s) ≤ rank (group t)
         → Within (bounds d (group s)) (indices d s) → Within (bounds d (group t)) (indices d t)
-        → (start d (group s) + position (bounds d (group s)) (indices d s) < start d (group t) + position (bounds d (group t)) (indices d t)) ↔ (before d s t ≡ true)
+        → (start d (group s) + position (bounds d (group s)) (indices d s)
+        < start d (group t) + position (bounds d (group t)) (indices d t)) ↔ (before d s t ≡ true)
     same a b ws wt =
         let e : rank (group s) ≡ rank (group t) = omega arith in
         let k : group s ≡ group t = same-rank (group s) (group t) e in
         let w : Within (bounds d (group t)) (indices d s) = subst (λ g. Within (bounds d g) (indices d s)) k ws in
-        rw (le-ltb (rank (group s)) (rank (group t)) a, eq-eqb (rank (group s)) (rank (group t)) e, k) (in-one-group d (group t) (indices d s) (indices d t) w wt)
+        rw (le-ltb (rank (group s)) (rank (group t)) a, eq-eqb (rank (group s)) (rank (group t)) e, k)
+        (in-one-group d (group t) (indices d s) (indices d t) w wt)
 
 -- What a setting of the device has, for the code, which knows its group by an equation
 module _ (d : Device) (s : Setting) (h : hasSetting d s ≡ true) where
@@ -382,7 +409,8 @@ count-small d k =
     omega (
       arith,
       few d,
-      by-count (λ n. n * 6480 + n * (36 * (n * 18)) + n * 486 + n * 6 ≤ 277440) (omega arith) (omega arith) (omega arith) (omega arith) (omega arith) (omega arith)
+      by-count (λ n. n * 6480 + n * (36 * (n * 18)) + n * 486 + n * 6 ≤ 277440) (omega arith) (omega arith) (omega arith) (omega arith)
+          (omega arith) (omega arith)
           (blocksOf d) (known-count d k),
     )
 

@@ -8,8 +8,12 @@ use Rattle.part.specs.declared.Device.{Device}
 use Rattle.part.specs.Cases.{twoSmall}
 use Rattle.settings.specs.Operations.{countOfSettings, settingOfNumber, numberOfSetting}
 use Rattle.settings.specs.declared.Polarity.the-variants.{P, N}
-use Rattle.settings.specs.declared.MacrocellField.the-variants.{Alloc, Inv, ImportUpAlloc, ImportDownAlloc, ExportDir, SumHp, IobOeMux, OeMux, OutMux, ClkMux, RegMode, RstMux, SetMux, Init, UimOeMux, UimOutInv, IobGnd, IobSlew, Hp}
-use Rattle.settings.specs.declared.BlockField.the-variants.{Enable, ExportEnable, PullupDisable, ReadProtA, ReadProtB, WriteProt}
+use Rattle.settings.specs.declared.MacrocellField.the-variants.{Alloc, Inv, ImportUpAlloc, ImportDownAlloc}
+use Rattle.settings.specs.declared.MacrocellField.the-variants.{ExportDir, SumHp, IobOeMux, OeMux, OutMux, ClkMux}
+use Rattle.settings.specs.declared.MacrocellField.the-variants.{RegMode, RstMux, SetMux, Init, UimOeMux}
+use Rattle.settings.specs.declared.MacrocellField.the-variants.{UimOutInv, IobGnd, IobSlew, Hp}
+use Rattle.settings.specs.declared.BlockField.the-variants.{Enable, ExportEnable, PullupDisable, ReadProtA}
+use Rattle.settings.specs.declared.BlockField.the-variants.{ReadProtB, WriteProt}
 use Rattle.settings.specs.declared.GlobalField.the-variants.{FsrInv, FclkInv, FoeInv, FclkMux, FoeMux, Usercode}
 use Rattle.settings.specs.declared.Setting.{Setting}
 use Rattle.settings.specs.declared.Setting.the-variants.{Literal, WireAnd, Macrocell, Block, Global}
@@ -22,17 +26,22 @@ twoLarge = record { blocks = 2; class = 1 }
 
 abbrev pub macrocellFieldsInOrder : List MacrocellField
 macrocellFieldsInOrder =
-    Alloc 0 ∷ Alloc 1 ∷ Alloc 2 ∷ Alloc 3 ∷ Alloc 4 ∷ Inv ∷ ImportUpAlloc ∷ ImportDownAlloc ∷ ExportDir ∷ SumHp ∷ IobOeMux ∷ OeMux ∷ OutMux ∷ ClkMux ∷ RegMode ∷ RstMux ∷ SetMux ∷ Init ∷ UimOeMux ∷ UimOutInv ∷ IobGnd ∷ IobSlew ∷ Hp 0 ∷ Hp 1 ∷ Hp 2 ∷ Hp 3 ∷ Hp 4 ∷ []
+    Alloc 0 ∷ Alloc 1 ∷ Alloc 2 ∷ Alloc 3 ∷ Alloc 4 ∷ Inv ∷ ImportUpAlloc ∷ ImportDownAlloc ∷ ExportDir ∷ SumHp
+    ∷ IobOeMux ∷ OeMux ∷ OutMux ∷ ClkMux ∷ RegMode ∷ RstMux ∷ SetMux ∷ Init ∷ UimOeMux ∷ UimOutInv ∷ IobGnd ∷ IobSlew
+    ∷ Hp 0 ∷ Hp 1 ∷ Hp 2 ∷ Hp 3 ∷ Hp 4 ∷ []
 
 abbrev pub blockFieldsInOrder : List BlockField
 blockFieldsInOrder = Enable ∷ ExportEnable ∷ PullupDisable ∷ ReadProtA ∷ ReadProtB ∷ WriteProt ∷ []
 
 abbrev pub globalFieldsInOrder : List GlobalField
-globalFieldsInOrder = FsrInv ∷ FclkInv 0 ∷ FclkInv 1 ∷ FclkInv 2 ∷ FoeInv 0 ∷ FoeInv 1 ∷ FclkMux 0 ∷ FclkMux 1 ∷ FclkMux 2 ∷ FoeMux 0 ∷ FoeMux 1 ∷ Usercode ∷ []
+globalFieldsInOrder =
+    FsrInv ∷ FclkInv 0 ∷ FclkInv 1 ∷ FclkInv 2 ∷ FoeInv 0 ∷ FoeInv 1 ∷ FclkMux 0 ∷ FclkMux 1 ∷ FclkMux 2 ∷ FoeMux 0
+    ∷ FoeMux 1 ∷ Usercode ∷ []
 
 abbrev pub globalFieldsOfLarge : List GlobalField
 globalFieldsOfLarge =
-    FsrInv ∷ FclkInv 0 ∷ FclkInv 1 ∷ FclkInv 2 ∷ FoeInv 0 ∷ FoeInv 1 ∷ FoeInv 2 ∷ FoeInv 3 ∷ FclkMux 0 ∷ FclkMux 1 ∷ FclkMux 2 ∷ FoeMux 0 ∷ FoeMux 1 ∷ FoeMux 2 ∷ FoeMux 3 ∷ Usercode ∷ []
+    FsrInv ∷ FclkInv 0 ∷ FclkInv 1 ∷ FclkInv 2 ∷ FoeInv 0 ∷ FoeInv 1 ∷ FoeInv 2 ∷ FoeInv 3 ∷ FclkMux 0 ∷ FclkMux 1
+    ∷ FclkMux 2 ∷ FoeMux 0 ∷ FoeMux 1 ∷ FoeMux 2 ∷ FoeMux 3 ∷ Usercode ∷ []
 
 -- settings that follow one another, and the number of the first
 pub record Run : Type 0 where
@@ -50,8 +59,10 @@ numbersFrom first (x ∷ list) = first ∷ numbersFrom (suc first) list
 -- each has its number, and each number is its setting's
 abbrev pub AllHold : Device → List Run → Type 0
 AllHold d runs =
-    (map (λ (r : Run). map (numberOfSetting d) (r .settings)) runs ≡ map (λ (r : Run). map (λ (k : ℕ). accepted k) (numbersFrom (r .first) (r .settings))) runs)
-    × (map (λ (r : Run). map (settingOfNumber d) (numbersFrom (r .first) (r .settings))) runs ≡ map (λ (r : Run). map (λ (s : Setting). accepted s) (r .settings)) runs)
+    (map (λ (r : Run). map (numberOfSetting d) (r .settings)) runs
+    ≡ map (λ (r : Run). map (λ (k : ℕ). accepted k) (numbersFrom (r .first) (r .settings))) runs)
+    × (map (λ (r : Run). map (settingOfNumber d) (numbersFrom (r .first) (r .settings))) runs
+    ≡ map (λ (r : Run). map (λ (s : Setting). accepted s) (r .settings)) runs)
 
 abbrev pub small : List Run
 small =

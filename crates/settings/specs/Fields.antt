@@ -1,5 +1,5 @@
--- The indices and fields of settings, and the place of each field in the order listed: document 01, "Settings and where they lie".
--- A field that there is not, as ALLOC of term 5, stands past the end.
+-- The indices and fields of settings, and the place of each field in the order listed: document 01, "Settings and where
+-- they lie". A field that there is not, as ALLOC of term 5, stands past the end.
 use Prim.Native.Nat.{ℕ, _+_}
 use mathlib.Core.Bool.{cond}
 use lib.Dec.{ltb}
@@ -8,9 +8,13 @@ use Rattle.part.specs.declared.Device.{Device}
 use Rattle.settings.specs.declared.Polarity.{Polarity}
 use Rattle.settings.specs.declared.Polarity.the-variants.{P, N}
 use Rattle.settings.specs.declared.MacrocellField.{MacrocellField}
-use Rattle.settings.specs.declared.MacrocellField.the-variants.{Alloc, Inv, ImportUpAlloc, ImportDownAlloc, ExportDir, SumHp, IobOeMux, OeMux, OutMux, ClkMux, RegMode, RstMux, SetMux, Init, UimOeMux, UimOutInv, IobGnd, IobSlew, Hp}
+use Rattle.settings.specs.declared.MacrocellField.the-variants.{Alloc, Inv, ImportUpAlloc, ImportDownAlloc}
+use Rattle.settings.specs.declared.MacrocellField.the-variants.{ExportDir, SumHp, IobOeMux, OeMux, OutMux, ClkMux}
+use Rattle.settings.specs.declared.MacrocellField.the-variants.{RegMode, RstMux, SetMux, Init, UimOeMux}
+use Rattle.settings.specs.declared.MacrocellField.the-variants.{UimOutInv, IobGnd, IobSlew, Hp}
 use Rattle.settings.specs.declared.BlockField.{BlockField}
-use Rattle.settings.specs.declared.BlockField.the-variants.{Enable, ExportEnable, PullupDisable, ReadProtA, ReadProtB, WriteProt}
+use Rattle.settings.specs.declared.BlockField.the-variants.{Enable, ExportEnable, PullupDisable, ReadProtA}
+use Rattle.settings.specs.declared.BlockField.the-variants.{ReadProtB, WriteProt}
 use Rattle.settings.specs.declared.GlobalField.{GlobalField}
 use Rattle.settings.specs.declared.GlobalField.the-variants.{FsrInv, FclkInv, FoeInv, FclkMux, FoeMux, Usercode}
 

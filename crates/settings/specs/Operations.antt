@@ -1,5 +1,5 @@
--- The operations on settings and their numbers, with their refusals: 1 for an unknown device, 4 for a setting that the device does
--- not have.
+-- The operations on settings and their numbers, with their refusals: 1 for an unknown device, 4 for a setting
+-- that the device does not have.
 use Prim.Native.Nat.{ℕ}
 use mathlib.Core.Bool.{cond}
 use lib.Dec.{ltb}

@@ -1,18 +1,24 @@
--- The numbers of the settings: "from 0 in the order of this list: group by group, indices in the order block, macrocell, term, input,
--- P before N (for wire-AND: i, j, k, l), the last fastest; a macrocell's, block's or global field comes last, in the order listed".
+-- The numbers of the settings: "from 0 in the order of this list: group by group, indices in the order block,
+-- macrocell, term, input, P before N (for wire-AND: i, j, k, l), the last fastest; a macrocell's, block's or global
+-- field comes last, in the order listed".
 use Prim.Native.Nat.{ℕ, zero, suc, _+_, _*_, _-_, _/_, _%_}
 use mathlib.Core.Bool.{Bool, false, cond, _&&_, _||_}
 use mathlib.Core.List.{List, [], _∷_}
 use lib.Dec.{eqb, ltb}
 use Rattle.part.specs.Device.{blocksOf}
 use Rattle.part.specs.declared.Device.{Device}
-use Rattle.settings.specs.Fields.{macrocells, terms, inputs, foes, polarityIndex, macrocellFields, macrocellIndex, blockFields, blockIndex, globalFields, globalIndex}
+use Rattle.settings.specs.Fields.{macrocells, terms, inputs, foes, polarityIndex, macrocellFields, macrocellIndex}
+use Rattle.settings.specs.Fields.{blockFields, blockIndex, globalFields, globalIndex}
 use Rattle.settings.specs.declared.Polarity.{Polarity}
 use Rattle.settings.specs.declared.Polarity.the-variants.{P, N}
 use Rattle.settings.specs.declared.MacrocellField.{MacrocellField}
-use Rattle.settings.specs.declared.MacrocellField.the-variants.{Alloc, Inv, ImportUpAlloc, ImportDownAlloc, ExportDir, SumHp, IobOeMux, OeMux, OutMux, ClkMux, RegMode, RstMux, SetMux, Init, UimOeMux, UimOutInv, IobGnd, IobSlew, Hp}
+use Rattle.settings.specs.declared.MacrocellField.the-variants.{Alloc, Inv, ImportUpAlloc, ImportDownAlloc}
+use Rattle.settings.specs.declared.MacrocellField.the-variants.{ExportDir, SumHp, IobOeMux, OeMux, OutMux, ClkMux}
+use Rattle.settings.specs.declared.MacrocellField.the-variants.{RegMode, RstMux, SetMux, Init, UimOeMux}
+use Rattle.settings.specs.declared.MacrocellField.the-variants.{UimOutInv, IobGnd, IobSlew, Hp}
 use Rattle.settings.specs.declared.BlockField.{BlockField}
-use Rattle.settings.specs.declared.BlockField.the-variants.{Enable, ExportEnable, PullupDisable, ReadProtA, ReadProtB, WriteProt}
+use Rattle.settings.specs.declared.BlockField.the-variants.{Enable, ExportEnable, PullupDisable, ReadProtA}
+use Rattle.settings.specs.declared.BlockField.the-variants.{ReadProtB, WriteProt}
 use Rattle.settings.specs.declared.GlobalField.{GlobalField}
 use Rattle.settings.specs.declared.GlobalField.the-variants.{FsrInv, FclkInv, FoeInv, FclkMux, FoeMux, Usercode}
 use Rattle.settings.specs.declared.Setting.{Setting}

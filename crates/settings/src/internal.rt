@@ -1,12 +1,15 @@
 // What the operations on settings and the crates above need, and no caller: the tests and steps behind them.
-// A function here may require that the device is known or has the setting; nothing here is part of the public interface.
+// A function here may require that the device is known or has the setting; nothing here is part of the public
+// interface.
 ghost use mathlib.Core.Path.{_≡_};
 ghost use mathlib.Core.Bool.{true};
 ghost use Prim.Native.Nat.{_<_, _≤_};
 ghost use Rattle.part.specs.Device.{known};
 ghost use Rattle.settings.specs.Settings.{hasSetting};
-ghost use Rattle.settings.specs.Fields.{foes, listed, polarityIndex, macrocellIndex, blockIndex, globalFields, globalIndex};
-ghost use Rattle.settings.specs.Order.{start, countOf, numberOf, polarityAt, macrocellFieldAt, blockFieldAt, globalFieldAt, inGroup, settingOf};
+ghost use Rattle.settings.specs.Fields.{foes, listed, polarityIndex, macrocellIndex, blockIndex, globalFields};
+ghost use Rattle.settings.specs.Fields.{globalIndex};
+ghost use Rattle.settings.specs.Order.{start, countOf, numberOf, polarityAt, macrocellFieldAt, blockFieldAt};
+ghost use Rattle.settings.specs.Order.{globalFieldAt, inGroup, settingOf};
 ghost use Rattle.settings.specs.Order.Group.{literals, wireAnds, macrocellSettings, blockSettings, globals};
 ghost use Rattle.settings.specs.declared.GlobalField.the-variants.{Usercode};
 ghost use Rattle.settings.specs.declared.Setting.the-variants.{Literal, Global};

@@ -59,7 +59,8 @@ pub enum GlobalField {
     Usercode,
 }
 
-// A setting: its group, its indices and, where the group has fields, its field. Any numbers; `has_setting` tells which exist.
+// A setting: its group, its indices and, where the group has fields, its field. Any numbers;
+// `has_setting` tells which exist.
 pub enum Setting {
     Literal {
         block: u32,

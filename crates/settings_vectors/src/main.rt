@@ -1,5 +1,5 @@
-// Prints what `settings`, `setting_places` and `setting_values` answer: document 01's cases, and digests over all settings and fuses.
-// The file stdout beside src/ is what the independent program prints.
+// Prints what `settings`, `setting_places` and `setting_values` answer: document 01's cases, and digests over all
+// settings and fuses. The file stdout beside src/ is what the independent program prints.
 ghost use Prim.Native.Nat.{_≤_};
 use part::Device;
 use part::NumberAnswer;
@@ -68,9 +68,9 @@ fn value_word(answer: ValueAnswer) -> u64 {
     }
 }
 
-// A value as a number: 1000 and a flag, 2000 and the place of its printed name in a list of all, 3000 and USERCODE's number,
-// 2^33 and a pattern without a name. The list: NONE SUM EXPORT SPECIAL UP DOWN GND OE_MUX VCC COMB FF PT FOE0 FOE1 FOE2 FOE3
-// FCLK0 FCLK1 FCLK2 DFF TFF FSR SLOW FAST GCLK[0] GCLK[1] GCLK[2] GOE[0] GOE[1] GOE[2] GOE[3].
+// A value as a number: 1000 and a flag, 2000 and the place of its printed name in a list of all, 3000 and USERCODE's
+// number, 2^33 and a pattern without a name. The list: NONE SUM EXPORT SPECIAL UP DOWN GND OE_MUX VCC COMB FF PT FOE0
+// FOE1 FOE2 FOE3 FCLK0 FCLK1 FCLK2 DFF TFF FSR SLOW FAST GCLK[0] GCLK[1] GCLK[2] GOE[0] GOE[1] GOE[2] GOE[3].
 fn number_of_value(v: Value) -> u64 {
     match v {
         Value::Flag(x) => flag(x),
@@ -259,7 +259,8 @@ fn polarity_number(polarity: Polarity) -> u64 {
     }
 }
 
-// A setting as six numbers: group, block, macrocell, term or source block, input, and polarity or field; 0 where it has none.
+// A setting as six numbers: group, block, macrocell, term or source block, input, and polarity
+// or field; 0 where it has none.
 fn described(
     digest: u64,
     group: u64,
@@ -473,8 +474,8 @@ fn unnamed(d: Device, count: u32) -> u32 {
     unnamed
 }
 
-// The part whose settings have every field and every value, with two blocks: the fields of its last macrocell, of its two
-// blocks and of the whole part are its settings from this number up to that.
+// The part whose settings have every field and every value, with two blocks: the fields of its last macrocell, of its
+// two blocks and of the whole part are its settings from this number up to that.
 const SAMPLE: Device = Device {
     blocks: 2,
     class: 1,

@@ -25,7 +25,9 @@ use lib.Dec.{eqb, ltb}
 use borrow.Author.Tests.{eqb-true, eq-eqb, ltb-true, lt-ltb}
 use Rattle.part.proofs.Facts.{and-iff}
 use Rattle.part.proofs.Tables.{allBelow, below-all}
-use Rattle.values.specs.Values.{bits2, named, flags, termAllocs, importAllocs, exportDirs, iobOeMuxes, outMuxes, oeMuxes, clkMuxes, regModes, rstSetMuxes, uimOeMuxes, iobSlews, fclkMuxes, smallFoeMuxes, largeFoeMuxes, bitsIn, valueIn, unassigned, gclk, goe}
+use Rattle.values.specs.Values.{bits2, named, flags, termAllocs, importAllocs, exportDirs, iobOeMuxes, outMuxes, oeMuxes, clkMuxes}
+use Rattle.values.specs.Values.{regModes, rstSetMuxes, uimOeMuxes, iobSlews, fclkMuxes, smallFoeMuxes, largeFoeMuxes, bitsIn, valueIn}
+use Rattle.values.specs.Values.{unassigned, gclk, goe}
 use Rattle.values.specs.Patterns.{caseOf, inCase, same, candidate, patternIn}
 use Rattle.values.specs.declared.TermAlloc.the-variants as termAlloc
 use Rattle.values.specs.declared.ImportAlloc.the-variants as importAlloc
@@ -119,7 +121,8 @@ same-iff v w = (to, from)
     to : same v w ≡ true → v ≡ w
     to h =
         let both = and-iff (eqb (caseOf v) (caseOf w)) (eqb (inCase v) (inCase w)) .0 h in
-        sym (determined v) ∙ ap₂ valueOf (eqb-true (caseOf v) (caseOf w) (both .0)) (eqb-true (inCase v) (inCase w) (both .1)) ∙ determined w
+        sym (determined v)
+        ∙ ap₂ valueOf (eqb-true (caseOf v) (caseOf w) (both .0)) (eqb-true (inCase v) (inCase w) (both .1)) ∙ determined w
 
     from : v ≡ w → same v w ≡ true
     from e = and-iff (eqb (caseOf v) (caseOf w)) (eqb (inCase v) (inCase w)) .1 (eq-eqb _ _ (ap caseOf e), eq-eqb _ _ (ap inCase e))
@@ -232,7 +235,8 @@ complement p q r c k e l w h =
     let few : q < 2 * k = lt-of-mul-lt-mul-right c (omega arith) in
     let m = 2 * k - 1 - q in
     let whole : m + q + 1 ≡ 2 * k = omega arith in
-    let split : m * c + q * c + c ≡ 2 ^ 32 = sym (rw (add-mul (m + q) 1 c, add-mul m q c) (omega arith)) ∙ ap (λ (x : ℕ). x * c) whole ∙ w in
+    let split : m * c + q * c + c ≡ 2 ^ 32 =
+    sym (rw (add-mul (m + q) 1 c, add-mul m q c) (omega arith)) ∙ ap (λ (x : ℕ). x * c) whole ∙ w in
     let parts : 2 ^ 32 - 1 - p ≡ m * c + (c - 1 - r) = omega arith in
     rw (parts, digits-div m (rest c r l)) (omega arith)
   where
@@ -242,7 +246,8 @@ complement p q r c k e l w h =
 pub usercode-bits : (p b : ℕ) → p < 2 ^ 32 → b < 32 → (2 ^ 32 - 1 - p) / 2 ^ b % 2 ≡ 1 - p / 2 ^ b % 2
 usercode-bits p b h l =
     let sum : 1 + (31 - b) + b ≡ 32 = omega arith in
-    complement p (p / 2 ^ b) (p % 2 ^ b) (2 ^ b) (2 ^ (31 - b)) (div-add-mod' p (2 ^ b)) (mod-lt p (pow-pos b)) (sym (rw (pow-add 2 (1 + (31 - b)) b, pow-add 2 1 (31 - b)) refl) ∙ ap (λ (k : ℕ). 2 ^ k) sum) h
+    complement p (p / 2 ^ b) (p % 2 ^ b) (2 ^ b) (2 ^ (31 - b)) (div-add-mod' p (2 ^ b)) (mod-lt p (pow-pos b))
+    (sym (rw (pow-add 2 (1 + (31 - b)) b, pow-add 2 1 (31 - b)) refl) ∙ ap (λ (k : ℕ). 2 ^ k) sum) h
 
 -- The rule of n lists, of which 10 names the next index and 01 the list's own: by one test of all the lists.
 abbrev pub Rule : (stands : ℕ → ℕ → Value) (name : ℕ → Value) (n : ℕ) → Type 0

@@ -150,8 +150,9 @@ inCase (value.Unassigned x) = x
 unfoldable pub same : Value → Value → Bool
 same v w = eqb (caseOf v) (caseOf w) && eqb (inCase v) (inCase w)
 
--- The only pattern that can stand for v, where `stands` says what each pattern stands for: the complement of USERCODE's number
--- (case 14), the pattern that the list has for GCLK[g] or GOE[g] (cases 12 and 13), the number in the case of any other ..
+-- The only pattern that can stand for v, where `stands` says what each pattern stands for: the complement of
+-- USERCODE's number (case 14), the pattern that the list has for GCLK[g] or GOE[g] (cases 12 and 13), the
+-- number in the case of any other ..
 unfoldable pub candidate : (stands : ℕ → Value) → Value → ℕ
 candidate stands v =
     cond (eqb (caseOf v) 14)

@@ -6,7 +6,10 @@ ghost use mathlib.Core.List.{[], _∷_};
 ghost use Prim.Native.Nat.{_^_, _≤_};
 ghost use lib.Dec.{ltb};
 ghost use Rattle.values.specs.Values.{named, oeMuxes, fclkMuxes, smallFoeMuxes, largeFoeMuxes, bitsIn, valueIn};
-ghost use Rattle.values.specs.Patterns.{caseOf, inCase, flagNumber, termAllocNumber, importAllocNumber, exportDirNumber, iobOeMuxNumber, outMuxNumber, oeMuxNumber, clkMuxNumber, regModeNumber, rstSetMuxNumber, uimOeMuxNumber, iobSlewNumber, fclkMuxNumber, foeMuxNumber, same, candidate, patternIn, foundPattern};
+ghost use Rattle.values.specs.Patterns.{caseOf, inCase, flagNumber, termAllocNumber, importAllocNumber};
+ghost use Rattle.values.specs.Patterns.{exportDirNumber, iobOeMuxNumber, outMuxNumber, oeMuxNumber, clkMuxNumber};
+ghost use Rattle.values.specs.Patterns.{regModeNumber, rstSetMuxNumber, uimOeMuxNumber, iobSlewNumber};
+ghost use Rattle.values.specs.Patterns.{fclkMuxNumber, foeMuxNumber, same, candidate, patternIn, foundPattern};
 use super::ClkMux;
 use super::ExportDir;
 use super::FclkMux;
@@ -101,7 +104,8 @@ fn oe_mux(pattern: u32) -> Value
 
 // A list of FCLK.MUX or FOE.MUX: 11 is NONE, and the names for 10 and 01.
 fn fclk_list(pattern: u32, v2: FclkMux, v1: FclkMux) -> Value
-    ensures { λ r. ⌜ r ≡ named ((3, Value.FclkMux FclkMux.None) ∷ (2, Value.FclkMux v2) ∷ (1, Value.FclkMux v1) ∷ []) pattern ⌝ }
+    ensures { λ r.
+        ⌜ r ≡ named ((3, Value.FclkMux FclkMux.None) ∷ (2, Value.FclkMux v2) ∷ (1, Value.FclkMux v1) ∷ []) pattern ⌝ }
 {
     of_three(
         pattern,
@@ -112,7 +116,8 @@ fn fclk_list(pattern: u32, v2: FclkMux, v1: FclkMux) -> Value
 }
 
 fn foe_list(pattern: u32, v2: FoeMux, v1: FoeMux) -> Value
-    ensures { λ r. ⌜ r ≡ named ((3, Value.FoeMux FoeMux.None) ∷ (2, Value.FoeMux v2) ∷ (1, Value.FoeMux v1) ∷ []) pattern ⌝ }
+    ensures { λ r.
+        ⌜ r ≡ named ((3, Value.FoeMux FoeMux.None) ∷ (2, Value.FoeMux v2) ∷ (1, Value.FoeMux v1) ∷ []) pattern ⌝ }
 {
     of_three(
         pattern,

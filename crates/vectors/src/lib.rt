@@ -1,5 +1,5 @@
-// What the programs that run vectors share: the devices to ask, a digest of many answers in one number, the printing of a line.
-// Nothing here is proved of what is printed: it is compared with what the independent program prints.
+// What the programs that run vectors share: the devices to ask, a digest of many answers in one number, the printing of
+// a line. Nothing here is proved of what is printed: it is compared with what the independent program prints.
 ghost use Prim.Native.Nat.{_≤_};
 use part::Device;
 use part::Sizes;

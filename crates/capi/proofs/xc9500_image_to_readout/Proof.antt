@@ -16,8 +16,10 @@ same-length : tie.Need-same-length
 same-length c = search needs
 
 returns : tie.Need-returns
-returns c =
-    (packed-same noResult (c .done-word .ensures) (c .before .before .before .image-to-readout .ensures .answers), c .before .before .before .image-to-readout .ensures .holds)
+returns c = (
+  packed-same noResult (c .done-word .ensures) (c .before .before .before .image-to-readout .ensures .answers),
+  c .before .before .before .image-to-readout .ensures .holds,
+)
 
 pub xc9500-image-to-readout-spec : {M : Type 1} → statement M
 xc9500-image-to-readout-spec =

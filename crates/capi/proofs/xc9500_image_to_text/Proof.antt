@@ -16,8 +16,10 @@ same-length : tie.Need-same-length
 same-length c = search needs
 
 returns : tie.Need-returns
-returns c =
-    (packed-same itself (c .number-word .ensures) (c .before .before .before .image-to-text .ensures .answers), c .before .before .before .image-to-text .ensures .holds)
+returns c = (
+  packed-same itself (c .number-word .ensures) (c .before .before .before .image-to-text .ensures .answers),
+  c .before .before .before .image-to-text .ensures .holds,
+)
 
 pub xc9500-image-to-text-spec : {M : Type 1} → statement M
 xc9500-image-to-text-spec =

@@ -16,7 +16,10 @@ same-length : tie.Need-same-length
 same-length c = search needs
 
 returns : tie.Need-returns
-returns c = (packed-same noResult (c .done-word .ensures) (c .before .before .before .set-pattern-in-image .ensures .answers), c .before .before .before .set-pattern-in-image .ensures .holds)
+returns c = (
+  packed-same noResult (c .done-word .ensures) (c .before .before .before .set-pattern-in-image .ensures .answers),
+  c .before .before .before .set-pattern-in-image .ensures .holds,
+)
 
 pub xc9500-set-in-image-spec : {M : Type 1} → statement M
 xc9500-set-in-image-spec =

@@ -32,7 +32,8 @@ module _ (d : Device) (f w : ℕ) (a : NamedAnswer) (e : namedOutcome a ≡ sett
   unnamed : a ≡ named.Unnamed → _≡_ {A = ℕ} (2 ^ 56 - 1) (packed (orNone (settingAndBit d)) (settingAtFuse d f))
   unnamed g = rw (← e, g)
 
-  not-asked : (r : Refusal) → a ≡ named.Refused r → w ≡ refusalWord (refusalNumber r) (refusalValue r) → w ≡ packed (orNone (settingAndBit d)) (settingAtFuse d f)
+  not-asked : (r : Refusal) → a ≡ named.Refused r → w ≡ refusalWord (refusalNumber r) (refusalValue r)
+      → w ≡ packed (orNone (settingAndBit d)) (settingAtFuse d f)
   not-asked r g h = rw (← e, g) h
 
 setting-at-fuse-requires : tie.Need-setting-at-fuse-requires
@@ -42,7 +43,9 @@ enum-known-answer : tie.Need-enum-known-answer
 enum-known-answer c = search needs
 
 number-of-requires : tie.Need-number-of-requires
-number-of-requires c κs = there (c .before .before .before .setting-at-fuse .result) _ _ _ _ (c .before .before .before .setting-at-fuse .ensures) (c .before .answer .given .1)
+number-of-requires c κs =
+    there (c .before .before .before .setting-at-fuse .result) _ _ _ _ (c .before .before .before .setting-at-fuse .ensures)
+    (c .before .answer .given .1)
 
 cast-result : tie.Need-cast-result
 cast-result c = search needs

@@ -19,8 +19,8 @@ use Rattle.capi.proofs.xc9500_setting_fuse.Statement.{statement}
 use Rattle.capi.proofs.xc9500_setting_fuse.Tie as tie
 
 module _ (d : Device) (x bit w : ℕ) (a : SettingAnswer) (e : settingOutcome a ≡ settingOfNumber d x) where
-  its-fuse : (s : Setting) (b : BitAnswer) → a ≡ setting.Setting s → bitOutcome b ≡ fuseOfBit d s bit → w ≡ packed (orNone itself) (bitOutcome b)
-      → w ≡ packed (orNone itself) (through (settingOfNumber d x) (λ s. fuseOfBit d s bit))
+  its-fuse : (s : Setting) (b : BitAnswer) → a ≡ setting.Setting s → bitOutcome b ≡ fuseOfBit d s bit
+      → w ≡ packed (orNone itself) (bitOutcome b) → w ≡ packed (orNone itself) (through (settingOfNumber d x) (λ s. fuseOfBit d s bit))
   its-fuse s b f g h = rw (← e, f, ← g) h
 
   no-setting : (r : Refusal) → a ≡ setting.Refused r → w ≡ refusalWord (refusalNumber r) (refusalValue r)
@@ -46,10 +46,15 @@ refusal-word-requires : tie.Need-refusal-word-requires
 refusal-word-requires c κs = search needs
 
 returns : tie.Need-returns
-returns c = its-fuse _ _ (c .before .before .before .before .before .before .args .bit) _ _ (c .before .before .before .before .before .setting-of-number .ensures) _ (c .before .fuse-of-bit .result) (c .before .before .before .answer .given .1) (c .before .fuse-of-bit .ensures) (c .bit-word .ensures)
+returns c =
+    its-fuse _ _ (c .before .before .before .before .before .before .args .bit) _ _
+    (c .before .before .before .before .before .setting-of-number .ensures) _ (c .before .fuse-of-bit .result)
+    (c .before .before .before .answer .given .1) (c .before .fuse-of-bit .ensures) (c .bit-word .ensures)
 
 returns-2 : tie.Need-returns-2
-returns-2 c = no-setting _ _ (c .before .before .before .before .before .args .bit) _ _ (c .before .before .before .before .setting-of-number .ensures) _ (c .before .before .answer2 .given .1) (c .refusal-word .ensures)
+returns-2 c =
+    no-setting _ _ (c .before .before .before .before .before .args .bit) _ _
+    (c .before .before .before .before .setting-of-number .ensures) _ (c .before .before .answer2 .given .1) (c .refusal-word .ensures)
 
 pub xc9500-setting-fuse-spec : {M : Type 1} → statement M
 xc9500-setting-fuse-spec =

@@ -16,8 +16,10 @@ same-length : tie.Need-same-length
 same-length c = search needs
 
 returns : tie.Need-returns
-returns c =
-    (packed-same noResult (c .done-word .ensures) (c .before .before .before .text-to-image .ensures .answers), c .before .before .before .text-to-image .ensures .holds)
+returns c = (
+  packed-same noResult (c .done-word .ensures) (c .before .before .before .text-to-image .ensures .answers),
+  c .before .before .before .text-to-image .ensures .holds,
+)
 
 pub xc9500-text-to-image-spec : {M : Type 1} → statement M
 xc9500-text-to-image-spec =

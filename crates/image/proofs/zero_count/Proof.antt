@@ -63,22 +63,30 @@ fuse-count-requires c κs = search (needs, is-known)
 
 ones-of-requires : tie.Need-ones-of-requires
 ones-of-requires c κs =
-    short _ (c .before .before .before .before .before .before .args .image .now) _ (is-known _ _ (c .before .before .before .before .is-known .ensures) (c .before .before .before .if1 .left)) (c .before .before .image-bytes .ensures) (c .before .if2 .left)
+    short _ (c .before .before .before .before .before .before .args .image .now) _
+    (is-known _ _ (c .before .before .before .before .is-known .ensures) (c .before .before .before .if1 .left))
+    (c .before .before .image-bytes .ensures) (c .before .if2 .left)
 
 cast-ones : tie.Need-cast-ones
 cast-ones c =
-    few _ _ _ (is-known _ _ (c .before .before .before .before .before .is-known .ensures) (c .before .before .before .before .if1 .left)) (c .before .before .before .image-bytes .ensures) (c .before .before .if2 .left) _ (c .ones-of .ensures)
+    few _ _ _ (is-known _ _ (c .before .before .before .before .before .is-known .ensures) (c .before .before .before .before .if1 .left))
+    (c .before .before .before .image-bytes .ensures) (c .before .before .if2 .left) _ (c .ones-of .ensures)
 
 sub-zeros : tie.Need-sub-zeros
 sub-zeros c =
-    within _ _ _ (is-known _ _ (c .before .before .before .before .before .is-known .ensures) (c .before .before .before .before .if1 .left)) (c .before .before .before .image-bytes .ensures) (c .before .before .if2 .left) _ (c .ones-of .ensures) _ (c .before .fuse-count .ensures)
+    within _ _ _ (is-known _ _ (c .before .before .before .before .before .is-known .ensures)
+    (c .before .before .before .before .if1 .left)) (c .before .before .before .image-bytes .ensures) (c .before .before .if2 .left) _
+    (c .ones-of .ensures) _ (c .before .fuse-count .ensures)
 
 returns-3 : tie.Need-returns-3
 unfolding zeroCount
 returns-3 c =
-    ap accepted (zeros _ _ _ (is-known _ _ (c .before .before .before .before .before .is-known .ensures) (c .before .before .before .before .if1 .left)) (c .before .before .before .image-bytes .ensures) (c .before .before .if2 .left) _ (c .ones-of .ensures) _ (c .before .fuse-count .ensures))
+    ap accepted (zeros _ _ _ (is-known _ _ (c .before .before .before .before .before .is-known .ensures)
+    (c .before .before .before .before .if1 .left)) (c .before .before .before .image-bytes .ensures) (c .before .before .if2 .left) _
+    (c .ones-of .ensures) _ (c .before .fuse-count .ensures))
     ∙ sym (the-length _ _ _ _ (c .before .before .before .image-bytes .ensures) (c .before .before .if2 .left))
-    ∙ sym (the-device _ _ (is-known _ _ (c .before .before .before .before .before .is-known .ensures) (c .before .before .before .before .if1 .left)))
+    ∙ sym (the-device _ _
+    (is-known _ _ (c .before .before .before .before .before .is-known .ensures) (c .before .before .before .before .if1 .left)))
 
 pub zero-count-spec : {M : Type 1} → statement M
 zero-count-spec =

@@ -24,23 +24,23 @@ nothing-there [] e = record { is = refl; fits = tt }
 nothing-there (b ∷ bytes) e = absurd (omega arith)
 
 module _ (o : Digits) where
-  a-count : (bytes : List ℕ) (n : ℕ) → (length bytes ≡ 0 → ⊥) → getD bytes 0 0 ≡ 70 → numberRead o ≡ numberIn (take (length bytes - 1) (drop 1 bytes)) → o ≡ Number n
-      → Says bytes (afterQ bytes) (Count n)
+  a-count : (bytes : List ℕ) (n : ℕ) → (length bytes ≡ 0 → ⊥) → getD bytes 0 0 ≡ 70
+      → numberRead o ≡ numberIn (take (length bytes - 1) (drop 1 bytes)) → o ≡ Number n → Says bytes (afterQ bytes) (Count n)
   a-count [] n h e f w = absurd (h refl)
   a-count (b ∷ bytes) n h e f w = record { is = rw (eq-eqb b 70 e, ← rest-whole 1 (b ∷ bytes), ← f, w); fits = tt }
 
-  no-count : (bytes : List ℕ) → (length bytes ≡ 0 → ⊥) → getD bytes 0 0 ≡ 70 → numberRead o ≡ numberIn (take (length bytes - 1) (drop 1 bytes)) → o ≡ Wrong
-      → Says bytes (afterQ bytes) Bad
+  no-count : (bytes : List ℕ) → (length bytes ≡ 0 → ⊥) → getD bytes 0 0 ≡ 70
+      → numberRead o ≡ numberIn (take (length bytes - 1) (drop 1 bytes)) → o ≡ Wrong → Says bytes (afterQ bytes) Bad
   no-count [] h e f w = absurd (h refl)
   no-count (b ∷ bytes) h e f w = record { is = rw (eq-eqb b 70 e, ← rest-whole 1 (b ∷ bytes), ← f, w); fits = tt }
 
-a-skipped : (bytes : List ℕ) → (length bytes ≡ 0 → ⊥) → (getD bytes 0 0 ≡ 70 → ⊥) → (eqb (getD bytes 0 0) 80 || eqb (getD bytes 0 0) 86) ≡ true
-    → Says bytes (afterQ bytes) Skipped
+a-skipped : (bytes : List ℕ) → (length bytes ≡ 0 → ⊥) → (getD bytes 0 0 ≡ 70 → ⊥)
+    → (eqb (getD bytes 0 0) 80 || eqb (getD bytes 0 0) 86) ≡ true → Says bytes (afterQ bytes) Skipped
 a-skipped [] h e f = absurd (h refl)
 a-skipped (b ∷ bytes) h e f = record { is = rw (ne-eqb b 70 e, f); fits = tt }
 
-another : (bytes : List ℕ) → (length bytes ≡ 0 → ⊥) → (getD bytes 0 0 ≡ 70 → ⊥) → (eqb (getD bytes 0 0) 80 || eqb (getD bytes 0 0) 86) ≡ false
-    → Says bytes (afterQ bytes) Bad
+another : (bytes : List ℕ) → (length bytes ≡ 0 → ⊥) → (getD bytes 0 0 ≡ 70 → ⊥)
+    → (eqb (getD bytes 0 0) 80 || eqb (getD bytes 0 0) 86) ≡ false → Says bytes (afterQ bytes) Bad
 another [] h e f = absurd (h refl)
 another (b ∷ bytes) h e f = record { is = rw (ne-eqb b 70 e, f); fits = tt }
 

@@ -24,46 +24,57 @@ nothing-there : (field : List ℕ) → length field ≡ 0 → Says (drop 1 field
 nothing-there [] e = record { is = refl; fits = tt }
 nothing-there (b ∷ field) e = absurd (omega arith)
 
-a-skipped : (field : List ℕ) → (length field ≡ 0 → ⊥) → (eqb (getD field 0 0) 78 || eqb (getD field 0 0) 74 || eqb (getD field 0 0) 88) ≡ true
-    → Says (drop 1 field) (byLetters field) Skipped
+a-skipped : (field : List ℕ) → (length field ≡ 0 → ⊥)
+    → (eqb (getD field 0 0) 78 || eqb (getD field 0 0) 74 || eqb (getD field 0 0) 88) ≡ true → Says (drop 1 field) (byLetters field) Skipped
 a-skipped [] h e = absurd (h refl)
 a-skipped (b ∷ field) h e = record { is = rw e; fits = tt }
 
 -- what is said of the rest of the field is said of the field
-passed : (field : List ℕ) (j : List ℕ → Judged) (k : Judged) (r : FieldSays) → Says (take (length field - 1) (drop 1 field)) (j (take (length field - 1) (drop 1 field))) r
+passed : (field : List ℕ) (j : List ℕ → Judged) (k : Judged) (r : FieldSays)
+    → Says (take (length field - 1) (drop 1 field)) (j (take (length field - 1) (drop 1 field))) r
     → j (drop 1 field) ≡ k → Says (drop 1 field) k r
 passed field j k r s e =
     let t : Says (drop 1 field) (j (drop 1 field)) r = rw (rest-whole 1 field) at s in
     record { is = t .is ∙ e; fits = t .fits }
 
 module _ (r : FieldSays) where
-  a-q : (field : List ℕ) → (length field ≡ 0 → ⊥) → (eqb (getD field 0 0) 78 || eqb (getD field 0 0) 74 || eqb (getD field 0 0) 88) ≡ false → getD field 0 0 ≡ 81
-      → Says (take (length field - 1) (drop 1 field)) (afterQ (take (length field - 1) (drop 1 field))) r → Says (drop 1 field) (byLetters field) r
+  a-q : (field : List ℕ) → (length field ≡ 0 → ⊥)
+      → (eqb (getD field 0 0) 78 || eqb (getD field 0 0) 74 || eqb (getD field 0 0) 88) ≡ false → getD field 0 0 ≡ 81
+      → Says (take (length field - 1) (drop 1 field)) (afterQ (take (length field - 1) (drop 1 field))) r
+      → Says (drop 1 field) (byLetters field) r
   a-q [] h n e s = absurd (h refl)
   a-q (b ∷ field) h n e s = passed (b ∷ field) afterQ _ r s (rw (n, eq-eqb b 81 e))
 
-  module _ (field : List ℕ) (h : length field ≡ 0 → ⊥) (n : (eqb (getD field 0 0) 78 || eqb (getD field 0 0) 74 || eqb (getD field 0 0) 88) ≡ false)
+  module _ (field : List ℕ) (h : length field ≡ 0 → ⊥)
+      (n : (eqb (getD field 0 0) 78 || eqb (getD field 0 0) 74 || eqb (getD field 0 0) 88) ≡ false)
       (nq : getD field 0 0 ≡ 81 → ⊥) where
-    an-f : getD field 0 0 ≡ 70 → Says (take (length field - 1) (drop 1 field)) (startIn (take (length field - 1) (drop 1 field))) r → Says (drop 1 field) (byLetters field) r
+    an-f : getD field 0 0 ≡ 70 → Says (take (length field - 1) (drop 1 field)) (startIn (take (length field - 1) (drop 1 field))) r
+        → Says (drop 1 field) (byLetters field) r
     an-f e s = passed field startIn (byLetters field) r s (go field h n nq e)
       where
-        go : (field : List ℕ) → (length field ≡ 0 → ⊥) → (eqb (getD field 0 0) 78 || eqb (getD field 0 0) 74 || eqb (getD field 0 0) 88) ≡ false
+        go : (field : List ℕ) → (length field ≡ 0 → ⊥)
+            → (eqb (getD field 0 0) 78 || eqb (getD field 0 0) 74 || eqb (getD field 0 0) 88) ≡ false
             → (getD field 0 0 ≡ 81 → ⊥) → getD field 0 0 ≡ 70 → startIn (drop 1 field) ≡ byLetters field
         go [] h n nq e = absurd (h refl)
         go (b ∷ field) h n nq e = rw (n, ne-eqb b 81 nq, eq-eqb b 70 e)
 
     module _ (nf : getD field 0 0 ≡ 70 → ⊥) (nl : startsWith 76 field ≡ false) where
-      a-c : getD field 0 0 ≡ 67 → Says (take (length field - 1) (drop 1 field)) (orBad (sumIn (take (length field - 1) (drop 1 field))) sum) r
+      a-c : getD field 0 0 ≡ 67
+          → Says (take (length field - 1) (drop 1 field)) (orBad (sumIn (take (length field - 1) (drop 1 field))) sum) r
           → Says (drop 1 field) (byLetters field) r
       a-c e s = passed field (λ bytes. orBad (sumIn bytes) sum) (byLetters field) r s (go field h n nq nf nl e)
         where
-          go : (field : List ℕ) → (length field ≡ 0 → ⊥) → (eqb (getD field 0 0) 78 || eqb (getD field 0 0) 74 || eqb (getD field 0 0) 88) ≡ false
-              → (getD field 0 0 ≡ 81 → ⊥) → (getD field 0 0 ≡ 70 → ⊥) → startsWith 76 field ≡ false → getD field 0 0 ≡ 67 → orBad (sumIn (drop 1 field)) sum ≡ byLetters field
+          go : (field : List ℕ) → (length field ≡ 0 → ⊥)
+              → (eqb (getD field 0 0) 78 || eqb (getD field 0 0) 74 || eqb (getD field 0 0) 88) ≡ false
+              → (getD field 0 0 ≡ 81 → ⊥) → (getD field 0 0 ≡ 70 → ⊥) → startsWith 76 field ≡ false → getD field 0 0 ≡ 67
+              → orBad (sumIn (drop 1 field)) sum ≡ byLetters field
           go [] h n nq nf nl e = absurd (h refl)
           go (b ∷ field) h n nq nf nl e = rw (n, ne-eqb b 81 nq, ne-eqb b 70 nf, nl, eq-eqb b 67 e)
 
-another : (field : List ℕ) → (length field ≡ 0 → ⊥) → (eqb (getD field 0 0) 78 || eqb (getD field 0 0) 74 || eqb (getD field 0 0) 88) ≡ false
-    → (getD field 0 0 ≡ 81 → ⊥) → (getD field 0 0 ≡ 70 → ⊥) → startsWith 76 field ≡ false → (getD field 0 0 ≡ 67 → ⊥) → Says (drop 1 field) (byLetters field) Bad
+another : (field : List ℕ) → (length field ≡ 0 → ⊥)
+    → (eqb (getD field 0 0) 78 || eqb (getD field 0 0) 74 || eqb (getD field 0 0) 88) ≡ false
+    → (getD field 0 0 ≡ 81 → ⊥) → (getD field 0 0 ≡ 70 → ⊥) → startsWith 76 field ≡ false → (getD field 0 0 ≡ 67 → ⊥)
+    → Says (drop 1 field) (byLetters field) Bad
 another [] h n nq nf nl nc = absurd (h refl)
 another (b ∷ field) h n nq nf nl nc = record { is = rw (n, ne-eqb b 81 nq, ne-eqb b 70 nf, nl, ne-eqb b 67 nc); fits = tt }
 

@@ -16,7 +16,8 @@ nested : (b x y z : ℕ) → x ≡ cond (leb 97 b && leb b 102) (b - 97 + 10) 16
     → z ≡ cond (leb 48 b && leb b 57) (b - 48 + 0) y → z ≡ valueOr 16 (hexValue b)
 nested b x y z e f g =
     let lower : x ≡ valueOr 16 (between 97 102 10 b none) = e ∙ value-between 97 102 10 b none in
-    let upper : y ≡ valueOr 16 (between 65 70 10 b (between 97 102 10 b none)) = f ∙ rw lower (value-between 65 70 10 b (between 97 102 10 b none)) in
+    let upper : y ≡ valueOr 16 (between 65 70 10 b (between 97 102 10 b none)) =
+    f ∙ rw lower (value-between 65 70 10 b (between 97 102 10 b none)) in
     g ∙ rw upper (value-between 48 57 0 b (between 65 70 10 b (between 97 102 10 b none)))
 
 value-between-requires : tie.Need-value-between-requires

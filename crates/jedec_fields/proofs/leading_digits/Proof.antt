@@ -1,7 +1,8 @@
 -- `leading_digits` meets its contract: the number that the digits so far write.
 -- Assumes nothing.
 use Prim.Native.Nat.{_-_}
-use Rattle.jedec_fields.proofs.Runs.{Leads, leads-start, leads-there, leads-falls, leads-room, leads-sum, leads-on, leads-stop, leads-end}
+use Rattle.jedec_fields.proofs.Runs.{Leads, leads-start, leads-there, leads-falls, leads-room, leads-sum, leads-on, leads-stop}
+use Rattle.jedec_fields.proofs.Runs.{leads-end}
 use borrow.Author.Needs.{needs}
 use Rattle.jedec_fields.proofs.leading_digits.Statement.{statement}
 use Rattle.jedec_fields.proofs.leading_digits.Tie as tie

@@ -47,4 +47,6 @@ returns-2 : tie.Need-returns-2 Inv-loop μ-loop
 returns-2 c = search (needs, counts-end)
 
 pub states-run-spec : {M : Type 1} → statement M
-states-run-spec = tie.close (tie.spec Inv-loop μ-loop loop-holds states-at-requires add-blank-at blank-at-requires add-taken returns add-n add-i loop-less loop-again returns-2)
+states-run-spec =
+    tie.close (tie.spec Inv-loop μ-loop loop-holds states-at-requires add-blank-at blank-at-requires add-taken returns add-n add-i
+    loop-less loop-again returns-2)

@@ -13,7 +13,8 @@ use Rattle.jedec_fields.proofs.value_between.Tie as tie
 low-first : (b low high : ℕ) → (leb low b && leb b high) ≡ true → low ≤ b
 low-first b low high h = leb-true low b (and-iff (leb low b) (leb b high) .0 h .0)
 
-inside : (b low high base other : ℕ) → (leb low b && leb b high) ≡ true → b - low + base ≡ cond (leb low b && leb b high) (b - low + base) other
+inside : (b low high base other : ℕ) → (leb low b && leb b high) ≡ true
+    → b - low + base ≡ cond (leb low b && leb b high) (b - low + base) other
 inside b low high base other h = rw h
 
 outside : (b low high base other : ℕ) → (leb low b && leb b high) ≡ false → other ≡ cond (leb low b && leb b high) (b - low + base) other

@@ -27,10 +27,12 @@ module _ (d : Device) (text before : List ℕ) where
   unknown h = says _ (refused 1 0) (imageIn d text) before (no-device d _ h)
 
   module _ (x : ℕ) (e : x ≡ imageBytes d) where
-    wrong-length : known d ≡ true → (length before ≡ x → ⊥) → Written (toImageFromText d text before) (refused 2 0) (imageIn d text) before before
+    wrong-length : known d ≡ true → (length before ≡ x → ⊥)
+        → Written (toImageFromText d text before) (refused 2 0) (imageIn d text) before before
     unfolding toImageFromText
     wrong-length k h =
-        says _ (refused 2 0) (imageIn d text) before (other-length (length before) (imageBytes d) (verdict (meaning (fuseCount d) text)) x e h ∙ sym (the-device d _ k))
+        says _ (refused 2 0) (imageIn d text) before
+        (other-length (length before) (imageBytes d) (verdict (meaning (fuseCount d) text)) x e h ∙ sym (the-device d _ k))
 
     a-text : (fuses : ℕ) (answer : Outcome (Unit {0})) (after : List ℕ) → known d ≡ true → length before ≡ x → fuses ≡ fuseCount d
         → ReadInto (meaning fuses text) answer before after → Written (toImageFromText d text before) answer (imageIn d text) before after
@@ -38,7 +40,8 @@ module _ (d : Device) (text before : List ℕ) where
     a-text fuses answer after k h f r =
         let read : ReadInto (meaning (fuseCount d) text) answer before after = rw f at r in
         let same : answer ≡ toImageFromText d text before =
-        read .answers ∙ sym (the-length (length before) (imageBytes d) (verdict (meaning (fuseCount d) text)) x e h) ∙ sym (the-device d _ k) in
+        read .answers ∙ sym (the-length (length before) (imageBytes d) (verdict (meaning (fuseCount d) text)) x e h)
+        ∙ sym (the-device d _ k) in
         record { answers = same; holds = read .holds ∙ ap (λ (o : Outcome (Unit {0})). written o (imageIn d text) before) same }
 
 -- the room that the image is made in
@@ -57,7 +60,8 @@ module _ (d : Device) (x : ℕ) (e : x ≡ imageBytes d) where
   unfolding imageBytes
   image-size before fuses h f = rw f (h ∙ e)
 
-  room-size : (made : List ℕ) (fuses : ℕ) → known d ≡ true → length made ≡ 36288 → fuses ≡ fuseCount d → length (take x made) ≡ (fuses + 7) / 8
+  room-size : (made : List ℕ) (fuses : ℕ) → known d ≡ true → length made ≡ 36288 → fuses ≡ fuseCount d
+      → length (take x made) ≡ (fuses + 7) / 8
   unfolding imageBytes
   room-size made fuses k l f = rw f (sym (so-long made k l) ∙ e)
 

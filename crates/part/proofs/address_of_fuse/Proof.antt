@@ -36,7 +36,8 @@ its-byte : (d : Device) (fuse : ℕ) (p : Place) → p ≡ placeOfFuse d fuse �
 unfolding hasPlace
 its-byte d fuse p e h = rw e (and-iff _ _ .0 (at-fuse d fuse h .0) .0)
 
-module _ (d : Device) (fuse block rest : ℕ) (e : block ≡ fuse / blockFuses d) (g : rest ≡ fuse % blockFuses d) (p : Place) (h : fuse < fuseCount d) where
+module _ (d : Device) (fuse block rest : ℕ) (e : block ≡ fuse / blockFuses d) (g : rest ≡ fuse % blockFuses d) (p : Place)
+    (h : fuse < fuseCount d) where
   main-byte : p ≡ placeInMain block rest → rest < mainFuses → hasByte d (p .byte) ≡ true
   main-byte m l = its-byte d fuse p (place-in-main d fuse block rest e g p m l) h
 

@@ -34,24 +34,29 @@ module _ (d : Device) (image before : List ℕ) where
   module _ (k : known d ≡ true) (x : ℕ) (ex : x ≡ imageBytes d) where
     first-length : (length image ≡ x → ⊥) → At (refused 2 0) before
     unfolding toReadout
-    first-length = wrong-first d (length image) (imageBytes d) (length before) (readoutBytes d) (accepted tt) (readoutOf d image) before k x ex
+    first-length =
+        wrong-first d (length image) (imageBytes d) (length before) (readoutBytes d) (accepted tt) (readoutOf d image) before k x ex
 
     module _ (hx : length image ≡ x) (y : ℕ) (ey : y ≡ readoutBytes d) where
       second-length : (length before ≡ y → ⊥) → At (refused 2 0) before
       unfolding toReadout
-      second-length = wrong-second d (length image) (imageBytes d) (length before) (readoutBytes d) (accepted tt) (readoutOf d image) before k x ex hx y ey
+      second-length =
+          wrong-second d (length image) (imageBytes d) (length before) (readoutBytes d) (accepted tt)
+          (readoutOf d image) before k x ex hx y ey
 
-      passed : length before ≡ y → (answer : Outcome (Unit {0})) → answer ≡ (accepted tt) → (after : List ℕ) → after ≡ written answer (readoutOf d image) before
-          → At answer after
+      passed : length before ≡ y → (answer : Outcome (Unit {0})) → answer ≡ (accepted tt) → (after : List ℕ)
+          → after ≡ written answer (readoutOf d image) before → At answer after
       unfolding toReadout
-      passed = right d (length image) (imageBytes d) (length before) (readoutBytes d) (accepted tt) (readoutOf d image) before k x ex hx y ey
+      passed =
+          right d (length image) (imageBytes d) (length before) (readoutBytes d) (accepted tt) (readoutOf d image) before k x ex hx y ey
 
 whole : (d : Device) (image before after : List ℕ) → known d ≡ true → length image ≡ imageBytes d → length before ≡ readoutBytes d
     → after ≡ sets before 0 (cut (widths d) (number image / 2 ^ (0 * 8))) → after ≡ readoutOf d image
 whole d image before after k ei er e =
     e ∙ rw (div-one (number image), readout-cut d image k ei) (sets-whole before (readoutOf d image) (er ∙ sym (readout-length d image)))
 
-all-passed : (d : Device) (image before after : List ℕ) (x y : ℕ) → known d ≡ true → x ≡ imageBytes d → length image ≡ x → y ≡ readoutBytes d → length before ≡ y
+all-passed : (d : Device) (image before after : List ℕ) (x y : ℕ) → known d ≡ true → x ≡ imageBytes d → length image ≡ x
+    → y ≡ readoutBytes d → length before ≡ y
     → after ≡ sets before 0 (cut (widths d) (number image / 2 ^ (0 * 8))) → At d image before (accepted tt) after
 all-passed d image before after x y k ex hx ey hy f =
     passed d image before k x ex hx y ey hy (accepted tt) refl after (whole d image before after k (hx ∙ ex) (hy ∙ ey) f)

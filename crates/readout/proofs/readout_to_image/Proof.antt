@@ -29,7 +29,8 @@ abbrev afterScan : Device → List ℕ → Outcome (Unit {0})
 afterScan d readout = cond (ltb (firstStray d readout) (readoutBytes d)) (refused 6 (firstStray d readout)) (accepted tt)
 
 -- what the scan found, and what the definition says of it
-module _ (d : Device) (readout : List ℕ) (stray : ℕ) (k : known d ≡ true) (l : length readout ≡ readoutBytes d) (e : stray ≡ 0 + fine (widths d) (drop 0 readout)) where
+module _ (d : Device) (readout : List ℕ) (stray : ℕ) (k : known d ≡ true) (l : length readout ≡ readoutBytes d)
+    (e : stray ≡ 0 + fine (widths d) (drop 0 readout)) where
   the-stray : stray ≡ firstStray d readout
   the-stray = e ∙ zero-add _ ∙ sym (first-stray d readout k)
 
@@ -51,32 +52,42 @@ module _ (d : Device) (readout before : List ℕ) where
   module _ (k : known d ≡ true) (x : ℕ) (ex : x ≡ readoutBytes d) where
     first-length : (length readout ≡ x → ⊥) → At (refused 2 0) before
     unfolding toImage
-    first-length = wrong-first d (length readout) (readoutBytes d) (length before) (imageBytes d) (afterScan d readout) (imageOf d readout) before k x ex
+    first-length =
+        wrong-first d (length readout) (readoutBytes d) (length before) (imageBytes d) (afterScan d readout)
+        (imageOf d readout) before k x ex
 
     module _ (hx : length readout ≡ x) (y : ℕ) (ey : y ≡ imageBytes d) where
       second-length : (length before ≡ y → ⊥) → At (refused 2 0) before
       unfolding toImage
-      second-length = wrong-second d (length readout) (readoutBytes d) (length before) (imageBytes d) (afterScan d readout) (imageOf d readout) before k x ex hx y ey
+      second-length =
+          wrong-second d (length readout) (readoutBytes d) (length before) (imageBytes d) (afterScan d readout)
+          (imageOf d readout) before k x ex hx y ey
 
-      passed : length before ≡ y → (answer : Outcome (Unit {0})) → answer ≡ (afterScan d readout) → (after : List ℕ) → after ≡ written answer (imageOf d readout) before
-          → At answer after
+      passed : length before ≡ y → (answer : Outcome (Unit {0})) → answer ≡ (afterScan d readout) → (after : List ℕ)
+          → after ≡ written answer (imageOf d readout) before → At answer after
       unfolding toImage
-      passed = right d (length readout) (readoutBytes d) (length before) (imageBytes d) (afterScan d readout) (imageOf d readout) before k x ex hx y ey
+      passed =
+          right d (length readout) (readoutBytes d) (length before) (imageBytes d) (afterScan d readout)
+          (imageOf d readout) before k x ex hx y ey
 
 whole : (d : Device) (readout before after : List ℕ) → known d ≡ true → length before ≡ imageBytes d
     → after ≡ sets before 0 (bytesIn (widths d) (drop 0 readout)) → after ≡ imageOf d readout
 whole d readout before after k e f =
     f ∙ rw (image-bytes-in d readout k) (sets-whole before (imageOf d readout) (e ∙ sym (image-length d readout)))
 
-a-stray-refused : (d : Device) (readout before : List ℕ) (x y stray : ℕ) → known d ≡ true → x ≡ readoutBytes d → length readout ≡ x → y ≡ imageBytes d → length before ≡ y
+a-stray-refused : (d : Device) (readout before : List ℕ) (x y stray : ℕ) → known d ≡ true → x ≡ readoutBytes d → length readout ≡ x
+    → y ≡ imageBytes d → length before ≡ y
     → stray ≡ 0 + fine (widths d) (drop 0 readout) → stray < length readout → At d readout before (refused 6 stray) before
 a-stray-refused d readout before x y stray k ex hx ey hy e h =
     passed d readout before k x ex hx y ey hy (refused 6 stray) (a-stray d readout stray k (hx ∙ ex) e h) before refl
 
-all-passed : (d : Device) (readout before after : List ℕ) (x y stray : ℕ) → known d ≡ true → x ≡ readoutBytes d → length readout ≡ x → y ≡ imageBytes d → length before ≡ y
-    → stray ≡ 0 + fine (widths d) (drop 0 readout) → length readout ≤ stray → after ≡ sets before 0 (bytesIn (widths d) (drop 0 readout)) → At d readout before (accepted tt) after
+all-passed : (d : Device) (readout before after : List ℕ) (x y stray : ℕ) → known d ≡ true → x ≡ readoutBytes d → length readout ≡ x
+    → y ≡ imageBytes d → length before ≡ y
+    → stray ≡ 0 + fine (widths d) (drop 0 readout) → length readout ≤ stray → after ≡ sets before 0 (bytesIn (widths d) (drop 0 readout))
+    → At d readout before (accepted tt) after
 all-passed d readout before after x y stray k ex hx ey hy e h f =
-    passed d readout before k x ex hx y ey hy (accepted tt) (no-stray d readout stray k (hx ∙ ex) e h) after (whole d readout before after k (hy ∙ ey) f)
+    passed d readout before k x ex hx y ey hy (accepted tt) (no-stray d readout stray k (hx ∙ ex) e h) after
+    (whole d readout before after k (hy ∙ ey) f)
 
 is-known-requires : tie.Need-is-known-requires
 is-known-requires c κs = search needs

@@ -46,7 +46,8 @@ returns c =
     let third = c .before .before .before .before .before .before .before in
     let second = third .before .before .before .before .before in
     let first = second .before .before .before .before .before .before in
-    four-lines _ _ _ _ _ _ _ _ _ _ _ _ _ _ _ (first .put-line .ensures .0) (first .before .before .blocks-of .ensures) (second .put-line2 .ensures .0)
+    four-lines _ _ _ _ _ _ _ _ _ _ _ _ _ _ _ (first .put-line .ensures .0) (first .before .before .blocks-of .ensures)
+    (second .put-line2 .ensures .0)
     (second .before .before .fuse-count .ensures) (third .put-line3 .ensures .0) (first .before .before .before .before .zeros-in .ensures)
     (c .before .before .put-sum .ensures) (c .before .before .before .before .sum-of .ensures)
 

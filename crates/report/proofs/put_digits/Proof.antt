@@ -11,7 +11,9 @@ use Rattle.report.proofs.put_digits.Statement.{statement}
 use Rattle.report.proofs.put_digits.Tie as tie
 
 abbrev Inv-loop : tie.InvT-loop
-Inv-loop x count out₀ at rest₀ i₀ out rest i = (i ≤ count) × (length out ≡ length out₀) × (sets out at (digitsOf 10 decimalDigit i rest) ≡ sets out₀ at (digitsOf 10 decimalDigit count x))
+Inv-loop x count out₀ at rest₀ i₀ out rest i =
+    (i ≤ count) × (length out ≡ length out₀)
+    × (sets out at (digitsOf 10 decimalDigit i rest) ≡ sets out₀ at (digitsOf 10 decimalDigit count x))
 
 abbrev μ-loop : tie.MeasureT-loop
 μ-loop x count out₀ at rest₀ i₀ out rest i = i

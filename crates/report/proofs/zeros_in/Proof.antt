@@ -18,7 +18,8 @@ use borrow.Author.Needs.{needs}
 use Rattle.report.proofs.zeros_in.Statement.{statement}
 use Rattle.report.proofs.zeros_in.Tie as tie
 
-module _ (d : Device) (image : List ℕ) (k : known d ≡ true) (l : length image ≡ imageBytes d) (a : NumberAnswer) (e : numberOutcome a ≡ zeroCount d image) where
+module _ (d : Device) (image : List ℕ) (k : known d ≡ true) (l : length image ≡ imageBytes d) (a : NumberAnswer)
+    (e : numberOutcome a ≡ zeroCount d image) where
   counted : numberOutcome a ≡ accepted (zerosBelow image (fuseCount d))
   unfolding zeroCount
   counted = e ∙ the-device d _ k ∙ the-length (length image) (imageBytes d) _ (imageBytes d) refl l

@@ -58,7 +58,11 @@ returns-3 : tie.Need-returns-3
 returns-3 c = search (needs, is-known, has, no-bit)
 
 fuse-of-requires : tie.Need-fuse-of-requires
-fuse-of-requires c κs = (is-known _ _ (c .before .before .before .before .before .is-known .ensures) (c .before .before .before .before .if1 .left), has _ _ _ (c .before .before .before .has-setting .ensures) (c .before .before .if2 .left), below _ _ _ (c .before .bits-of .ensures) (c .if3 .left))
+fuse-of-requires c κs = (
+  is-known _ _ (c .before .before .before .before .before .is-known .ensures) (c .before .before .before .before .if1 .left),
+  has _ _ _ (c .before .before .before .has-setting .ensures) (c .before .before .if2 .left),
+  below _ _ _ (c .before .bits-of .ensures) (c .if3 .left),
+)
 
 returns-4 : tie.Need-returns-4
 returns-4 c = search (needs, is-known, has, the-fuse)

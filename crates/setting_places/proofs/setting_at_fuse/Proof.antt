@@ -42,7 +42,8 @@ inside : (c : Candidate) (width : ℕ) → width ≡ bitsOf (c .setting) → c .
 inside c width e l = omega arith
 
 -- what the code has found at each return, and the definition's answer
-module _ (d : Device) (f : ℕ) (p : Place) (c : Candidate) (k : known d ≡ true) (h : f < fuseCount d) (e : p ≡ placeOfFuse d f) (g : c ≡ candidateAt p) where
+module _ (d : Device) (f : ℕ) (p : Place) (c : Candidate) (k : known d ≡ true) (h : f < fuseCount d) (e : p ≡ placeOfFuse d f)
+    (g : c ≡ candidateAt p) where
   not-there : hasSetting d (c .setting) ≡ false → accepted none ≡ settingAtFuse d f
   unfolding settingAtFuse settingAt
   not-there n = rw (k, lt-ltb f (fuseCount d) h, ← e, ← g, n)
@@ -55,12 +56,29 @@ module _ (d : Device) (f : ℕ) (p : Place) (c : Candidate) (k : known d ≡ tru
     another : (found : ℕ) → c .bit < width → found ≡ fuseOf d (c .setting) (c .bit) → (found ≡ f → ⊥) → accepted none ≡ settingAtFuse d f
     unfolding settingAtFuse settingAt
     another found l w n =
-        rw (k, lt-ltb f (fuseCount d) h, ← e, ← g, s, lt-ltb (c .bit) (bitsOf (c .setting)) (omega arith), ne-eqb (fuseOf d (c .setting) (c .bit)) f (λ same. n (w ∙ same)))
+        rw (
+          k,
+          lt-ltb f (fuseCount d) h,
+          ← e,
+          ← g,
+          s,
+          lt-ltb (c .bit) (bitsOf (c .setting)) (omega arith),
+          ne-eqb (fuseOf d (c .setting) (c .bit)) f (λ same. n (w ∙ same)),
+        )
 
-    listed : (found : ℕ) → c .bit < width → found ≡ fuseOf d (c .setting) (c .bit) → found ≡ f → accepted (some (c .setting, c .bit)) ≡ settingAtFuse d f
+    listed : (found : ℕ) → c .bit < width → found ≡ fuseOf d (c .setting) (c .bit) → found ≡ f
+        → accepted (some (c .setting, c .bit)) ≡ settingAtFuse d f
     unfolding settingAtFuse settingAt
     listed found l w same =
-        rw (k, lt-ltb f (fuseCount d) h, ← e, ← g, s, lt-ltb (c .bit) (bitsOf (c .setting)) (omega arith), eq-eqb (fuseOf d (c .setting) (c .bit)) f (sym w ∙ same))
+        rw (
+          k,
+          lt-ltb f (fuseCount d) h,
+          ← e,
+          ← g,
+          s,
+          lt-ltb (c .bit) (bitsOf (c .setting)) (omega arith),
+          eq-eqb (fuseOf d (c .setting) (c .bit)) f (sym w ∙ same),
+        )
 
 is-known-requires : tie.Need-is-known-requires
 is-known-requires c κs = search needs
@@ -93,7 +111,12 @@ returns-4 : tie.Need-returns-4
 returns-4 c = search (needs, is-known, has, below, not-its-bit)
 
 fuse-of-requires : tie.Need-fuse-of-requires
-fuse-of-requires c κs = (is-known _ _ (c .before .before .before .before .before .before .before .before .before .before .before .is-known .ensures) (c .before .before .before .before .before .before .before .before .before .before .if1 .left), has _ _ _ (c .before .before .before .before .has-setting .ensures) (c .before .before .before .if3 .left), inside (c .before .before .before .before .before .candidate-at .result) _ (c .before .before .bits-of .ensures) (c .if4 .left))
+fuse-of-requires c κs = (
+  is-known _ _ (c .before .before .before .before .before .before .before .before .before .before .before .is-known .ensures)
+      (c .before .before .before .before .before .before .before .before .before .before .if1 .left),
+  has _ _ _ (c .before .before .before .before .has-setting .ensures) (c .before .before .before .if3 .left),
+  inside (c .before .before .before .before .before .candidate-at .result) _ (c .before .before .bits-of .ensures) (c .if4 .left),
+)
 
 returns-5 : tie.Need-returns-5
 returns-5 c = search (needs, is-known, has, below, another)

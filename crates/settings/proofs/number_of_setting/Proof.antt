@@ -24,7 +24,8 @@ no-setting : (d : Device) (s : Setting) → known d ≡ true → hasSetting d s 
 unfolding numberOfSetting
 no-setting d s k h = rw (k, h)
 
-the-number : (d : Device) (s : Setting) (x : ℕ) → known d ≡ true → hasSetting d s ≡ true → x ≡ numberOf d s → accepted x ≡ numberOfSetting d s
+the-number : (d : Device) (s : Setting) (x : ℕ) → known d ≡ true → hasSetting d s ≡ true → x ≡ numberOf d s
+    → accepted x ≡ numberOfSetting d s
 unfolding numberOfSetting
 the-number d s x k h e = rw (k, h, e)
 
@@ -41,7 +42,10 @@ returns-2 : tie.Need-returns-2
 returns-2 c = search (needs, is-known, has-not, no-setting)
 
 number-of-requires : tie.Need-number-of-requires
-number-of-requires c κs = (is-known _ _ (c .before .before .before .is-known .ensures) (c .before .before .if1 .left), has _ _ _ (c .before .has-setting .ensures) (c .if2 .left))
+number-of-requires c κs = (
+  is-known _ _ (c .before .before .before .is-known .ensures) (c .before .before .if1 .left),
+  has _ _ _ (c .before .has-setting .ensures) (c .if2 .left),
+)
 
 returns-3 : tie.Need-returns-3
 returns-3 c = search (needs, is-known, has, the-number)

@@ -19,9 +19,11 @@ one-byte : (cells : List ℕ) → Fits w8 (getD cells 0 0) → join (replicate 1
 unfolding join
 one-byte cells h = omega arith
 
-more : (l : List ℕ) (at k : ℕ) → Fits w8 (getD l (at + k) 0) → join (replicate (k + 1) 8) (drop at l) ≡ join (replicate k 8) (drop at l) + getD l (at + k) 0 * 2 ^ (k * 8)
+more : (l : List ℕ) (at k : ℕ) → Fits w8 (getD l (at + k) 0)
+    → join (replicate (k + 1) 8) (drop at l) ≡ join (replicate k 8) (drop at l) + getD l (at + k) 0 * 2 ^ (k * 8)
 more l at k h =
-    let there : getD (drop k (drop at l)) 0 0 ≡ getD l (at + k) 0 = getD-drop k (drop at l) 0 0 ∙ getD-drop at l (k + 0) 0 ∙ ap (λ (i : ℕ). getD l i 0) (omega arith) in
+    let there : getD (drop k (drop at l)) 0 0 ≡ getD l (at + k) 0 =
+    getD-drop k (drop at l) 0 0 ∙ getD-drop at l (k + 0) 0 ∙ ap (λ (i : ℕ). getD l i 0) (omega arith) in
     ap (λ (ws : List ℕ). join ws (drop at l)) (sym (replicate-append-replicate k 1 8))
     ∙ join-append (replicate k 8) (replicate 1 8) (drop at l)
     ∙ rw (length-replicate {A = ℕ} k 8, total-replicate k 8, one-byte (drop k (drop at l)) (rw there h), there)
@@ -29,7 +31,8 @@ more l at k h =
 taken : (l : List ℕ) (at k word : ℕ) → Fits w8 (getD l (at + k) 0) → k < 8 → word ≡ join (replicate k 8) (drop at l)
     → word + getD l (at + k) 0 * 2 ^ (k * 8) % 2 ^ 64 ≡ join (replicate (k + 1) 8) (drop at l)
 taken l at k word h hk e =
-    let exact : getD l (at + k) 0 * 2 ^ (k * 8) % 2 ^ 64 ≡ getD l (at + k) 0 * 2 ^ (k * 8) = shl-exact 8 (k * 8) 64 (h .fits) (omega arith) in
+    let exact : getD l (at + k) 0 * 2 ^ (k * 8) % 2 ^ 64 ≡ getD l (at + k) 0 * 2 ^ (k * 8) =
+    shl-exact 8 (k * 8) 64 (h .fits) (omega arith) in
     rw (exact, e, more l at k h)
 
 fits : (l : List ℕ) (at k word : ℕ) → Fits w8 (getD l (at + k) 0) → k < 8 → word ≡ join (replicate k 8) (drop at l)

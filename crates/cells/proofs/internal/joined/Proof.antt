@@ -27,7 +27,8 @@ unfolding join
 step cells at width count i word low h0 hi hc hw e1 e2 =
     let more : count - (i - 1) ≡ suc (count - i) = omega arith in
     let next : at + (i - 1) + 1 ≡ at + i = omega arith in
-    let exact : word * 2 ^ width % 2 ^ 64 ≡ word * 2 ^ width = shl-exact 56 width 64 (rw e1 (join-few (count - i) width 7 (drop (at + i) cells) (omega arith) hw)) (omega arith) in
+    let exact : word * 2 ^ width % 2 ^ 64 ≡ word * 2 ^ width =
+    shl-exact 56 width 64 (rw e1 (join-few (count - i) width 7 (drop (at + i) cells) (omega arith) hw)) (omega arith) in
     rw (exact, e1, e2, more, drop-drop 1 (at + (i - 1)) cells, next, getD-drop (at + (i - 1)) cells 0 0, add-zero)
 
 fits : (cells : List ℕ) (at width count i word low : ℕ) → 0 < i → i ≤ count → count ≤ 8 → width ≤ 8
@@ -68,7 +69,8 @@ shared-slice-read-low-bits : tie.Need-shared-slice-read-low-bits Inv-loop μ-loo
 shared-slice-read-low-bits c = omega arith
 
 cast-low-bits : tie.Need-cast-low-bits Inv-loop μ-loop
-cast-low-bits c = omega (arith, c .shared-slice-known2 .given (c .before .before .before .before .args .at + (c .before .before .loop .i - 1)))
+cast-low-bits c =
+    omega (arith, c .shared-slice-known2 .given (c .before .before .before .before .args .at + (c .before .before .loop .i - 1)))
 
 low-bits-requires : tie.Need-low-bits-requires Inv-loop μ-loop
 low-bits-requires c κs = omega arith

@@ -51,13 +51,23 @@ module _ (d : Device) (layout : Layout) (bytes : List ℕ) (s : Setting) (size :
     module _ (h : hasSetting d s ≡ true) (stray : ℕ) (g : stray ≡ strayIn d layout bytes s) where
       a-stray : stray < length bytes → refused 6 stray ≡ readIn d layout bytes s
       unfolding readIn
-      a-stray l = rw (k, eq-eqb (length bytes) (bytesOf d layout) its-size, h, ← g, lt-ltb stray (bytesOf d layout) (omega (arith, its-size)))
+      a-stray l =
+          rw (k, eq-eqb (length bytes) (bytesOf d layout) its-size, h, ← g, lt-ltb stray (bytesOf d layout) (omega (arith, its-size)))
 
-      the-value : (kd : Kind) (pattern : ℕ) (v : Value) → length bytes ≤ stray → kd ≡ kindOf d s → pattern ≡ patternAt d layout bytes s → v ≡ valueIn kd pattern
-          → accepted v ≡ readIn d layout bytes s
+      the-value : (kd : Kind) (pattern : ℕ) (v : Value) → length bytes ≤ stray → kd ≡ kindOf d s → pattern ≡ patternAt d layout bytes s
+          → v ≡ valueIn kd pattern → accepted v ≡ readIn d layout bytes s
       unfolding readIn
       the-value kd pattern v l f p w =
-          rw (k, eq-eqb (length bytes) (bytesOf d layout) its-size, h, ← g, le-ltb stray (bytesOf d layout) (omega (arith, its-size)), w, f, p)
+          rw (
+            k,
+            eq-eqb (length bytes) (bytesOf d layout) its-size,
+            h,
+            ← g,
+            le-ltb stray (bytesOf d layout) (omega (arith, its-size)),
+            w,
+            f,
+            p,
+          )
 
 is-known-requires : tie.Need-is-known-requires
 is-known-requires c κs = search needs
@@ -90,7 +100,11 @@ kind-of-requires : tie.Need-kind-of-requires
 kind-of-requires c κs = search needs
 
 pattern-at-requires : tie.Need-pattern-at-requires
-pattern-at-requires c κs = (search (needs, is-known), has _ _ _ (c .before .before .before .before .has-setting .ensures) (c .before .before .before .if3 .left), search (needs, its-size))
+pattern-at-requires c κs = (
+  search (needs, is-known),
+  has _ _ _ (c .before .before .before .before .has-setting .ensures) (c .before .before .before .if3 .left),
+  search (needs, its-size),
+)
 
 value-in-requires : tie.Need-value-in-requires
 value-in-requires c κs = search needs

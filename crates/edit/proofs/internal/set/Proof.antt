@@ -40,11 +40,13 @@ refusal : (d : Device) (layout : Layout) (bytes : List ℕ) (s : Setting) (v : V
     → SetGives d layout bytes s v (refused n x) bytes
 refusal d layout bytes s v n x e = says (setIn d layout bytes s v) (refused n x) (withValue d layout bytes s v) bytes e
 
-no-device : (d : Device) (layout : Layout) (bytes : List ℕ) (s : Setting) (v : Value) → known d ≡ false → SetGives d layout bytes s v (refused 1 0) bytes
+no-device : (d : Device) (layout : Layout) (bytes : List ℕ) (s : Setting) (v : Value) → known d ≡ false
+    → SetGives d layout bytes s v (refused 1 0) bytes
 unfolding setIn
 no-device d layout bytes s v k = refusal d layout bytes s v 1 0 (rw k)
 
-module _ (d : Device) (layout : Layout) (bytes : List ℕ) (s : Setting) (v : Value) (size : ℕ) (k : known d ≡ true) (e : size ≡ bytesOf d layout) where
+module _ (d : Device) (layout : Layout) (bytes : List ℕ) (s : Setting) (v : Value) (size : ℕ) (k : known d ≡ true)
+    (e : size ≡ bytesOf d layout) where
   wrong-length : (length bytes ≡ size → ⊥) → SetGives d layout bytes s v (refused 2 0) bytes
   unfolding setIn
   wrong-length ne = refusal d layout bytes s v 2 0 (rw (k, ne-eqb (length bytes) (bytesOf d layout) (λ f. ne (f ∙ sym e))))
@@ -73,14 +75,31 @@ module _ (d : Device) (layout : Layout) (bytes : List ℕ) (s : Setting) (v : Va
         unfolding setIn
         a-stray l =
             refusal d layout bytes s v 6 stray
-            (rw (k, eq-eqb (length bytes) (bytesOf d layout) its-size, h, its, w, ← q, lt-ltb stray (bytesOf d layout) (omega (arith, its-size))))
+            (rw (
+              k,
+              eq-eqb (length bytes) (bytesOf d layout) its-size,
+              h,
+              its,
+              w,
+              ← q,
+              lt-ltb stray (bytesOf d layout) (omega (arith, its-size)),
+            ))
 
         done : length bytes ≤ stray → accepted tt ≡ setIn d layout bytes s v
         unfolding setIn
         done l =
-            rw (k, eq-eqb (length bytes) (bytesOf d layout) its-size, h, its, w, ← q, le-ltb stray (bytesOf d layout) (omega (arith, its-size)))
+            rw (
+              k,
+              eq-eqb (length bytes) (bytesOf d layout) its-size,
+              h,
+              its,
+              w,
+              ← q,
+              le-ltb stray (bytesOf d layout) (omega (arith, its-size)),
+            )
 
-        the-set : (after : List ℕ) → length bytes ≤ stray → after ≡ withPattern d layout bytes s pattern → SetGives d layout bytes s v (accepted tt) after
+        the-set : (after : List ℕ) → length bytes ≤ stray → after ≡ withPattern d layout bytes s pattern
+            → SetGives d layout bytes s v (accepted tt) after
         unfolding withValue
         the-set after l x =
             let same = done l in
@@ -114,7 +133,9 @@ enum-known-found : tie.Need-enum-known-found
 enum-known-found c = search needs
 
 stray-in-requires : tie.Need-stray-in-requires
-stray-in-requires c κs = let at = c .before .before .before .before .before .before in (search (needs, is-known), has _ _ _ (at .before .has-setting .ensures) (at .if3 .left), search (needs, its-size))
+stray-in-requires c κs =
+    let at = c .before .before .before .before .before .before in
+    (search (needs, is-known), has _ _ _ (at .before .has-setting .ensures) (at .if3 .left), search (needs, its-size))
 
 cast-index : tie.Need-cast-index
 cast-index c = search (needs, is-known, small)
@@ -126,7 +147,8 @@ returns-4 : tie.Need-returns-4
 returns-4 c = search (needs, is-known, has, a-stray)
 
 put-pattern-requires : tie.Need-put-pattern-requires
-put-pattern-requires c κs = let at = c .before .before .before .before .before .before .before .before .before in (search (needs, is-known), has _ _ _ (at .before .has-setting .ensures) (at .if3 .left), search (needs, its-size))
+put-pattern-requires c κs = let at = c .before .before .before .before .before .before .before .before .before in
+    (search (needs, is-known), has _ _ _ (at .before .has-setting .ensures) (at .if3 .left), search (needs, its-size))
 
 enum-told : tie.Need-enum-told
 enum-told c = search needs

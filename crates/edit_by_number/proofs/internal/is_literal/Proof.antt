@@ -16,7 +16,8 @@ use borrow.Author.Needs.{needs}
 use Rattle.edit_by_number.proofs.internal.is_literal.Statement.{statement}
 use Rattle.edit_by_number.proofs.internal.is_literal.Tie as tie
 
-no-device : (d : Device) (layout : Layout) (length x : ℕ) → known d ≡ false → false ≡ (known d && eqb length (bytesOf d layout) && ltb x (start d wireAnds))
+no-device : (d : Device) (layout : Layout) (length x : ℕ) → known d ≡ false
+    → false ≡ (known d && eqb length (bytesOf d layout) && ltb x (start d wireAnds))
 no-device d layout length x k = rw k
 
 module _ (d : Device) (layout : Layout) (length x size : ℕ) (k : known d ≡ true) (e : size ≡ bytesOf d layout) where

@@ -72,13 +72,21 @@ returns-4 : tie.Need-returns-4
 returns-4 c =
     let tested = c .before .before .before .before in
     let start = tested .before .before .before .before .before .before .before in
-    reads-code (start .before .args .d) _ _ _ _ _ _ (is-known _ _ (tested .before .before .before .before .before .before .is-known .ensures) (tested .before .before .before .before .before .if1 .left)) (tested .before .before .before .before .bytes-of .ensures) (tested .before .before .before .if2 .left) (tested .before .before .count-of .ensures) (tested .if3 .left) (c .before .before .before .number-of-usercode .ensures) (c .before .if4 .taken) (λ i. start .shared-slice-known .given i .fits) _ (c .usercode-at .ensures)
+    reads-code (start .before .args .d) _ _ _ _ _ _ (is-known _ _
+    (tested .before .before .before .before .before .before .is-known .ensures) (tested .before .before .before .before .before .if1 .left))
+    (tested .before .before .before .before .bytes-of .ensures) (tested .before .before .before .if2 .left)
+    (tested .before .before .count-of .ensures) (tested .if3 .left) (c .before .before .before .number-of-usercode .ensures)
+    (c .before .if4 .taken) (λ i. start .shared-slice-known .given i .fits) _ (c .usercode-at .ensures)
 
 setting-of-requires : tie.Need-setting-of-requires
 setting-of-requires c κs = (search (needs, is-known), search (needs, below))
 
 stray-in-requires : tie.Need-stray-in-requires
-stray-in-requires c κs = let tested = c .before .before .before .before in (search (needs, is-known), there _ _ _ _ (tested .before .before .count-of .ensures) (tested .if3 .left) (c .setting-of .ensures), search (needs, its-size))
+stray-in-requires c κs = let tested = c .before .before .before .before in (
+  search (needs, is-known),
+  there _ _ _ _ (tested .before .before .count-of .ensures) (tested .if3 .left) (c .setting-of .ensures),
+  search (needs, its-size),
+)
 
 cast-index : tie.Need-cast-index
 cast-index c = search (needs, is-known, stray-fits)
@@ -87,7 +95,11 @@ returns-5 : tie.Need-returns-5
 returns-5 c = search (needs, is-known, a-stray)
 
 pattern-at-requires : tie.Need-pattern-at-requires
-pattern-at-requires c κs = let tested = c .before .before .before .before .before .before in (search (needs, is-known), there _ _ _ _ (tested .before .before .count-of .ensures) (tested .if3 .left) (c .before .before .setting-of .ensures), search (needs, its-size))
+pattern-at-requires c κs = let tested = c .before .before .before .before .before .before in (
+  search (needs, is-known),
+  there _ _ _ _ (tested .before .before .count-of .ensures) (tested .if3 .left) (c .before .before .setting-of .ensures),
+  search (needs, its-size),
+)
 
 returns-6 : tie.Need-returns-6
 returns-6 c = search (needs, is-known, the-pattern)

@@ -26,7 +26,8 @@ use borrow.Author.Needs.{needs}
 use Rattle.edit_by_number.proofs.internal.set_numbered.Statement.{statement}
 use Rattle.edit_by_number.proofs.internal.set_numbered.Tie as tie
 
-no-device : (d : Device) (layout : Layout) (bytes : List ℕ) (x pattern : ℕ) → known d ≡ false → PatternGives d layout bytes x pattern (refused 1 0) bytes
+no-device : (d : Device) (layout : Layout) (bytes : List ℕ) (x pattern : ℕ) → known d ≡ false
+    → PatternGives d layout bytes x pattern (refused 1 0) bytes
 unfolding setPattern
 no-device d layout bytes x pattern k = refusal d layout bytes x pattern 1 0 (rw k)
 
@@ -38,9 +39,11 @@ module _ (d : Device) (layout : Layout) (bytes : List ℕ) (x pattern size : ℕ
   module _ (n : length bytes ≡ size) (count : ℕ) (f : count ≡ countOf d) where
     no-number : count ≤ x → PatternGives d layout bytes x pattern (refused 4 0) bytes
     unfolding setPattern
-    no-number l = refusal d layout bytes x pattern 4 0 (rw (k, eq-eqb (length bytes) (bytesOf d layout) (n ∙ e), le-ltb x (countOf d) (omega arith)))
+    no-number l =
+        refusal d layout bytes x pattern 4 0 (rw (k, eq-eqb (length bytes) (bytesOf d layout) (n ∙ e), le-ltb x (countOf d) (omega arith)))
 
-    module _ (l : x < count) (s : Setting) (g : s ≡ settingOf d x) (bits : ℕ) (t : Bool) (w : bits ≡ bitsOf s) (u : t ≡ ltb pattern (2 ^ bits)) where
+    module _ (l : x < count) (s : Setting) (g : s ≡ settingOf d x) (bits : ℕ) (t : Bool) (w : bits ≡ bitsOf s)
+        (u : t ≡ ltb pattern (2 ^ bits)) where
       its-test : ltb pattern (2 ^ bitsOf s) ≡ t
       its-test = rw (← w) (sym u)
 
@@ -51,8 +54,10 @@ module _ (d : Device) (layout : Layout) (bytes : List ℕ) (x pattern size : ℕ
         a-stray : stray < length bytes → PatternGives d layout bytes x pattern (refused 6 stray) bytes
         a-stray m = sets-stray d layout bytes x k (n ∙ e) (below d x count f l) s g pattern (its-test ∙ not-false t y) stray (sym q) m
 
-        the-set : (after : List ℕ) → length bytes ≤ stray → after ≡ withPattern d layout bytes s pattern → PatternGives d layout bytes x pattern (accepted tt) after
-        the-set after m z = sets-clean d layout bytes x k (n ∙ e) (below d x count f l) s g pattern (its-test ∙ not-false t y) stray (sym q) after m z
+        the-set : (after : List ℕ) → length bytes ≤ stray → after ≡ withPattern d layout bytes s pattern
+            → PatternGives d layout bytes x pattern (accepted tt) after
+        the-set after m z =
+            sets-clean d layout bytes x k (n ∙ e) (below d x count f l) s g pattern (its-test ∙ not-false t y) stray (sym q) after m z
 
 few : (d : Device) (x count : ℕ) (s : Setting) (bits : ℕ) → count ≡ countOf d → x < count → s ≡ settingOf d x → bits ≡ bitsOf s → bits ≤ 32
 few d x count s bits e l f w = rw w (bits-few d s (there d x count s e l f))
@@ -88,7 +93,11 @@ returns-4 : tie.Need-returns-4
 returns-4 c =
     let tested = c .before .before .before .before .before .before .before in
     let start = tested .before .before .before .before .before .before .before in
-    sets-code (start .before .args .d) _ _ _ _ _ _ (is-known _ _ (tested .before .before .before .before .before .before .is-known .ensures) (tested .before .before .before .before .before .if1 .left)) (tested .before .before .before .before .bytes-of .ensures) (tested .before .before .before .if2 .left) (tested .before .before .count-of .ensures) (tested .if3 .left) (c .before .before .before .before .before .before .number-of-usercode .ensures) (c .before .before .before .before .if4 .taken) (λ i. start .slice-known .given i .fits) _ _ (start .before .fits .pattern .fits) (c .before .before .put-usercode .ensures)
+    sets-code (start .before .args .d) _ _ _ _ _ _ (is-known _ _ (tested .before .before .before .before .before .before .is-known .ensures)
+    (tested .before .before .before .before .before .if1 .left)) (tested .before .before .before .before .bytes-of .ensures)
+    (tested .before .before .before .if2 .left) (tested .before .before .count-of .ensures) (tested .if3 .left)
+    (c .before .before .before .before .before .before .number-of-usercode .ensures) (c .before .before .before .before .if4 .taken)
+    (λ i. start .slice-known .given i .fits) _ _ (start .before .fits .pattern .fits) (c .before .before .put-usercode .ensures)
 
 setting-of-requires : tie.Need-setting-of-requires
 setting-of-requires c κs = (search (needs, is-known), search (needs, below))
@@ -97,7 +106,9 @@ bits-of-requires : tie.Need-bits-of-requires
 bits-of-requires c κs = search (needs, there)
 
 fits-requires : tie.Need-fits-requires
-fits-requires c κs = let tested = c .before .before .before .before .before in few _ _ _ _ _ (tested .before .before .count-of .ensures) (tested .if3 .left) (c .before .setting-of .ensures) (c .bits-of .ensures)
+fits-requires c κs =
+    let tested = c .before .before .before .before .before in
+    few _ _ _ _ _ (tested .before .before .count-of .ensures) (tested .if3 .left) (c .before .setting-of .ensures) (c .bits-of .ensures)
 
 returns-5 : tie.Need-returns-5
 returns-5 c = search (needs, is-known, not-fitting)

@@ -19,7 +19,11 @@ shr-result c = search needs
 
 cast-result-2 : tie.Need-cast-result-2
 cast-result-2 c =
-    omega (arith, shr-le (getD (c .before .args .bytes .now) (c .before .args .index) 0) (c .before .args .bit), c .shared-slice-known .given (c .before .args .index))
+    omega (
+      arith,
+      shr-le (getD (c .before .args .bytes .now) (c .before .args .index) 0) (c .before .args .bit),
+      c .shared-slice-known .given (c .before .args .index),
+    )
 
 returns : tie.Need-returns
 unfolding bitAt

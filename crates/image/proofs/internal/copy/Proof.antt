@@ -28,7 +28,9 @@ module _ (from to₀ to : List ℕ) (i : ℕ) (r : Copied from to₀ to i) where
         upto = rw length-set (omega arith);
         same = r .same ∙ sym (length-set to i (getD from i 0));
         size = length-set to i (getD from i 0) ∙ r .size;
-        so-far = rw (add-one i) (take-suc-set to i (getD from i 0) l ∙ ap (λ (x : List ℕ). x ++ (getD from i 0 ∷ [])) (r .so-far) ∙ sym (take-suc from i 0 there));
+        so-far =
+            rw (add-one i) (take-suc-set to i (getD from i 0) l ∙ ap (λ (x : List ℕ). x ++ (getD from i 0 ∷ [])) (r .so-far)
+            ∙ sym (take-suc from i 0 there));
       }
 
   kept : length to ≡ length to₀

@@ -59,10 +59,16 @@ joined-requires : tie.Need-joined-requires Inv-loop μ-loop Inv-loop2 μ-loop2
 joined-requires c κs = omega arith
 
 cast-ones : tie.Need-cast-ones Inv-loop μ-loop Inv-loop2 μ-loop2
-cast-ones c = few (c .before .before .before .before .args .bytes .now) (c .before .before .loop .ones) (c .joined .result) (c .before .before .loop .i) 8 (c .before .before .before .before .pre) (omega arith) (c .joined .ensures) (c .before .before .loop .inv .1)
+cast-ones c =
+    few (c .before .before .before .before .args .bytes .now) (c .before .before .loop .ones) (c .joined .result)
+    (c .before .before .loop .i) 8 (c .before .before .before .before .pre) (omega arith) (c .joined .ensures)
+    (c .before .before .loop .inv .1)
 
 add-ones : tie.Need-add-ones Inv-loop μ-loop Inv-loop2 μ-loop2
-add-ones c = fits (c .before .before .before .before .args .bytes .now) (c .before .before .loop .ones) (c .joined .result) (c .before .before .loop .i) 8 (c .before .before .before .before .pre) (omega arith) (c .joined .ensures) (c .before .before .loop .inv .1)
+add-ones c =
+    fits (c .before .before .before .before .args .bytes .now) (c .before .before .loop .ones) (c .joined .result)
+    (c .before .before .loop .i) 8 (c .before .before .before .before .pre) (omega arith) (c .joined .ensures)
+    (c .before .before .loop .inv .1)
 
 add-i : tie.Need-add-i Inv-loop μ-loop Inv-loop2 μ-loop2
 add-i c = omega arith
@@ -71,7 +77,11 @@ loop-less : tie.Need-loop-less Inv-loop μ-loop Inv-loop2 μ-loop2
 loop-less c = omega arith
 
 loop-again : tie.Need-loop-again Inv-loop μ-loop Inv-loop2 μ-loop2
-loop-again c = (omega arith, again (c .before .before .before .before .args .bytes .now) (c .before .before .loop .ones) (c .joined .result) (c .before .before .loop .i) 8 _ (omega arith) (c .joined .ensures) (c .before .before .loop .inv .1))
+loop-again c = (
+  omega arith,
+  again (c .before .before .before .before .args .bytes .now) (c .before .before .loop .ones) (c .joined .result)
+      (c .before .before .loop .i) 8 _ (omega arith) (c .joined .ensures) (c .before .before .loop .inv .1),
+)
 
 loop2-holds : tie.Need-loop2-holds Inv-loop μ-loop Inv-loop2 μ-loop2
 loop2-holds c = search needs
@@ -80,10 +90,16 @@ joined-requires-2 : tie.Need-joined-requires-2 Inv-loop μ-loop Inv-loop2 μ-loo
 joined-requires-2 c κs = omega arith
 
 cast-ones-2 : tie.Need-cast-ones-2 Inv-loop μ-loop Inv-loop2 μ-loop2
-cast-ones-2 c = few (c .before .before .before .before .before .before .args .bytes .now) (c .before .before .loop2 .ones) (c .joined2 .result) (c .before .before .loop2 .i) 1 (c .before .before .before .before .before .before .pre) (omega arith) (c .joined2 .ensures) (c .before .before .loop2 .inv .1)
+cast-ones-2 c =
+    few (c .before .before .before .before .before .before .args .bytes .now) (c .before .before .loop2 .ones) (c .joined2 .result)
+    (c .before .before .loop2 .i) 1 (c .before .before .before .before .before .before .pre) (omega arith) (c .joined2 .ensures)
+    (c .before .before .loop2 .inv .1)
 
 add-ones-2 : tie.Need-add-ones-2 Inv-loop μ-loop Inv-loop2 μ-loop2
-add-ones-2 c = fits (c .before .before .before .before .before .before .args .bytes .now) (c .before .before .loop2 .ones) (c .joined2 .result) (c .before .before .loop2 .i) 1 (c .before .before .before .before .before .before .pre) (omega arith) (c .joined2 .ensures) (c .before .before .loop2 .inv .1)
+add-ones-2 c =
+    fits (c .before .before .before .before .before .before .args .bytes .now) (c .before .before .loop2 .ones) (c .joined2 .result)
+    (c .before .before .loop2 .i) 1 (c .before .before .before .before .before .before .pre) (omega arith) (c .joined2 .ensures)
+    (c .before .before .loop2 .inv .1)
 
 add-i-2 : tie.Need-add-i-2 Inv-loop μ-loop Inv-loop2 μ-loop2
 add-i-2 c = omega arith
@@ -92,7 +108,11 @@ loop2-less : tie.Need-loop2-less Inv-loop μ-loop Inv-loop2 μ-loop2
 loop2-less c = omega arith
 
 loop2-again : tie.Need-loop2-again Inv-loop μ-loop Inv-loop2 μ-loop2
-loop2-again c = (omega arith, again (c .before .before .before .before .before .before .args .bytes .now) (c .before .before .loop2 .ones) (c .joined2 .result) (c .before .before .loop2 .i) 1 _ (omega arith) (c .joined2 .ensures) (c .before .before .loop2 .inv .1))
+loop2-again c = (
+  omega arith,
+  again (c .before .before .before .before .before .before .args .bytes .now) (c .before .before .loop2 .ones) (c .joined2 .result)
+      (c .before .before .loop2 .i) 1 _ (omega arith) (c .joined2 .ensures) (c .before .before .loop2 .inv .1),
+)
 
 returns : tie.Need-returns Inv-loop μ-loop Inv-loop2 μ-loop2
 returns c = search (needs, end)

@@ -36,7 +36,8 @@ fits64 : (x bit state below : ℕ) → Fits w8 x → bit < 8 → state < 2 → b
     → Fits w64 ((x / 2 ^ bit / 2 * 2 + state) * 2 ^ bit % 2 ^ 64 + below)
 fits64 x bit state below hx hb hs e = omega (arith, small x bit state below hx hb hs e)
 
-changed : (bytes : List ℕ) (index bit state below : ℕ) → Fits w8 (getD bytes index 0) → bit < 8 → state < 2 → below ≡ getD bytes index 0 % 2 ^ bit
+changed : (bytes : List ℕ) (index bit state below : ℕ) → Fits w8 (getD bytes index 0) → bit < 8 → state < 2
+    → below ≡ getD bytes index 0 % 2 ^ bit
     → set bytes index ((getD bytes index 0 / 2 ^ bit / 2 * 2 + state) * 2 ^ bit % 2 ^ 64 + below) ≡ withBit bytes index bit state
 unfolding withBit
 changed bytes index bit state below hx hb hs e = ap (set bytes index) (together (getD bytes index 0) bit state below hx hb hs e)

@@ -38,7 +38,8 @@ module _ (x bit : ℕ) (hb : bit < 7) where
 changed : (bytes : List ℕ) (index bit states : ℕ) → index < length bytes → bit < 7 → states < 4
     → set bytes index (getD bytes index 0 - getD bytes index 0 / 2 ^ bit % 4 * 2 ^ bit % 2 ^ 8 + states * 2 ^ bit % 2 ^ 8)
     ≡ withBit (withBit bytes index bit (states % 2)) index (bit + 1) (states / 2)
-changed bytes index bit states there hb hs = ap (set bytes index) (put-on (getD bytes index 0) bit hb states hs) ∙ sym (with-pair bytes index bit states there hs)
+changed bytes index bit states there hb hs =
+    ap (set bytes index) (put-on (getD bytes index 0) bit hb states hs) ∙ sym (with-pair bytes index bit states there hs)
 
 slice-read-x : tie.Need-slice-read-x
 slice-read-x c = search needs

@@ -32,7 +32,8 @@ none-left bytes i h = rw (drop-of-length-le bytes h)
 
 -- a pair added, and its second byte
 step : (pairs seconds a b rest : ℕ) → a < 256
-    → ((pairs + (a + b * 256)) % 65536 + (seconds + (a + b * 256) / 256) % 65536 * 65281 + rest) % 65536 ≡ (pairs + seconds * 65281 + (a + (b + rest))) % 65536
+    → ((pairs + (a + b * 256)) % 65536 + (seconds + (a + b * 256) / 256) % 65536 * 65281 + rest) % 65536
+    ≡ (pairs + seconds * 65281 + (a + (b + rest))) % 65536
 step pairs seconds a b rest h =
     let p = (pairs + (a + b * 256)) % 65536 in
     let s = (seconds + (a + b * 256) / 256) % 65536 in
@@ -47,16 +48,18 @@ step pairs seconds a b rest h =
     ∙ add-mul-mod-self-right (pairs + seconds * 65281 + (a + (b + rest))) b 65536
 
 module _ (bytes : List ℕ) (pairs seconds i : ℕ) (o : (k : ℕ) → Fits w8 (getD bytes k 0)) (f : So-far bytes pairs seconds i) where
-  again : (pair p s : ℕ) → 2 ≤ length bytes - i → pair ≡ getD bytes i 0 + getD bytes (i + 1) 0 * 2 ^ 8 → p ≡ (pairs + pair) % 2 ^ 16 → s ≡ (seconds + pair / 2 ^ 8) % 2 ^ 16
-      → So-far bytes p s (i + 2)
+  again : (pair p s : ℕ) → 2 ≤ length bytes - i → pair ≡ getD bytes i 0 + getD bytes (i + 1) 0 * 2 ^ 8 → p ≡ (pairs + pair) % 2 ^ 16
+      → s ≡ (seconds + pair / 2 ^ 8) % 2 ^ 16 → So-far bytes p s (i + 2)
   again pair p s h e g k =
       let a = getD bytes i 0 in
       let b = getD bytes (i + 1) 0 in
-      let both : byteSum (drop i bytes) ≡ a + (b + byteSum (drop (i + 1 + 1) bytes)) = first bytes i (omega arith) ∙ rw (first bytes (i + 1) (omega arith)) in
+      let both : byteSum (drop i bytes) ≡ a + (b + byteSum (drop (i + 1 + 1) bytes)) =
+      first bytes i (omega arith) ∙ rw (first bytes (i + 1) (omega arith)) in
       let two : i + 1 + 1 ≡ i + 2 = omega arith in
       rw (g, k, e) (step pairs seconds a b (byteSum (drop (i + 2) bytes)) (o i .fits) ∙ (rw (both, two) at f))
 
-  one-left : (all r : ℕ) → i < length bytes → length bytes - i < 2 → all ≡ (pairs + getD bytes i 0) % 2 ^ 16 → r ≡ (all + seconds * 65281) % 2 ^ 16 → r ≡ sum16 bytes
+  one-left : (all r : ℕ) → i < length bytes → length bytes - i < 2 → all ≡ (pairs + getD bytes i 0) % 2 ^ 16
+      → r ≡ (all + seconds * 65281) % 2 ^ 16 → r ≡ sum16 bytes
   one-left all r l h e g =
       let b = getD bytes i 0 in
       let last : byteSum (drop i bytes) ≡ b = first bytes i l ∙ rw (none-left bytes (i + 1) (omega arith)) (omega arith) in
@@ -64,7 +67,9 @@ module _ (bytes : List ℕ) (pairs seconds i : ℕ) (o : (k : ℕ) → Fits w8 (
       g ∙ same ∙ (rw last at f)
 
   end : (r : ℕ) → length bytes ≤ i → r ≡ (pairs + seconds * 65281) % 2 ^ 16 → r ≡ sum16 bytes
-  end r h g = let none : byteSum (drop i bytes) ≡ 0 = none-left bytes i h in let here : (pairs + seconds * 65281 + 0) % 65536 ≡ sum16 bytes = (rw none at f) in omega arith
+  end r h g =
+      let none : byteSum (drop i bytes) ≡ 0 = none-left bytes i h in
+      let here : (pairs + seconds * 65281 + 0) % 65536 ≡ sum16 bytes = (rw none at f) in omega arith
 
 abbrev Inv-loop : tie.InvT-loop
 Inv-loop bytes pairs₀ seconds₀ i₀ pairs seconds i = (i ≤ length bytes) × So-far bytes pairs seconds i

@@ -26,7 +26,11 @@ mul-result c = omega (arith, c .shared-slice-known2 .given (c .before .before .a
 
 add-result-2 : tie.Need-add-result-2
 add-result-2 c =
-    omega (arith, c .shared-slice-known2 .given (c .before .before .args .i), c .shared-slice-known2 .given (c .before .before .args .i + 1))
+    omega (
+      arith,
+      c .shared-slice-known2 .given (c .before .before .args .i),
+      c .shared-slice-known2 .given (c .before .before .args .i + 1),
+    )
 
 returns : tie.Need-returns
 returns c = search needs

@@ -1,6 +1,7 @@
 -- `list_field` meets its contract: digits, a blank, and states and blanks up to a `*`; what stops earlier is bad.
 -- Assumes nothing.
-use Rattle.jedec_fields.proofs.Lists.{no-digits, no-blank, blank-inside, run-inside, star-inside, no-star, wrong-byte, no-state, a-good-list}
+use Rattle.jedec_fields.proofs.Lists.{no-digits, no-blank, blank-inside, run-inside, star-inside, no-star, wrong-byte, no-state}
+use Rattle.jedec_fields.proofs.Lists.{a-good-list}
 use borrow.Author.Needs.{needs}
 use Rattle.jedec_fields.proofs.internal.list_field.Statement.{statement}
 use Rattle.jedec_fields.proofs.internal.list_field.Tie as tie

@@ -1,4 +1,5 @@
--- `next_judged` meets its contract: blanks are passed, and then it is the end of the text, ETX, or a field up to its `*`; a good L field is found at once.
+-- `next_judged` meets its contract: blanks are passed, and then it is the end of the text, ETX, or a field up to its `*`; a
+-- good L field is found at once.
 -- Assumes nothing.
 use mathlib.Core.Path.{_≡_, refl, sym, _∙_}
 use mathlib.Core.Bool.{Bool, true, false, cond}
@@ -23,7 +24,9 @@ use Rattle.jedec_fields.proofs.internal.next_judged.Statement.{statemen
 use Rattle.jedec_fields.proofs.internal.next_judged.Tie as tie
 
 -- an L field, by what follows the L
-module _ (text : List ℕ) (at start : ℕ) (e : start ≡ at + blanksBefore (drop at text)) (l : start ≤ length text) (n : start ≡ length text → ⊥) (m : getD text start 0 ≡ 3 → ⊥) (b : getD text start 0 ≡ 76) (o : ListField) (g : ListStands (take (length text - (start + 1)) (drop (start + 1) text)) o) where
+module _ (text : List ℕ) (at start : ℕ) (e : start ≡ at + blanksBefore (drop at text)) (l : start ≤ length text)
+    (n : start ≡ length text → ⊥) (m : getD text start 0 ≡ 3 → ⊥) (b : getD text start 0 ≡ 76) (o : ListField)
+    (g : ListStands (take (length text - (start + 1)) (drop (start + 1) text)) o) where
   first-there : drop start text ≡ 76 ∷ drop (suc start) text
   first-there = drop-cons text start 0 (omega arith) ∙ rw b
 
@@ -43,7 +46,8 @@ module _ (text : List ℕ) (at start : ℕ) (e : start ≡ at + blanksBefore (dr
         let inside : start + 1 + long < length text = omega (arith, found .inside, length-drop (suc start) text) in
         let size : start + 1 + long - start ≡ suc long = omega arith in
         let until : start + 1 + long ≡ start + untilStar (drop start text) = rw (first-there, found .until) (omega arith) in
-        a-field text at start e l n m (start + 1 + long) until (omega arith) (λ h. absurd (omega arith)) (says.List fuse skip number) (rw (size, first-there, found .unmarked) (found .says))
+        a-field text at start e l n m (start + 1 + long) until (omega arith) (λ h. absurd (omega arith)) (says.List fuse skip number)
+        (rw (size, first-there, found .unmarked) (found .says))
 
   bad-list : (star : ℕ) → star ≡ start + untilStar (drop start text) → star ≤ length text → (star ≡ length text → ⊥) → o ≡ list-field.Other
       → Stands text at (Field start star says.Bad)
@@ -53,14 +57,16 @@ module _ (text : List ℕ) (at start : ℕ) (e : start ≡ at + blanksBefore (dr
       let none-there : NoList after = rw w at stands in
       let size : star - start ≡ suc (untilStar after) = omega (arith, rw first-there at s) in
       let bad-after : listIn (take (untilStar after) after) ≡ bad = none-there .is-bad (omega (arith, length-drop (suc start) text)) in
-      a-field text at start e l n m star s k h says.Bad (record { is = sym (rw (size, first-there, bad-after) (either (holdsMark (76 ∷ take (untilStar after) after)))); fits = tt })
+      a-field text at start e l n m star s k h says.Bad
+      (record { is = sym (rw (size, first-there, bad-after) (either (holdsMark (76 ∷ take (untilStar after) after)))); fits = tt })
     where
       either : (marked : Bool) → cond marked bad bad ≡ bad
       either true = refl
       either false = refl
 
 -- any other field
-other-letter : (text : List ℕ) (start k : ℕ) → start ≤ length text → (start ≡ length text → ⊥) → (getD text start 0 ≡ 76 → ⊥) → startsWith 76 (take k (drop start text)) ≡ false
+other-letter : (text : List ℕ) (start k : ℕ) → start ≤ length text → (start ≡ length text → ⊥) → (getD text start 0 ≡ 76 → ⊥)
+    → startsWith 76 (take k (drop start text)) ≡ false
 other-letter text start zero l h n = refl
 other-letter text start (suc k) l h n = rw (drop-cons text start 0 (omega arith)) (ne-eqb (getD text start 0) 76 n)
 

@@ -46,7 +46,8 @@ module _ (text : List ℕ) (at sum i left : ℕ) (r : Run text at sum i left) wh
   room : sum * 16 < 2 ^ 32
   room = omega (arith, below)
 
-  then-blanks : (s : TailSays) → left ≤ 0 → TailStands text i (tailFrom i 0 sum (drop i text)) s → TailStands text at (tailFrom at 4 0 (drop at text)) s
+  then-blanks : (s : TailSays) → left ≤ 0 → TailStands text i (tailFrom i 0 sum (drop i text)) s
+      → TailStands text at (tailFrom at 4 0 (drop at text)) s
   then-blanks s l t =
       let z : left ≡ 0 = omega arith in
       let whole : tailFrom i 0 sum (drop i text) ≡ tailFrom at 4 0 (drop at text) = rw z at (r .rest) in

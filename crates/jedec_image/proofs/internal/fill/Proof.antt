@@ -37,7 +37,8 @@ module _ (image₀ : List ℕ) (fuses state whole : ℕ) (image : List ℕ) (i :
 
   one-more : (byte : ℕ) → i < whole → byte ≡ state * (2 ^ 8 - 1) → Filled image₀ fuses state whole (set image i byte) (i + 1)
   one-more byte l e =
-      let meant : i < length (imageWith fuses (stateGiven state [])) = rw (image-length fuses (stateGiven state [])) (omega (arith, r .all)) in
+      let meant : i < length (imageWith fuses (stateGiven state [])) =
+      rw (image-length fuses (stateGiven state [])) (omega (arith, r .all)) in
       let full : i * 8 + 8 ≤ fuses = omega (arith, r .all) in
       record {
         upto = omega arith;
@@ -57,19 +58,24 @@ module _ (image₀ : List ℕ) (fuses state whole : ℕ) (image : List ℕ) (i :
   no-last : whole ≤ i → length image ≤ whole → image ≡ imageWith fuses (stateGiven state [])
   no-last l m =
       let long : length image ≤ i = omega arith in
-      let meant : length (imageWith fuses (stateGiven state [])) ≤ i = rw (image-length fuses (stateGiven state [])) (omega (arith, r .same, r .size)) in
+      let meant : length (imageWith fuses (stateGiven state [])) ≤ i =
+      rw (image-length fuses (stateGiven state [])) (omega (arith, r .same, r .size)) in
       sym (take-all i image long) ∙ r .so-far ∙ take-all i _ meant
 
-  last : (byte : ℕ) → whole ≤ i → whole < length image → byte ≡ state * (2 ^ (fuses % 8) - 1) → set image whole byte ≡ imageWith fuses (stateGiven state [])
+  last : (byte : ℕ) → whole ≤ i → whole < length image → byte ≡ state * (2 ^ (fuses % 8) - 1)
+      → set image whole byte ≡ imageWith fuses (stateGiven state [])
   last byte l m e =
       let here : i ≡ whole = omega (arith, r .upto) in
-      let meant-there : whole < length (imageWith fuses (stateGiven state [])) = rw (image-length fuses (stateGiven state [])) (omega (arith, r .same, r .size)) in
+      let meant-there : whole < length (imageWith fuses (stateGiven state [])) =
+      rw (image-length fuses (stateGiven state [])) (omega (arith, r .same, r .size)) in
       let long : length (set image whole byte) ≤ whole + 1 = rw (length-set image whole byte) (omega (arith, r .all, r .same, r .size)) in
-      let meant : length (imageWith fuses (stateGiven state [])) ≤ whole + 1 = rw (image-length fuses (stateGiven state [])) (omega (arith, r .all)) in
+      let meant : length (imageWith fuses (stateGiven state [])) ≤ whole + 1 =
+      rw (image-length fuses (stateGiven state [])) (omega (arith, r .all)) in
       let so-far : take whole image ≡ take whole (imageWith fuses (stateGiven state [])) = rw here at (r .so-far) in
       sym (take-all (whole + 1) (set image whole byte) long)
       ∙ more image (imageWith fuses (stateGiven state [])) whole byte m meant-there so-far
-      (e ∙ start-byte fuses state whole (fuses % 8) (omega (arith, r .same, r .size)) (omega arith) (λ h. absurd (omega (arith, r .all))) (λ h. omega (arith, r .all)))
+      (e ∙ start-byte fuses state whole (fuses % 8) (omega (arith, r .same, r .size)) (omega arith) (λ h. absurd (omega (arith, r .all)))
+      (λ h. omega (arith, r .all)))
       ∙ take-all (whole + 1) _ meant
 
 abbrev Inv-loop : tie.InvT-loop

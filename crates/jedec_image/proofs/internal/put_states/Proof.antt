@@ -17,7 +17,8 @@ use Rattle.jedec_runs.specs.Runs.{IsBlankAt, StatesAt}
 use Rattle.jedec_runs.proofs.Words.{StatesTaken, taken-at, none-first}
 use Rattle.jedec_fields.specs.Fields.{statesOf}
 use Rattle.jedec_image.specs.States.{withStates}
-use Rattle.jedec_image.proofs.Puts.{WritesStates, rest-written, none-written, pending, pending-none, pending-own, group-under, put-few, put-over}
+use Rattle.jedec_image.proofs.Puts.{WritesStates, rest-written, none-written, pending, pending-none, pending-own, group-under}
+use Rattle.jedec_image.proofs.Puts.{put-few, put-over}
 use borrow.Author.Needs.{needs}
 use Rattle.jedec_image.proofs.internal.put_states.Statement.{statement}
 use Rattle.jedec_image.proofs.internal.put_states.Tie as tie
@@ -33,7 +34,8 @@ record Puts (bytes image₀ : List ℕ) (fuse : ℕ) (image : List ℕ) (index b
   octets : (k : ℕ) → Fits w8 (getD image k 0)
   so-far : withStates (pending image index bit low) (index * 8 + bit) (statesOf (drop i bytes)) ≡ withStates image₀ fuse (statesOf bytes)
 
-starts : (bytes image : List ℕ) (fuse low : ℕ) → WritesStates bytes → fuse + length (statesOf bytes) ≤ length image * 8 → low ≡ getD image (fuse / 8) 0 % 2 ^ (fuse % 8)
+starts : (bytes image : List ℕ) (fuse low : ℕ) → WritesStates bytes → fuse + length (statesOf bytes) ≤ length image * 8
+    → low ≡ getD image (fuse / 8) 0 % 2 ^ (fuse % 8)
     → ((k : ℕ) → Fits w8 (getD image k 0)) → Puts bytes image fuse image (fuse / 8) (fuse % 8) low 0
 starts bytes image fuse low w l e o =
     let whole : fuse / 8 * 8 + fuse % 8 ≡ fuse = div-add-mod' fuse 8 in
@@ -51,7 +53,8 @@ starts bytes image fuse low w l e o =
 byte-wide : (image : List ℕ) (k : ℕ) → ((j : ℕ) → Fits w8 (getD image j 0)) → getD image k 0 < 2 ^ 64
 byte-wide image k o = omega (arith, o k .fits)
 
-set-octets : (image : List ℕ) (index x : ℕ) → ((k : ℕ) → Fits w8 (getD image k 0)) → x < 2 ^ 8 → (k : ℕ) → Fits w8 (getD (set image index x) k 0)
+set-octets : (image : List ℕ) (index x : ℕ) → ((k : ℕ) → Fits w8 (getD image k 0)) → x < 2 ^ 8 → (k : ℕ)
+    → Fits w8 (getD (set image index x) k 0)
 set-octets [] index x o h k = o k
 set-octets (a ∷ image) zero x o h zero = record { fits = h }
 set-octets (a ∷ image) zero x o h (suc k) = o (suc k)
@@ -70,7 +73,9 @@ module _ (bytes image₀ : List ℕ) (fuse : ℕ) (image : List ℕ) (index bit 
 
   module _ (count : ℕ) (there : StatesAt bytes i count) (bits : ℕ) (e : bits ≡ join (replicate count 1) (drop i bytes)) where
     bits-small : bits < 2 ^ count
-    bits-small = rw e (subst (λ (n : ℕ). join (replicate count 1) (drop i bytes) < 2 ^ n) (total-replicate count 1 ∙ mul-one count) (join-small (replicate count 1) (drop i bytes)))
+    bits-small =
+        rw e (subst (λ (n : ℕ). join (replicate count 1) (drop i bytes) < 2 ^ n) (total-replicate count 1 ∙ mul-one count)
+        (join-small (replicate count 1) (drop i bytes)))
 
     exact : bits * 2 ^ bit % 2 ^ 64 ≡ bits * 2 ^ bit
     exact = shl-exact count bit 64 bits-small (omega (arith, r .small, there .few))
@@ -88,7 +93,8 @@ module _ (bytes image₀ : List ℕ) (fuse : ℕ) (image : List ℕ) (index bit 
       inside : i + (count + z) ≤ length bytes
       inside = s .inside
 
-      rest : (statesOf (drop i bytes) ≡ cut (replicate count 1) bits ++ statesOf (drop (i + (count + z)) bytes)) × WritesStates (drop (i + (count + z)) bytes)
+      rest : (statesOf (drop i bytes) ≡ cut (replicate count 1) bits ++ statesOf (drop (i + (count + z)) bytes))
+          × WritesStates (drop (i + (count + z)) bytes)
       rest = rest-written bytes i (count + z) (cut (replicate count 1) bits) (r .left) (s .writes ∙ rw e)
 
       -- a byte is taken, since every byte left is a state or a blank
@@ -103,9 +109,12 @@ module _ (bytes image₀ : List ℕ) (fuse : ℕ) (image : List ℕ) (index bit 
           go (suc k) f = omega arith
 
       many : length (statesOf (drop i bytes)) ≡ count + length (statesOf (drop (i + (count + z)) bytes))
-      many = ap length (rest .0) ∙ length-append (cut (replicate count 1) bits) (statesOf (drop (i + (count + z)) bytes)) ∙ rw (cut-length (replicate count 1) bits, length-replicate {A = ℕ} count 1)
+      many =
+          ap length (rest .0) ∙ length-append (cut (replicate count 1) bits) (statesOf (drop (i + (count + z)) bytes))
+          ∙ rw (cut-length (replicate count 1) bits, length-replicate {A = ℕ} count 1)
 
-      so-far-next : withStates (pending image index bit low) (index * 8 + bit) (cut (replicate count 1) bits ++ statesOf (drop (i + (count + z)) bytes)) ≡ withStates image₀ fuse (statesOf bytes)
+      so-far-next : withStates (pending image index bit low) (index * 8 + bit)
+          (cut (replicate count 1) bits ++ statesOf (drop (i + (count + z)) bytes)) ≡ withStates image₀ fuse (statesOf bytes)
       so-far-next = rw (rest .0) at (r .so-far)
 
       fits-next : index * 8 + bit + count + length (statesOf (drop (i + (count + z)) bytes)) ≤ length image * 8
@@ -122,7 +131,9 @@ module _ (bytes image₀ : List ℕ) (fuse : ℕ) (image : List ℕ) (index bit 
             fits = omega (arith, fits-next);
             same = r .same;
             octets = r .octets;
-            so-far = rw (exact, place) (sym (put-few count image index bit low bits (statesOf (drop (i + (count + z)) bytes)) (omega arith) (omega (arith, fits-next)) (r .under) bits-small) ∙ so-far-next);
+            so-far =
+                rw (exact, place) (sym (put-few count image index bit low bits (statesOf (drop (i + (count + z)) bytes)) (omega arith)
+                (omega (arith, fits-next)) (r .under) bits-small) ∙ so-far-next);
           }
 
       module _ (m : 8 ≤ bit + count) where
@@ -130,7 +141,8 @@ module _ (bytes image₀ : List ℕ) (fuse : ℕ) (image : List ℕ) (index bit 
         index-there = omega (arith, fits-next)
 
         byte-stored : (octet : ℕ) → octet ≡ (low + bits * 2 ^ bit % 2 ^ 64) % 2 ^ 8
-            → Puts bytes image₀ fuse (set image index octet) (index + 1) (bit + count - 8) ((low + bits * 2 ^ bit % 2 ^ 64) / 2 ^ 8) (i + (count + z))
+            → Puts bytes image₀ fuse (set image index octet) (index + 1) (bit + count - 8)
+            ((low + bits * 2 ^ bit % 2 ^ 64) / 2 ^ 8) (i + (count + z))
         byte-stored octet f =
             let size : length (set image index octet) ≡ length image = length-set image index octet in
             let wide : bit + count - 8 + 8 ≡ bit + count = omega arith in
@@ -144,7 +156,8 @@ module _ (bytes image₀ : List ℕ) (fuse : ℕ) (image : List ℕ) (index bit 
               octets = set-octets image index octet (r .octets) (rw f (mod-lt _ (pow-pos 8)));
               so-far =
                   rw (f, exact)
-                  (sym (put-over image index bit low bits count (statesOf (drop (i + (count + z)) bytes)) (r .small) (there .few) m (omega (arith, fits-next)) (r .under) bits-small (r .octets index .fits)) ∙ so-far-next);
+                  (sym (put-over image index bit low bits count (statesOf (drop (i + (count + z)) bytes)) (r .small) (there .few) m
+                  (omega (arith, fits-next)) (r .under) bits-small (r .octets index .fits)) ∙ so-far-next);
             }
 
   module _ (l : length bytes ≤ i) where
@@ -160,7 +173,8 @@ module _ (bytes image₀ : List ℕ) (fuse : ℕ) (image : List ℕ) (index bit 
     last-whole =
         let e : 8 ≡ 8 - bit + bit = omega (arith, r .small) in
         let above : getD image index 0 < 2 ^ (8 - bit + bit) = rw (← e) (r .octets index .fits) in
-        let all : getD image index 0 / 2 ^ bit * 2 ^ bit + low < 2 ^ (8 - bit) * 2 ^ bit = digits-lt (shr-lt (8 - bit) bit above) (r .under) in
+        let all : getD image index 0 / 2 ^ bit * 2 ^ bit + low < 2 ^ (8 - bit) * 2 ^ bit =
+        digits-lt (shr-lt (8 - bit) bit above) (r .under) in
         let p : 2 ^ (8 - bit) * 2 ^ bit ≡ 2 ^ 8 = sym (ap (λ (k : ℕ). 2 ^ k) e ∙ pow-add 2 (8 - bit) bit) in
         omega arith
 

@@ -15,10 +15,12 @@ module _ (fuses : ℕ) (before : Seen) (end at first number : ℕ) where
   one-before : (x : ℕ) → before ≡ seen.Number x → seen.Number x ≡ misplacedAfter fuses before end at first number
   one-before x w = rw w
 
-  this-one : before ≡ seen.Nothing → (ltb first end || ltb fuses (first + number)) ≡ true → seen.Number at ≡ misplacedAfter fuses before end at first number
+  this-one : before ≡ seen.Nothing → (ltb first end || ltb fuses (first + number)) ≡ true
+      → seen.Number at ≡ misplacedAfter fuses before end at first number
   this-one w h = rw (w, h)
 
-  none-yet : before ≡ seen.Nothing → (ltb first end || ltb fuses (first + number)) ≡ false → seen.Nothing ≡ misplacedAfter fuses before end at first number
+  none-yet : before ≡ seen.Nothing → (ltb first end || ltb fuses (first + number)) ≡ false
+      → seen.Nothing ≡ misplacedAfter fuses before end at first number
   none-yet w h = rw (w, h)
 
 enum-known-before : tie.Need-enum-known-before

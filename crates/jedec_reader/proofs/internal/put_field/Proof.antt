@@ -24,8 +24,8 @@ use Rattle.jedec_reader.proofs.internal.put_field.Tie as tie
 a-state : (fuses : ℕ) (rest : List ℕ) (s : FieldSays) (m : Seen) (x : ℕ) → s ≡ says.Start x → PutFits fuses rest s m → x < 2
 a-state fuses rest s m x w h = rw w at h
 
-filled : (fuses : ℕ) (rest : List ℕ) (s : FieldSays) (m : Seen) (x : ℕ) (image after : List ℕ) → s ≡ says.Start x → after ≡ imageWith fuses (stateGiven x [])
-    → after ≡ putField fuses rest s m image
+filled : (fuses : ℕ) (rest : List ℕ) (s : FieldSays) (m : Seen) (x : ℕ) (image after : List ℕ) → s ≡ says.Start x
+    → after ≡ imageWith fuses (stateGiven x []) → after ≡ putField fuses rest s m image
 filled fuses rest s m x image after w e = rw w e
 
 module _ (fuses : ℕ) (field : List ℕ) (s : FieldSays) (m : Seen) (first skip number : ℕ) (w : s ≡ says.List first skip number) where
@@ -44,16 +44,19 @@ module _ (fuses : ℕ) (field : List ℕ) (s : FieldSays) (m : Seen) (first skip
         let e : skip + 1 ≡ 1 + skip = omega arith in
         rest-whole (skip + 1) field ∙ ap (λ (j : ℕ). drop j field) e ∙ sym (drop-drop skip 1 field)
 
-    states-there : statesIn (take (length field - (skip + 1)) (drop (skip + 1) field)) ≡ some (statesOf (take (length field - (skip + 1)) (drop (skip + 1) field)))
+    states-there : statesIn (take (length field - (skip + 1)) (drop (skip + 1) field))
+        ≡ some (statesOf (take (length field - (skip + 1)) (drop (skip + 1) field)))
     states-there = rw bytes (goes .list .found)
 
     some-there : 0 < length (statesOf (take (length field - (skip + 1)) (drop (skip + 1) field)))
     some-there = rw bytes (omega (arith, goes .list .many, goes .list .any))
 
-    room-there : (image : List ℕ) → length image ≡ (fuses + 7) / 8 → first + length (statesOf (take (length field - (skip + 1)) (drop (skip + 1) field))) ≤ length image * 8
+    room-there : (image : List ℕ) → length image ≡ (fuses + 7) / 8
+        → first + length (statesOf (take (length field - (skip + 1)) (drop (skip + 1) field))) ≤ length image * 8
     room-there image e = rw bytes (omega (arith, goes .list .many, goes .room))
 
-    listed : (image after : List ℕ) → after ≡ withStates image first (statesOf (take (length field - (skip + 1)) (drop (skip + 1) field))) → after ≡ putField fuses (drop 1 field) s m image
+    listed : (image after : List ℕ) → after ≡ withStates image first (statesOf (take (length field - (skip + 1)) (drop (skip + 1) field)))
+        → after ≡ putField fuses (drop 1 field) s m image
     listed image after e = e ∙ rw (bytes, w, v)
 
 enum-known-says : tie.Need-enum-known-says
@@ -69,7 +72,9 @@ enum-told : tie.Need-enum-told
 enum-told c = search needs
 
 add-from : tie.Need-add-from
-add-from c = let h : c .before .before .before .says2 .given .0 .1 .0 + 1 ≤ length (c .before .before .before .before .before .before .before .args .field .now) = search (needs, from-there) in omega arith
+add-from c =
+    let h : c .before .before .before .says2 .given .0 .1 .0 + 1
+    ≤ length (c .before .before .before .before .before .before .before .args .field .now) = search (needs, from-there) in omega arith
 
 sub-put-states : tie.Need-sub-put-states
 sub-put-states c = search (needs, from-there)

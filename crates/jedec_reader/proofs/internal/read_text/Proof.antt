@@ -32,13 +32,15 @@ module _ (fuses : ℕ) where
   nothing-there [] image e = refused-reads _ 7 0 image refl
   nothing-there (b ∷ text) image e = absurd (omega arith)
 
-  no-stx : (text image : List ℕ) → length text ≤ 1048576 → (length text ≡ 0 → ⊥) → (getD text 0 0 ≡ 2 → ⊥) → TextRead (meaning fuses text) (refused 7 0) image
+  no-stx : (text image : List ℕ) → length text ≤ 1048576 → (length text ≡ 0 → ⊥) → (getD text 0 0 ≡ 2 → ⊥)
+      → TextRead (meaning fuses text) (refused 7 0) image
   unfolding meaning
   no-stx [] image l n h = absurd (n refl)
   no-stx (b ∷ text) image l n h = refused-reads _ 7 0 image (rw (le-ltb 1048576 (suc (length text)) l, ne-eqb b 2 h))
 
   -- a text that starts with STX, cut
-  after-stx : (text : List ℕ) → length text ≤ 1048576 → (length text ≡ 0 → ⊥) → getD text 0 0 ≡ 2 → meaning fuses text ≡ ofPieces fuses text (pieces text .ended) (pieces text .rest)
+  after-stx : (text : List ℕ) → length text ≤ 1048576 → (length text ≡ 0 → ⊥) → getD text 0 0 ≡ 2
+      → meaning fuses text ≡ ofPieces fuses text (pieces text .ended) (pieces text .rest)
   unfolding meaning
   after-stx [] l n h = absurd (n refl)
   after-stx (b ∷ text) l n h = rw (le-ltb 1048576 (suc (length text)) l, eq-eqb b 2 h)
@@ -76,7 +78,8 @@ module _ (fuses : ℕ) (text image : List ℕ) (l : length text ≤ 1048576) (n 
     a-mark : t ≡ true → TextRead (meaning fuses text) (refused 7 1) image
     a-mark v = refused-reads _ 7 1 image (after-stx fuses text l n h ∙ rw (cut .ended, marked, v))
 
-    then-fields : (answer : Outcome (Unit {0})) → t ≡ false → TextRead (ofCut fuses text (fieldsAt (star + 1) (drop (star + 1) text))) answer image → TextRead (meaning fuses text) answer image
+    then-fields : (answer : Outcome (Unit {0})) → t ≡ false
+        → TextRead (ofCut fuses text (fieldsAt (star + 1) (drop (star + 1) text))) answer image → TextRead (meaning fuses text) answer image
     unfolding fieldsAt
     then-fields answer v r =
         let whole : meaning fuses text ≡ ofCut fuses text (fieldsAt (star + 1) (drop (star + 1) text)) =

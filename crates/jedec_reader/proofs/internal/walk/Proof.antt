@@ -46,19 +46,30 @@ record Walks (fuses : ℕ) (text : List ℕ) (from : ℕ) (image₀ image : List
   rest : ofRest fuses text k (fieldsAt at (drop at text)) ≡ ofCut fuses text (fieldsAt from (drop from text))
 
 starts : (fuses : ℕ) (text : List ℕ) (from : ℕ) (image : List ℕ) → from ≤ length text → image ≡ imageWith fuses (stateGiven 0 [])
-    → Walks fuses text from image image (record { count = noted.Nothing; start = seen.Nothing; listed = false; end = 0; misplaced = seen.Nothing; sum = noted.Nothing }) from
+    → Walks fuses text from image image
+    (record { count = noted.Nothing; start = seen.Nothing; listed = false; end = 0; misplaced = seen.Nothing; sum = noted.Nothing }) from
 unfolding misplaced lastEnd
 starts fuses text from image l e =
     record {
       k = nothingKnown;
-      given = record { count = refl; start = refl; listed = refl; end = refl; faulty = refl; sum = refl; bits = λ m. start-holds fuses 0 (omega arith) .bits; holds = λ m. e };
+      given = record {
+        count = refl;
+        start = refl;
+        listed = refl;
+        end = refl;
+        faulty = refl;
+        sum = refl;
+        bits = λ m. start-holds fuses 0 (omega arith) .bits;
+        holds = λ m. e;
+      };
       size = ap length e ∙ image-length fuses (stateGiven 0 []);
       same = refl;
       inside = l;
       rest = refl;
     }
 
-module _ (fuses : ℕ) (text : List ℕ) (from : ℕ) (image₀ image : List ℕ) (p : Progress) (at : ℕ) (r : Walks fuses text from image₀ image p at) where
+module _ (fuses : ℕ) (text : List ℕ) (from : ℕ) (image₀ image : List ℕ) (p : Progress) (at : ℕ)
+    (r : Walks fuses text from image₀ image p at) where
   kept : length image ≡ length image₀
   kept = r .same
 
@@ -80,7 +91,8 @@ module _ (fuses : ℕ) (text : List ℕ) (from : ℕ) (image₀ image : List ℕ
     etx-there : (etx : ℕ) → n ≡ next.End etx → etx < length text
     etx-there etx w = rw w at (s .inside)
 
-    the-end : (etx : ℕ) (answer : Outcome (Unit {0})) → n ≡ next.End etx → ((k : Known) → ProgressKnows fuses p k image → TextRead (withEnd fuses text k (some etx)) answer image)
+    the-end : (etx : ℕ) (answer : Outcome (Unit {0})) → n ≡ next.End etx
+        → ((k : Known) → ProgressKnows fuses p k image → TextRead (withEnd fuses text k (some etx)) answer image)
         → TextRead (ofCut fuses text (fieldsAt from (drop from text))) answer image
     unfolding allFields
     the-end etx answer w f = rw (← by-next (next.End etx) w) (f (r .k) (r .given))
@@ -113,7 +125,8 @@ module _ (fuses : ℕ) (text : List ℕ) (from : ℕ) (image₀ image : List ℕ
       order : mayStand p fs ≡ inOrder (r .k) (judge field)
       order = in-order fuses p (r .k) image (drop 1 field) fs (r .given) ∙ ap (inOrder (r .k)) (j .is)
 
-      a-bad-field : (t : Bool) → t ≡ mayStand p fs → not t ≡ true → TextRead (ofCut fuses text (fieldsAt from (drop from text))) (refused 7 start) image
+      a-bad-field : (t : Bool) → t ≡ mayStand p fs → not t ≡ true
+          → TextRead (ofCut fuses text (fieldsAt from (drop from text))) (refused 7 start) image
       unfolding allFields
       a-bad-field t e h =
           let bad : inOrder (r .k) (judge field) ≡ false = sym order ∙ sym e ∙ not-true t h in
@@ -125,7 +138,13 @@ module _ (fuses : ℕ) (text : List ℕ) (from : ℕ) (image₀ image : List ℕ
           few : (x : FieldSays) → SaysFits (drop 1 (take (star - start) (drop start text))) x → Few x
           few (says.Count n) f = tt
           few (says.Start x) f = tt
-          few (says.List first skip number) f = omega (arith, f .few, length-drop 1 (take (star - start) (drop start text)), length-take (star - start) (drop start text), length-drop start text)
+          few (says.List first skip number) f = omega (
+            arith,
+            f .few,
+            length-drop 1 (take (star - start) (drop start text)),
+            length-take (star - start) (drop start text),
+            length-drop start text,
+          )
           few (says.Sum x) f = tt
           few says.Skipped f = tt
           few says.Bad f = tt
@@ -135,7 +154,8 @@ module _ (fuses : ℕ) (text : List ℕ) (from : ℕ) (image₀ image : List ℕ
         goes-in = rw e (put-fits fuses p start (drop 1 field) fs (j .fits))
 
         one-more : (t : Bool) (image′ : List ℕ) → t ≡ mayStand p fs → not t ≡ false
-            → image′ ≡ putField fuses (drop 1 (take (star - start) (drop start text))) fs (q .misplaced) image → Walks fuses text from image₀ image′ q (star + 1)
+            → image′ ≡ putField fuses (drop 1 (take (star - start) (drop start text))) fs (q .misplaced) image
+            → Walks fuses text from image₀ image′ q (star + 1)
         unfolding allFields
         one-more t image′ f h i =
             let good : inOrder (r .k) (judge field) ≡ true = sym order ∙ sym f ∙ not-false t h in

@@ -11,7 +11,8 @@ use Rattle.jedec_reader.proofs.internal.with_list.Statement.{statement}
 use Rattle.jedec_reader.proofs.internal.with_list.Tie as tie
 
 listed : (fuses : ℕ) (p : Progress) (at first number : ℕ) (m : Seen) → m ≡ misplacedAfter fuses (p .misplaced) (p .end) at first number
-    → record { count = p .count; start = p .start; listed = true; end = first + number; misplaced = m; sum = p .sum } ≡ withList fuses p at first number
+    → record { count = p .count; start = p .start; listed = true; end = first + number; misplaced = m; sum = p .sum }
+    ≡ withList fuses p at first number
 listed fuses p at first number m e = rw e
 
 misplaced-after-requires : tie.Need-misplaced-after-requires

@@ -25,7 +25,12 @@ add-rows-out-2 : tie.Need-add-rows-out-2
 add-rows-out-2 c = search needs
 
 rows-out-requires-2 : tie.Need-rows-out-requires-2
-rows-out-requires-2 c κs = rw (wire-and-size false refl .0, wire-and-size false refl .1) (omega (arith, block-size (c .before .before .before .before .before .before .before .before .args .d), c .before .before .before .before .before .before .before .before .pre, c .before .before .before .before .rows-out .kept))
+rows-out-requires-2 c κs = rw (wire-and-size false refl .0, wire-and-size false refl .1) (omega (
+  arith,
+  block-size (c .before .before .before .before .before .before .before .before .args .d),
+  c .before .before .before .before .before .before .before .before .pre,
+  c .before .before .before .before .rows-out .kept,
+))
 
 same-length : tie.Need-same-length
 same-length c = search needs

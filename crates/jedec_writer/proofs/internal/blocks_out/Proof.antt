@@ -28,11 +28,26 @@ block-out-requires : tie.Need-block-out-requires Inv-loop μ-loop
 block-out-requires c κs = search (needs, image-word, image-few, next-fuses, next-bytes)
 
 add-f : tie.Need-add-f Inv-loop μ-loop
-add-f c = omega (arith, next-fuses (c .before .before .before .before .before .loop .inv) (c .before .before .before .before .loop-test .taken), image-few (c .before .before .before .before .before .before .before .before .before .before .args .d) (c .before .before .before .before .before .before .before .before .before .before .args .image .now) (c .before .before .before .before .before .before .before .before .before .before .pre .0) (c .before .before .before .before .before .before .before .before .before .before .pre .1), c .before .before .before .before .before .before .before .block-fuses .ensures, c .before .before .before .before .before .before .before .before .before .before .good)
+add-f c = omega (
+  arith,
+  next-fuses (c .before .before .before .before .before .loop .inv) (c .before .before .before .before .loop-test .taken),
+  image-few (c .before .before .before .before .before .before .before .before .before .before .args .d)
+      (c .before .before .before .before .before .before .before .before .before .before .args .image .now)
+      (c .before .before .before .before .before .before .before .before .before .before .pre .0)
+      (c .before .before .before .before .before .before .before .before .before .before .pre .1),
+  c .before .before .before .before .before .before .before .block-fuses .ensures,
+  c .before .before .before .before .before .before .before .before .before .before .good,
+)
 
 add-a : tie.Need-add-a Inv-loop μ-loop
 add-a c =
-    omega (arith, next-bytes (c .before .before .before .before .before .loop .inv) (c .before .before .before .before .loop-test .taken), c .before .before .before .before .before .loop .inv .same, c .before .before .before .before .before .before .block-bytes .ensures, c .before .before .before .before .before .before .before .before .before .before .good)
+    omega (
+      arith,
+      next-bytes (c .before .before .before .before .before .loop .inv) (c .before .before .before .before .loop-test .taken),
+      c .before .before .before .before .before .loop .inv .same,
+      c .before .before .before .before .before .before .block-bytes .ensures,
+      c .before .before .before .before .before .before .before .before .before .before .good,
+    )
 
 sub-left : tie.Need-sub-left Inv-loop μ-loop
 sub-left c = omega arith

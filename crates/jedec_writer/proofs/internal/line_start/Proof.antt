@@ -28,31 +28,53 @@ mul-twos-2 : tie.Need-mul-twos-2
 mul-twos-2 c = search needs
 
 add-twos : tie.Need-add-twos
-add-twos c = omega (arith, twos-small (c .before .before .args .fuse) _ _ (c .before .before .pre) (c .before .low-bits .ensures) (c .low-bits2 .ensures))
+add-twos c = omega (
+  arith,
+  twos-small (c .before .before .args .fuse) _ _ (c .before .before .pre) (c .before .low-bits .ensures) (c .low-bits2 .ensures),
+)
 
 mul-twos-3 : tie.Need-mul-twos-3
 mul-twos-3 c = search needs
 
 add-twos-2 : tie.Need-add-twos-2
-add-twos-2 c = omega (arith, twos-small (c .before .before .args .fuse) _ _ (c .before .before .pre) (c .before .low-bits .ensures) (c .low-bits2 .ensures))
+add-twos-2 c = omega (
+  arith,
+  twos-small (c .before .before .args .fuse) _ _ (c .before .before .pre) (c .before .low-bits .ensures) (c .low-bits2 .ensures),
+)
 
 mul-tens : tie.Need-mul-tens
-mul-tens c = omega (arith, twos-small (c .before .before .args .fuse) _ _ (c .before .before .pre) (c .before .low-bits .ensures) (c .low-bits2 .ensures))
+mul-tens c = omega (
+  arith,
+  twos-small (c .before .before .args .fuse) _ _ (c .before .before .pre) (c .before .low-bits .ensures) (c .low-bits2 .ensures),
+)
 
 mul-result : tie.Need-mul-result
-mul-result c = omega (arith, twos-small (c .before .before .args .fuse) _ _ (c .before .before .pre) (c .before .low-bits .ensures) (c .low-bits2 .ensures))
+mul-result c = omega (
+  arith,
+  twos-small (c .before .before .args .fuse) _ _ (c .before .before .pre) (c .before .low-bits .ensures) (c .low-bits2 .ensures),
+)
 
 mul-result-2 : tie.Need-mul-result-2
-mul-result-2 c = omega (arith, twos-small (c .before .before .args .fuse) _ _ (c .before .before .pre) (c .before .low-bits .ensures) (c .low-bits2 .ensures), tens-small (c .before .before .args .fuse) _ _ (c .before .before .pre) (c .before .low-bits .ensures) (c .low-bits2 .ensures))
+mul-result-2 c = omega (
+  arith,
+  twos-small (c .before .before .args .fuse) _ _ (c .before .before .pre) (c .before .low-bits .ensures) (c .low-bits2 .ensures),
+  tens-small (c .before .before .args .fuse) _ _ (c .before .before .pre) (c .before .low-bits .ensures) (c .low-bits2 .ensures),
+)
 
 sub-result : tie.Need-sub-result
-sub-result c = tens-small (c .before .before .args .fuse) _ _ (c .before .before .pre) (c .before .low-bits .ensures) (c .low-bits2 .ensures)
+sub-result c =
+    tens-small (c .before .before .args .fuse) _ _ (c .before .before .pre) (c .before .low-bits .ensures) (c .low-bits2 .ensures)
 
 add-result : tie.Need-add-result
-add-result c = record { fits = rw (start-by-products (c .before .before .args .fuse) _ _ (c .before .before .pre) (c .before .low-bits .ensures) (c .low-bits2 .ensures)) (start-small (c .before .before .args .fuse)) }
+add-result c = record {
+  fits =
+      rw (start-by-products (c .before .before .args .fuse) _ _ (c .before .before .pre) (c .before .low-bits .ensures)
+      (c .low-bits2 .ensures)) (start-small (c .before .before .args .fuse));
+}
 
 returns : tie.Need-returns
-returns c = start-by-products (c .before .before .args .fuse) _ _ (c .before .before .pre) (c .before .low-bits .ensures) (c .low-bits2 .ensures)
+returns c =
+    start-by-products (c .before .before .args .fuse) _ _ (c .before .before .pre) (c .before .low-bits .ensures) (c .low-bits2 .ensures)
 
 pub line-start-spec : {M : Type 1} → statement M
 line-start-spec =

@@ -60,7 +60,19 @@ same-length : tie.Need-same-length
 same-length c = search needs
 
 returns : tie.Need-returns
-returns c = columns-of _ _ _ _ _ _ _ _ _ _ _ _ _ (c .before .before .before .before .before .before .before .before .before .before .before .before .before .before .before .before .before .before .before .before .before .pre .0) (c .before .before .before .before .before .before .before .before .before .before .before .before .before .before .before .before .before .before .before .before .before .pre .1) (c .before .before .before .before .before .before .before .before .before .before .before .before .before .before .before .before .before .before .before .before .before .pre .2) (c .before .before .before .before .before .before .before .before .before .before .before .before .before .before .before .before .before .before .before .before .before .pre .3) (c .before .before .before .before .before .before .before .before .before .before .before .before .before .before .before .before .before .before .before .before .before .pre .4) (c .before .before .before .before .before .before .before .before .before .before .before .before .before .before .before .before .before .before .put-column .ensures) (c .before .before .before .before .before .before .before .before .before .before .before .before .before .before .put-column2 .ensures) (c .before .before .before .before .before .before .before .before .before .before .put-column3 .ensures) (c .before .before .before .before .before .before .put-column4 .ensures) (c .before .before .put-column5 .ensures)
+returns c =
+    columns-of _ _ _ _ _ _ _ _ _ _ _ _ _ (c .before .before .before .before .before .before .before .before .before .before .before .before
+    .before .before .before .before .before .before .before .before .before .pre .0) (c .before .before .before .before .before .before
+    .before .before .before .before .before .before .before .before .before .before .before .before .before .before .before .pre .1)
+    (c .before .before .before .before .before .before .before .before .before .before .before .before .before .before .before .before
+    .before .before .before .before .before .pre .2) (c .before .before .before .before .before .before .before .before .before .before
+    .before .before .before .before .before .before .before .before .before .before .before .pre .3)
+    (c .before .before .before .before .before .before .before .before .before .before .before .before .before .before .before .before
+    .before .before .before .before .before .pre .4) (c .before .before .before .before .before .before .before .before .before .before
+    .before .before .before .before .before .before .before .before .put-column .ensures) (c .before .before .before .before .before .before
+    .before .before .before .before .before .before .before .before .put-column2 .ensures)
+    (c .before .before .before .before .before .before .before .before .before .before .put-column3 .ensures)
+    (c .before .before .before .before .before .before .put-column4 .ensures) (c .before .before .put-column5 .ensures)
 
 pub put-columns-spec : {M : Type 1} → statement M
 put-columns-spec =

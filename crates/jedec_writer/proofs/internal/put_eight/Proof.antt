@@ -33,7 +33,18 @@ same-length : tie.Need-same-length
 same-length c = search needs
 
 returns : tie.Need-returns
-returns c = bytes-of _ _ _ _ _ _ _ _ _ _ _ (c .before .before .before .before .before .before .before .before .before .before .before .before .before .before .before .before .before .before .before .before .before .before .before .before .before .before .before .before .before .before .put-byte .ensures) (c .before .before .before .before .before .before .before .before .before .before .before .before .before .before .before .before .before .before .before .before .before .before .before .before .before .before .put-byte2 .ensures) (c .before .before .before .before .before .before .before .before .before .before .before .before .before .before .before .before .before .before .before .before .before .before .put-byte3 .ensures) (c .before .before .before .before .before .before .before .before .before .before .before .before .before .before .before .before .before .before .put-byte4 .ensures) (c .before .before .before .before .before .before .before .before .before .before .before .before .before .before .put-byte5 .ensures) (c .before .before .before .before .before .before .before .before .before .before .put-byte6 .ensures) (c .before .before .before .before .before .before .put-byte7 .ensures) (c .before .before .put-byte8 .ensures)
+returns c =
+    bytes-of _ _ _ _ _ _ _ _ _ _ _
+    (c .before .before .before .before .before .before .before .before .before .before .before .before .before .before .before .before
+    .before .before .before .before .before .before .before .before .before .before .before .before .before .before .put-byte .ensures)
+    (c .before .before .before .before .before .before .before .before .before .before .before .before .before .before .before .before
+    .before .before .before .before .before .before .before .before .before .before .put-byte2 .ensures)
+    (c .before .before .before .before .before .before .before .before .before .before .before .before .before .before .before .before
+    .before .before .before .before .before .before .put-byte3 .ensures) (c .before .before .before .before .before .before .before .before
+    .before .before .before .before .before .before .before .before .before .before .put-byte4 .ensures)
+    (c .before .before .before .before .before .before .before .before .before .before .before .before .before .before .put-byte5 .ensures)
+    (c .before .before .before .before .before .before .before .before .before .before .put-byte6 .ensures)
+    (c .before .before .before .before .before .before .put-byte7 .ensures) (c .before .before .put-byte8 .ensures)
 
 pub put-eight-spec : {M : Type 1} → statement M
 put-eight-spec =

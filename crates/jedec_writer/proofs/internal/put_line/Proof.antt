@@ -48,7 +48,19 @@ same-length : tie.Need-same-length
 same-length c = search needs
 
 returns : tie.Need-returns
-returns c = line-of _ _ _ _ _ _ _ _ _ _ _ _ _ _ (c .before .before .before .before .before .before .before .before .before .before .before .before .before .bits-from .ensures) (c .before .before .before .before .before .before .before .before .before .before .before .before .before .before .before .before .pre .2) (c .before .before .before .before .before .before .before .before .before .before .before .before .before .before .before .before .pre .4) (c .before .before .before .before .before .before .before .before .before .before .before .before .before .before .before .before .pre .5) (c .before .before .before .before .before .before .before .before .before .before .before .before .before .before .before .before .pre .6) (c .before .before .before .before .before .before .before .before .before .before .before .before .before .before .before .before .pre .7) (c .before .before .before .before .before .before .before .before .before .before .before .before .before .before .before .before .pre .8) (c .before .before .before .before .before .before .before .before .before .before .before .before .line-start .ensures) (c .before .before .before .before .before .before .before .before .before .before .put-eight .ensures) (c .before .before .before .before .before .before .put-columns .ensures) (c .before .before .put-cells .ensures)
+returns c =
+    line-of _ _ _ _ _ _ _ _ _ _ _ _ _ _
+    (c .before .before .before .before .before .before .before .before .before .before .before .before .before .bits-from .ensures) (c
+    .before .before .before .before .before .before .before .before .before .before .before .before .before .before .before .before .pre .2)
+    (c .before .before .before .before .before .before .before .before .before .before .before .before .before .before .before .before .pre
+    .4) (c .before .before .before .before .before .before .before .before .before .before .before .before .before .before .before .before
+    .pre .5) (c .before .before .before .before .before .before .before .before .before .before .before .before .before .before .before
+    .before .pre .6) (c .before .before .before .before .before .before .before .before .before .before .before .before .before .before
+    .before .before .pre .7) (c .before .before .before .before .before .before .before .before .before .before .before .before .before
+    .before .before .before .pre .8)
+    (c .before .before .before .before .before .before .before .before .before .before .before .before .line-start .ensures)
+    (c .before .before .before .before .before .before .before .before .before .before .put-eight .ensures)
+    (c .before .before .before .before .before .before .put-columns .ensures) (c .before .before .put-cells .ensures)
 
 pub put-line-spec : {M : Type 1} → statement M
 put-line-spec =

@@ -28,11 +28,22 @@ row-out-requires c κs = search (needs, next-fuses, next-bytes)
 
 add-f : tie.Need-add-f Inv-loop μ-loop
 add-f c =
-    omega (arith, next-fuses (c .before .before .before .before .before .loop .inv) (c .before .before .before .before .loop-test .taken), c .before .before .before .before .before .before .before .row-fuses .ensures, c .before .before .before .before .before .before .before .before .before .before .good)
+    omega (
+      arith,
+      next-fuses (c .before .before .before .before .before .loop .inv) (c .before .before .before .before .loop-test .taken),
+      c .before .before .before .before .before .before .before .row-fuses .ensures,
+      c .before .before .before .before .before .before .before .before .before .before .good,
+    )
 
 add-a : tie.Need-add-a Inv-loop μ-loop
 add-a c =
-    omega (arith, next-bytes (c .before .before .before .before .before .loop .inv) (c .before .before .before .before .loop-test .taken), c .before .before .before .before .before .loop .inv .same, c .before .before .before .before .before .before .row-bytes .ensures, c .before .before .before .before .before .before .before .before .before .before .good)
+    omega (
+      arith,
+      next-bytes (c .before .before .before .before .before .loop .inv) (c .before .before .before .before .loop-test .taken),
+      c .before .before .before .before .before .loop .inv .same,
+      c .before .before .before .before .before .before .row-bytes .ensures,
+      c .before .before .before .before .before .before .before .before .before .before .good,
+    )
 
 sub-left : tie.Need-sub-left Inv-loop μ-loop
 sub-left c = omega arith

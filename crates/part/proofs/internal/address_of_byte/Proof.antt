@@ -27,12 +27,15 @@ wire-and-parts d byte block subarea row column k h e =
 
 in-main : (c : tie.After-byte) → (c .byte .given .0 .0 < 16) × (c .byte .given .0 .1 .0 < 72) × (c .byte .given .0 .1 .1 .0 < 15)
 in-main c =
-    main-parts (c .before .before .args .d) (c .before .before .args .byte) _ _ _ (c .before .before .pre .0) (c .before .before .pre .1) (c .byte .given .1)
+    main-parts (c .before .before .args .d) (c .before .before .args .byte) _ _ _ (c .before .before .pre .0)
+    (c .before .before .pre .1) (c .byte .given .1)
 
 in-wire-and : (c : tie.After-byte2)
-    → (c .byte2 .given .0 .0 < 16) × (c .byte2 .given .0 .1 .0 < 16) × (c .byte2 .given .0 .1 .1 .0 < 18) × (c .byte2 .given .0 .1 .1 .1 .0 < 5)
+    → (c .byte2 .given .0 .0 < 16) × (c .byte2 .given .0 .1 .0 < 16) × (c .byte2 .given .0 .1 .1 .0 < 18)
+    × (c .byte2 .given .0 .1 .1 .1 .0 < 5)
 in-wire-and c =
-    wire-and-parts (c .before .before .args .d) (c .before .before .args .byte) _ _ _ _ (c .before .before .pre .0) (c .before .before .pre .1) (c .byte2 .given .1)
+    wire-and-parts (c .before .before .args .d) (c .before .before .args .byte) _ _ _ _ (c .before .before .pre .0)
+    (c .before .before .pre .1) (c .byte2 .given .1)
 
 enum-known-byte : tie.Need-enum-known-byte
 enum-known-byte c = search needs

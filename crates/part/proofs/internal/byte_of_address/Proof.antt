@@ -40,13 +40,27 @@ returns : tie.Need-returns
 unfolding byteOfAddress
 returns c =
     let area = c .before .before .before .before in
-    rw (← area .field-of2 .ensures, eq-eqb _ _ (c .before .before .before .if1 .taken), area .before .field-of .ensures, c .before .before .field-of3 .ensures, c .before .field-of4 .ensures, c .field-of5 .ensures)
+    rw (
+      ← area .field-of2 .ensures,
+      eq-eqb _ _ (c .before .before .before .if1 .taken),
+      area .before .field-of .ensures,
+      c .before .before .field-of3 .ensures,
+      c .before .field-of4 .ensures,
+      c .field-of5 .ensures,
+    )
 
 returns-2 : tie.Need-returns-2
 unfolding byteOfAddress
 returns-2 c =
     let area = c .before .before .before .before in
-    rw (← area .field-of2 .ensures, ne-eqb _ _ (c .before .before .before .if1 .left), area .before .field-of .ensures, c .before .before .field-of6 .ensures, c .before .field-of7 .ensures, c .field-of8 .ensures)
+    rw (
+      ← area .field-of2 .ensures,
+      ne-eqb _ _ (c .before .before .before .if1 .left),
+      area .before .field-of .ensures,
+      c .before .before .field-of6 .ensures,
+      c .before .field-of7 .ensures,
+      c .field-of8 .ensures,
+    )
 
 pub byte-of-address-spec : {M : Type 1} → statement M
 byte-of-address-spec =

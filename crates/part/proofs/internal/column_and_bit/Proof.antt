@@ -49,7 +49,11 @@ quotient-requires c κs =
 
 add-t6 : tie.Need-add-t6
 add-t6 c =
-    omega (arith, div-le-self (c .before .before .args .rest - c .before .before .args .wide * 8) (c .before .before .args .narrow), c .quotient .ensures)
+    omega (
+      arith,
+      div-le-self (c .before .before .args .rest - c .before .before .args .wide * 8) (c .before .before .args .narrow),
+      c .quotient .ensures,
+    )
 
 mul-t10 : tie.Need-mul-t10
 mul-t10 c = record { fits = times-small _ _ _ (c .before .before .args .narrow) (c .quotient .ensures) refl (omega arith) }
@@ -58,7 +62,10 @@ sub-t11 : tie.Need-sub-t11
 sub-t11 c = times-fits _ _ _ (c .before .before .args .narrow) (c .quotient .ensures) refl
 
 returns-2 : tie.Need-returns-2
-returns-2 c = rw (le-ltb _ _ (c .before .if1 .left)) (ap (λ (x : ℕ). c .before .before .args .wide + x) (c .quotient .ensures), left-over _ _ _ (c .before .before .args .narrow) (c .quotient .ensures) refl)
+returns-2 c = rw (le-ltb _ _ (c .before .if1 .left)) (
+  ap (λ (x : ℕ). c .before .before .args .wide + x) (c .quotient .ensures),
+  left-over _ _ _ (c .before .before .args .narrow) (c .quotient .ensures) refl,
+)
 
 pub column-and-bit-spec : {M : Type 1} → statement M
 column-and-bit-spec =

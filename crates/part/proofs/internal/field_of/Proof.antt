@@ -19,7 +19,12 @@ low-bits-requires c κs = search needs
 
 cast-result : tie.Need-cast-result
 cast-result c =
-    omega (arith, c .low-bits .ensures, mod-le (c .before .args .x / 2 ^ c .before .args .from) (2 ^ c .before .args .width), shr-le (c .before .args .x) (c .before .args .from))
+    omega (
+      arith,
+      c .low-bits .ensures,
+      mod-le (c .before .args .x / 2 ^ c .before .args .from) (2 ^ c .before .args .width),
+      shr-le (c .before .args .x) (c .before .args .from),
+    )
 
 returns : tie.Need-returns
 returns c = search needs

@@ -19,7 +19,8 @@ use Rattle.part.proofs.internal.first_fuse.Tie as tie
 
 -- the blocks before one of a known device have few fuses
 blocks-before : (d : Device) (block each : ℕ) → known d ≡ true → block < d .blocks → each ≡ inBlock d 7776 648 → block * each ≤ 16 * 18144
-blocks-before d block each k h e = mul-le-mul {n₂ = 16} {m₂ = 18144} (omega (arith, blocks-small d k)) (omega (arith, in-block-small d 7776 648 k))
+blocks-before d block each k h e =
+    mul-le-mul {n₂ = 16} {m₂ = 18144} (omega (arith, blocks-small d k)) (omega (arith, in-block-small d 7776 648 k))
 
 -- the parts of a byte, as the code has them: all are small
 abbrev Small : ℕ → ℕ → ℕ → ℕ → ℕ → ℕ → Type 0
@@ -33,20 +34,27 @@ main-small d byte block row column each start k h e e1 e2 =
     (blocks-before d block each k (omega arith) e1, omega arith, omega arith, omega (arith, start-le 9 6 column (omega arith)))
 
 wire-and-small : (d : Device) (byte : BytePlace) (block subarea row column each start : ℕ) → known d ≡ true → hasByte d byte ≡ true
-    → byte ≡ WireAnd block subarea row column → each ≡ inBlock d 7776 648 → start ≡ wireAndStart column → Small block each subarea row start 18
+    → byte ≡ WireAnd block subarea row column → each ≡ inBlock d 7776 648 → start ≡ wireAndStart column
+    → Small block each subarea row start 18
 wire-and-small d byte block subarea row column each start k h e e1 e2 =
-    let facts = simp tests at (rw e at h) in
-    (blocks-before d block each k (omega arith) e1, omega (arith, blocks-small d k), omega arith, omega (arith, start-le 1 7 column (omega arith)))
+    let facts = simp tests at (rw e at h) in (
+      blocks-before d block each k (omega arith) e1,
+      omega (arith, blocks-small d k),
+      omega arith,
+      omega (arith, start-le 1 7 column (omega arith)),
+    )
 
 in-main : (c : tie.After-column-start)
-    → Small (c .before .before .byte .given .0 .0) (c .before .before .before .before .in-block .result) 0 (c .before .before .byte .given .0 .1 .0) (c .column-start .result) 72
+    → Small (c .before .before .byte .given .0 .0) (c .before .before .before .before .in-block .result) 0
+    (c .before .before .byte .given .0 .1 .0) (c .column-start .result) 72
 in-main c =
     main-small (c .before .before .before .before .before .args .d) (c .before .before .before .before .before .args .byte) _ _ _ _ _
     (c .before .before .before .before .before .pre .0) (c .before .before .before .before .before .pre .1)
     (c .before .before .byte .given .1) (c .before .before .before .before .in-block .ensures) (c .column-start .ensures)
 
 in-wire-and : (c : tie.After-column-start2)
-    → Small (c .before .before .byte2 .given .0 .0) (c .before .before .before .before .in-block .result) (c .before .before .byte2 .given .0 .1 .0) (c .before .before .byte2 .given .0 .1 .1 .0) (c .column-start2 .result) 18
+    → Small (c .before .before .byte2 .given .0 .0) (c .before .before .before .before .in-block .result)
+    (c .before .before .byte2 .given .0 .1 .0) (c .before .before .byte2 .given .0 .1 .1 .0) (c .column-start2 .result) 18
 in-wire-and c =
     wire-and-small (c .before .before .before .before .before .args .d) (c .before .before .before .before .before .args .byte) _ _ _ _ _ _
     (c .before .before .before .before .before .pre .0) (c .before .before .before .before .before .pre .1)

@@ -14,7 +14,11 @@ in-block-requires c κs = search needs
 mul-result : tie.Need-mul-result
 mul-result c =
     rw (c .before .in-block .ensures)
-    (omega (arith, in-device-small (c .before .before .args .d) (c .before .before .args .main) (c .before .before .args .subarea) (c .before .before .pre .0)))
+    (omega (
+      arith,
+      in-device-small (c .before .before .args .d) (c .before .before .args .main) (c .before .before .args .subarea)
+          (c .before .before .pre .0),
+    ))
 
 returns : tie.Need-returns
 returns c = ap (λ (x : ℕ). c .before .before .args .d .blocks * x) (c .before .in-block .ensures)

@@ -37,46 +37,107 @@ enum-known-byte : tie.Need-enum-known-byte
 enum-known-byte c = search needs
 
 mul-result : tie.Need-mul-result
-mul-result c = omega (arith, in-main (c .before .before .before .before .args .d) (c .before .before .before .before .args .byte) _ _ _ (c .before .before .before .in-block .result) (c .before .before .before .before .pre .0) (c .before .before .before .before .pre .1) (c .before .byte .given .1) (c .before .before .before .in-block .ensures))
+mul-result c = omega (
+  arith,
+  in-main (c .before .before .before .before .args .d) (c .before .before .before .before .args .byte) _ _ _
+      (c .before .before .before .in-block .result) (c .before .before .before .before .pre .0) (c .before .before .before .before .pre .1)
+      (c .before .byte .given .1) (c .before .before .before .in-block .ensures),
+)
 
 mul-result-2 : tie.Need-mul-result-2
-mul-result-2 c = omega (arith, in-main (c .before .before .before .before .args .d) (c .before .before .before .before .args .byte) _ _ _ (c .before .before .before .in-block .result) (c .before .before .before .before .pre .0) (c .before .before .before .before .pre .1) (c .before .byte .given .1) (c .before .before .before .in-block .ensures))
+mul-result-2 c = omega (
+  arith,
+  in-main (c .before .before .before .before .args .d) (c .before .before .before .before .args .byte) _ _ _
+      (c .before .before .before .in-block .result) (c .before .before .before .before .pre .0) (c .before .before .before .before .pre .1)
+      (c .before .byte .given .1) (c .before .before .before .in-block .ensures),
+)
 
 add-result : tie.Need-add-result
-add-result c = omega (arith, in-main (c .before .before .before .before .args .d) (c .before .before .before .before .args .byte) _ _ _ (c .before .before .before .in-block .result) (c .before .before .before .before .pre .0) (c .before .before .before .before .pre .1) (c .before .byte .given .1) (c .before .before .before .in-block .ensures))
+add-result c = omega (
+  arith,
+  in-main (c .before .before .before .before .args .d) (c .before .before .before .before .args .byte) _ _ _
+      (c .before .before .before .in-block .result) (c .before .before .before .before .pre .0) (c .before .before .before .before .pre .1)
+      (c .before .byte .given .1) (c .before .before .before .in-block .ensures),
+)
 
 add-result-2 : tie.Need-add-result-2
-add-result-2 c = omega (arith, in-main (c .before .before .before .before .args .d) (c .before .before .before .before .args .byte) _ _ _ (c .before .before .before .in-block .result) (c .before .before .before .before .pre .0) (c .before .before .before .before .pre .1) (c .before .byte .given .1) (c .before .before .before .in-block .ensures))
+add-result-2 c = omega (
+  arith,
+  in-main (c .before .before .before .before .args .d) (c .before .before .before .before .args .byte) _ _ _
+      (c .before .before .before .in-block .result) (c .before .before .before .before .pre .0) (c .before .before .before .before .pre .1)
+      (c .before .byte .given .1) (c .before .before .before .in-block .ensures),
+)
 
 enum-known-byte-2 : tie.Need-enum-known-byte-2
 enum-known-byte-2 c = search needs
 
 mul-in-subarea : tie.Need-mul-in-subarea
-mul-in-subarea c = omega (arith, in-wire-and (c .before .before .before .before .args .d) (c .before .before .before .before .args .byte) _ _ _ _ (c .before .before .before .in-block .result) (c .before .before .before .before .pre .0) (c .before .before .before .before .pre .1) (c .before .byte2 .given .1) (c .before .before .before .in-block .ensures))
+mul-in-subarea c = omega (
+  arith,
+  in-wire-and (c .before .before .before .before .args .d) (c .before .before .before .before .args .byte) _ _ _ _
+      (c .before .before .before .in-block .result) (c .before .before .before .before .pre .0) (c .before .before .before .before .pre .1)
+      (c .before .byte2 .given .1) (c .before .before .before .in-block .ensures),
+)
 
 add-in-subarea : tie.Need-add-in-subarea
-add-in-subarea c = omega (arith, in-wire-and (c .before .before .before .before .args .d) (c .before .before .before .before .args .byte) _ _ _ _ (c .before .before .before .in-block .result) (c .before .before .before .before .pre .0) (c .before .before .before .before .pre .1) (c .before .byte2 .given .1) (c .before .before .before .in-block .ensures))
+add-in-subarea c = omega (
+  arith,
+  in-wire-and (c .before .before .before .before .args .d) (c .before .before .before .before .args .byte) _ _ _ _
+      (c .before .before .before .in-block .result) (c .before .before .before .before .pre .0) (c .before .before .before .before .pre .1)
+      (c .before .byte2 .given .1) (c .before .before .before .in-block .ensures),
+)
 
 mul-result-3 : tie.Need-mul-result-3
-mul-result-3 c = omega (arith, in-wire-and (c .before .before .before .before .args .d) (c .before .before .before .before .args .byte) _ _ _ _ (c .before .before .before .in-block .result) (c .before .before .before .before .pre .0) (c .before .before .before .before .pre .1) (c .before .byte2 .given .1) (c .before .before .before .in-block .ensures))
+mul-result-3 c = omega (
+  arith,
+  in-wire-and (c .before .before .before .before .args .d) (c .before .before .before .before .args .byte) _ _ _ _
+      (c .before .before .before .in-block .result) (c .before .before .before .before .pre .0) (c .before .before .before .before .pre .1)
+      (c .before .byte2 .given .1) (c .before .before .before .in-block .ensures),
+)
 
 mul-result-4 : tie.Need-mul-result-4
-mul-result-4 c = omega (arith, in-wire-and (c .before .before .before .before .args .d) (c .before .before .before .before .args .byte) _ _ _ _ (c .before .before .before .in-block .result) (c .before .before .before .before .pre .0) (c .before .before .before .before .pre .1) (c .before .byte2 .given .1) (c .before .before .before .in-block .ensures))
+mul-result-4 c = omega (
+  arith,
+  in-wire-and (c .before .before .before .before .args .d) (c .before .before .before .before .args .byte) _ _ _ _
+      (c .before .before .before .in-block .result) (c .before .before .before .before .pre .0) (c .before .before .before .before .pre .1)
+      (c .before .byte2 .given .1) (c .before .before .before .in-block .ensures),
+)
 
 add-result-3 : tie.Need-add-result-3
-add-result-3 c = omega (arith, in-wire-and (c .before .before .before .before .args .d) (c .before .before .before .before .args .byte) _ _ _ _ (c .before .before .before .in-block .result) (c .before .before .before .before .pre .0) (c .before .before .before .before .pre .1) (c .before .byte2 .given .1) (c .before .before .before .in-block .ensures))
+add-result-3 c = omega (
+  arith,
+  in-wire-and (c .before .before .before .before .args .d) (c .before .before .before .before .args .byte) _ _ _ _
+      (c .before .before .before .in-block .result) (c .before .before .before .before .pre .0) (c .before .before .before .before .pre .1)
+      (c .before .byte2 .given .1) (c .before .before .before .in-block .ensures),
+)
 
 add-result-4 : tie.Need-add-result-4
-add-result-4 c = omega (arith, in-wire-and (c .before .before .before .before .args .d) (c .before .before .before .before .args .byte) _ _ _ _ (c .before .before .before .in-block .result) (c .before .before .before .before .pre .0) (c .before .before .before .before .pre .1) (c .before .byte2 .given .1) (c .before .before .before .in-block .ensures))
+add-result-4 c = omega (
+  arith,
+  in-wire-and (c .before .before .before .before .args .d) (c .before .before .before .before .args .byte) _ _ _ _
+      (c .before .before .before .in-block .result) (c .before .before .before .before .pre .0) (c .before .before .before .before .pre .1)
+      (c .before .byte2 .given .1) (c .before .before .before .in-block .ensures),
+)
 
 add-result-5 : tie.Need-add-result-5
-add-result-5 c = omega (arith, in-wire-and (c .before .before .before .before .args .d) (c .before .before .before .before .args .byte) _ _ _ _ (c .before .before .before .in-block .result) (c .before .before .before .before .pre .0) (c .before .before .before .before .pre .1) (c .before .byte2 .given .1) (c .before .before .before .in-block .ensures))
+add-result-5 c = omega (
+  arith,
+  in-wire-and (c .before .before .before .before .args .d) (c .before .before .before .before .args .byte) _ _ _ _
+      (c .before .before .before .in-block .result) (c .before .before .before .before .pre .0) (c .before .before .before .before .pre .1)
+      (c .before .byte2 .given .1) (c .before .before .before .in-block .ensures),
+)
 
 returns : tie.Need-returns
-returns c = in-main (c .before .before .before .before .args .d) (c .before .before .before .before .args .byte) _ _ _ (c .before .before .before .in-block .result) (c .before .before .before .before .pre .0) (c .before .before .before .before .pre .1) (c .before .byte .given .1) (c .before .before .before .in-block .ensures) .0
+returns c =
+    in-main (c .before .before .before .before .args .d) (c .before .before .before .before .args .byte) _ _ _
+    (c .before .before .before .in-block .result) (c .before .before .before .before .pre .0) (c .before .before .before .before .pre .1)
+    (c .before .byte .given .1) (c .before .before .before .in-block .ensures) .0
 
 returns-2 : tie.Need-returns-2
-returns-2 c = in-wire-and (c .before .before .before .before .args .d) (c .before .before .before .before .args .byte) _ _ _ _ (c .before .before .before .in-block .result) (c .before .before .before .before .pre .0) (c .before .before .before .before .pre .1) (c .before .byte2 .given .1) (c .before .before .before .in-block .ensures) .0
+returns-2 c =
+    in-wire-and (c .before .before .before .before .args .d) (c .before .before .before .before .args .byte) _ _ _ _
+    (c .before .before .before .in-block .result) (c .before .before .before .before .pre .0) (c .before .before .before .before .pre .1)
+    (c .before .byte2 .given .1) (c .before .before .before .in-block .ensures) .0
 
 pub index-of-byte-spec : {M : Type 1} → statement M
 index-of-byte-spec =

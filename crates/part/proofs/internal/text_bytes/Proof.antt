@@ -22,12 +22,19 @@ add-result c = omega (arith, c .decimal-digits .ensures, digits-small (c .before
 
 add-result-2 : tie.Need-add-result-2
 add-result-2 c =
-    omega (arith, c .decimal-digits .ensures, digits-small (c .before .fuse-count .result), c .before .before .in-device .ensures, in-device-small (c .before .before .before .args .d) 11016 918 (c .before .before .before .pre))
+    omega (
+      arith,
+      c .decimal-digits .ensures,
+      digits-small (c .before .fuse-count .result),
+      c .before .before .in-device .ensures,
+      in-device-small (c .before .before .before .args .d) 11016 918 (c .before .before .before .pre),
+    )
 
 returns : tie.Need-returns
 unfolding textBytes
 returns c =
-    let digits : c .decimal-digits .result ≡ decimalDigits (fuseCount (c .before .before .before .args .d)) = c .decimal-digits .ensures ∙ ap decimalDigits (c .before .fuse-count .ensures) in
+    let digits : c .decimal-digits .result ≡ decimalDigits (fuseCount (c .before .before .before .args .d)) =
+    c .decimal-digits .ensures ∙ ap decimalDigits (c .before .fuse-count .ensures) in
     omega (arith, digits, c .before .before .in-device .ensures)
 
 pub text-bytes-spec : {M : Type 1} → statement M

@@ -31,7 +31,14 @@ returns : tie.Need-returns
 returns c =
     let subarea = c .before .before .quotient .ensures in
     let row = c .before .quotient2 .ensures in
-    rw (c .column-and-bit .ensures .0, c .column-and-bit .ensures .1, left-over _ _ _ 36 row refl, row, left-over _ _ _ 648 subarea refl, subarea)
+    rw (
+      c .column-and-bit .ensures .0,
+      c .column-and-bit .ensures .1,
+      left-over _ _ _ 36 row refl,
+      row,
+      left-over _ _ _ 648 subarea refl,
+      subarea,
+    )
 
 pub wire-and-place-spec : {M : Type 1} → statement M
 wire-and-place-spec =

@@ -11,7 +11,13 @@ use Rattle.readout.proofs.internal.block_in.Tie as tie
 
 pairs-in-requires : tie.Need-pairs-in-requires
 pairs-in-requires c κs =
-    omega (arith, block-size (c .before .before .before .args .d), block-whole (c .before .before .before .args .d), main-pair true refl, c .before .before .before .pre)
+    omega (
+      arith,
+      block-size (c .before .before .before .args .d),
+      block-whole (c .before .before .before .args .d),
+      main-pair true refl,
+      c .before .before .before .pre,
+    )
 
 cast-pairs : tie.Need-cast-pairs
 cast-pairs c = search needs
@@ -27,7 +33,13 @@ add-pairs-in-2 c = search needs
 
 pairs-in-requires-2 : tie.Need-pairs-in-requires-2
 pairs-in-requires-2 c κs =
-    rw (wire-and-pair false refl .0, wire-and-pair false refl .1) (omega (arith, block-size (c .before .before .before .before .before .before .before .before .args .d), block-whole (c .before .before .before .before .before .before .before .before .args .d), c .before .before .before .before .before .before .before .before .pre, c .before .before .before .before .pairs-in .kept))
+    rw (wire-and-pair false refl .0, wire-and-pair false refl .1) (omega (
+      arith,
+      block-size (c .before .before .before .before .before .before .before .before .args .d),
+      block-whole (c .before .before .before .before .before .before .before .before .args .d),
+      c .before .before .before .before .before .before .before .before .pre,
+      c .before .before .before .before .pairs-in .kept,
+    ))
 
 same-length : tie.Need-same-length
 same-length c = search needs

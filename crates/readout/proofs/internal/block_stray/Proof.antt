@@ -29,7 +29,8 @@ add-rows-stray c = search needs
 
 rows-stray-requires-2 : tie.Need-rows-stray-requires-2
 rows-stray-requires-2 c κs =
-    rw (wire-and-size false refl .1) (omega (arith, block-size (c .before .before .before .before .args .d), c .before .before .before .before .pre))
+    rw (wire-and-size false refl .1)
+    (omega (arith, block-size (c .before .before .before .before .args .d), c .before .before .before .before .pre))
 
 returns-2 : tie.Need-returns-2
 returns-2 c = search (needs, block-fine-on)

@@ -30,7 +30,8 @@ joined p a b ha e =
     let one : p % 16777216 ≡ a = omega arith in
     rw one (omega arith)
 
-flat : (a b c d e : ℕ) → a + b * 2 ^ 8 + c * 2 ^ 15 + (d + e * 2 ^ 7) * 2 ^ 22 ≡ ((((0 * 2 ^ 7 + e) * 2 ^ 7 + d) * 2 ^ 7 + c) * 2 ^ 7 + b) * 2 ^ 8 + a
+flat : (a b c d e : ℕ)
+    → a + b * 2 ^ 8 + c * 2 ^ 15 + (d + e * 2 ^ 7) * 2 ^ 22 ≡ ((((0 * 2 ^ 7 + e) * 2 ^ 7 + d) * 2 ^ 7 + c) * 2 ^ 7 + b) * 2 ^ 8 + a
 flat a b c d e = omega arith
 
 small : (a b c : ℕ) → a < 2 ^ 8 → b < 2 ^ 7 → c < 2 ^ 7 → a + b * 2 ^ 8 + c * 2 ^ 15 < 2 ^ 22
@@ -38,11 +39,14 @@ small a b c ha hb hc = omega arith
 
 of-word : (w : ℕ)
     → (bitAnd w 0x7F007F0000 / 2 ^ 1 ≤ bitAnd w 0x7F7F7F7FFF)
-    × (bitAnd w 0x7F7F7F7FFF - bitAnd w 0x7F007F0000 / 2 ^ 1 ≡ past w 0 % 2 ^ 8 + past w 1 % 2 ^ 7 * 2 ^ 8 + past w 2 % 2 ^ 7 * 2 ^ 15 + (past w 3 % 2 ^ 7 + past w 4 % 2 ^ 7 * 2 ^ 7) * 2 ^ 24)
+    × (bitAnd w 0x7F7F7F7FFF - bitAnd w 0x7F007F0000 / 2 ^ 1
+    ≡ past w 0 % 2 ^ 8 + past w 1 % 2 ^ 7 * 2 ^ 8 + past w 2 % 2 ^ 7 * 2 ^ 15 + (past w 3 % 2 ^ 7 + past w 4 % 2 ^ 7 * 2 ^ 7) * 2 ^ 24)
 unfolding fields mask narrow rowWidths
 of-word w =
-    paired (bitAnd w 0x7F7F7F7FFF) (bitAnd w 0x7F007F0000) (past w 0 % 2 ^ 8) (past w 1 % 2 ^ 7) (past w 2 % 2 ^ 7) (past w 3 % 2 ^ 7) (past w 4 % 2 ^ 7) (past w 0 % 2 ^ 0) (past w 1 % 2 ^ 0) (past w 3 % 2 ^ 0)
-    (masked (rowWidths false) w refl) (masked (0 ∷ 0 ∷ 7 ∷ 0 ∷ 7 ∷ []) w refl) (mod-one (past w 0)) (mod-one (past w 1)) (mod-one (past w 3))
+    paired (bitAnd w 0x7F7F7F7FFF) (bitAnd w 0x7F007F0000) (past w 0 % 2 ^ 8) (past w 1 % 2 ^ 7) (past w 2 % 2 ^ 7) (past w 3 % 2 ^ 7)
+    (past w 4 % 2 ^ 7) (past w 0 % 2 ^ 0) (past w 1 % 2 ^ 0) (past w 3 % 2 ^ 0)
+    (masked (rowWidths false) w refl) (masked (0 ∷ 0 ∷ 7 ∷ 0 ∷ 7 ∷ []) w refl) (mod-one (past w 0))
+    (mod-one (past w 1)) (mod-one (past w 3))
 
 sub-pairs : tie.Need-sub-pairs
 sub-pairs c = of-word (c .args .word) .0
@@ -58,8 +62,10 @@ unfolding packed narrow rowWidths
 returns c =
     let w = c .args .word in
     let below : (x : ℕ) → x % 2 ^ 7 < 2 ^ 7 = λ x. mod-lt x (pow-pos 7) in
-    joined (bitAnd w 0x7F7F7F7FFF - bitAnd w 0x7F007F0000 / 2 ^ 1) (past w 0 % 2 ^ 8 + past w 1 % 2 ^ 7 * 2 ^ 8 + past w 2 % 2 ^ 7 * 2 ^ 15) (past w 3 % 2 ^ 7 + past w 4 % 2 ^ 7 * 2 ^ 7)
-    (small (past w 0 % 2 ^ 8) (past w 1 % 2 ^ 7) (past w 2 % 2 ^ 7) (mod-lt w (pow-pos 8)) (below (past w 1)) (below (past w 2))) (of-word w .1)
+    joined (bitAnd w 0x7F7F7F7FFF - bitAnd w 0x7F007F0000 / 2 ^ 1) (past w 0 % 2 ^ 8 + past w 1 % 2 ^ 7 * 2 ^ 8 + past w 2 % 2 ^ 7 * 2 ^ 15)
+    (past w 3 % 2 ^ 7 + past w 4 % 2 ^ 7 * 2 ^ 7)
+    (small (past w 0 % 2 ^ 8) (past w 1 % 2 ^ 7) (past w 2 % 2 ^ 7) (mod-lt w (pow-pos 8)) (below (past w 1)) (below (past w 2)))
+    (of-word w .1)
     ∙ flat (past w 0 % 2 ^ 8) (past w 1 % 2 ^ 7) (past w 2 % 2 ^ 7) (past w 3 % 2 ^ 7) (past w 4 % 2 ^ 7)
     ∙ packed-cells (rowWidths false) w refl
 

@@ -7,10 +7,15 @@ use Rattle.readout.proofs.internal.pair_in.Statement.{statement}
 use Rattle.readout.proofs.internal.pair_in.Tie as tie
 
 main-rows-in-requires : tie.Need-main-rows-in-requires
-main-rows-in-requires c κs = omega (arith, main-pair (c .before .before .before .before .args .main) (c .before .if1 .taken), c .before .before .before .before .pre)
+main-rows-in-requires c κs =
+    omega (arith, main-pair (c .before .before .before .before .args .main) (c .before .if1 .taken), c .before .before .before .before .pre)
 
 wire-and-rows-in-requires : tie.Need-wire-and-rows-in-requires
-wire-and-rows-in-requires c κs = omega (arith, wire-and-pair (c .before .before .before .before .args .main) (c .before .if1 .left), c .before .before .before .before .pre)
+wire-and-rows-in-requires c κs = omega (
+  arith,
+  wire-and-pair (c .before .before .before .before .args .main) (c .before .if1 .left),
+  c .before .before .before .before .pre,
+)
 
 same-length : tie.Need-same-length
 same-length c = search needs

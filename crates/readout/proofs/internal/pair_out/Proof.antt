@@ -8,7 +8,8 @@ use Rattle.readout.proofs.internal.pair_out.Statement.{statement}
 use Rattle.readout.proofs.internal.pair_out.Tie as tie
 
 main-row-out-requires : tie.Need-main-row-out-requires
-main-row-out-requires c κs = omega (arith, main-pair (c .before .before .before .before .args .main) (c .before .if1 .taken), c .before .before .before .before .pre)
+main-row-out-requires c κs =
+    omega (arith, main-pair (c .before .before .before .before .args .main) (c .before .if1 .taken), c .before .before .before .before .pre)
 
 add-main-row-out : tie.Need-add-main-row-out
 add-main-row-out c = search needs
@@ -17,10 +18,20 @@ add-main-row-out-2 : tie.Need-add-main-row-out-2
 add-main-row-out-2 c = search needs
 
 main-row-out-requires-2 : tie.Need-main-row-out-requires-2
-main-row-out-requires-2 c κs = omega (arith, main-pair (c .before .before .before .before .before .before .before .before .args .main) (c .before .before .before .before .before .if1 .taken), c .before .before .before .before .before .before .before .before .pre, c .before .before .before .main-row-out .kept)
+main-row-out-requires-2 c κs = omega (
+  arith,
+  main-pair (c .before .before .before .before .before .before .before .before .args .main)
+      (c .before .before .before .before .before .if1 .taken),
+  c .before .before .before .before .before .before .before .before .pre,
+  c .before .before .before .main-row-out .kept,
+)
 
 wire-and-row-out-requires : tie.Need-wire-and-row-out-requires
-wire-and-row-out-requires c κs = omega (arith, wire-and-pair (c .before .before .before .before .args .main) (c .before .if1 .left), c .before .before .before .before .pre)
+wire-and-row-out-requires c κs = omega (
+  arith,
+  wire-and-pair (c .before .before .before .before .args .main) (c .before .if1 .left),
+  c .before .before .before .before .pre,
+)
 
 add-wire-and-row-out : tie.Need-add-wire-and-row-out
 add-wire-and-row-out c = search needs
@@ -29,7 +40,13 @@ add-wire-and-row-out-2 : tie.Need-add-wire-and-row-out-2
 add-wire-and-row-out-2 c = search needs
 
 wire-and-row-out-requires-2 : tie.Need-wire-and-row-out-requires-2
-wire-and-row-out-requires-2 c κs = omega (arith, wire-and-pair (c .before .before .before .before .before .before .before .before .args .main) (c .before .before .before .before .before .if1 .left), c .before .before .before .before .before .before .before .before .pre, c .before .before .before .wire-and-row-out .kept)
+wire-and-row-out-requires-2 c κs = omega (
+  arith,
+  wire-and-pair (c .before .before .before .before .before .before .before .before .args .main)
+      (c .before .before .before .before .before .if1 .left),
+  c .before .before .before .before .before .before .before .before .pre,
+  c .before .before .before .wire-and-row-out .kept,
+)
 
 same-length : tie.Need-same-length
 same-length c = search needs

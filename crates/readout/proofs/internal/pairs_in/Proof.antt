@@ -36,11 +36,22 @@ pair-in-requires c κs = search (needs, next-cells, next-bytes-in)
 
 add-a : tie.Need-add-a Inv-loop μ-loop
 add-a c =
-    omega (arith, next-cells (c .before .before .before .before .before .loop .inv) (c .before .before .before .before .loop-test .taken), c .before .before .before .before .before .before .pair-readout-bytes .ensures, c .before .before .before .before .before .before .before .before .before .before .good)
+    omega (
+      arith,
+      next-cells (c .before .before .before .before .before .loop .inv) (c .before .before .before .before .loop-test .taken),
+      c .before .before .before .before .before .before .pair-readout-bytes .ensures,
+      c .before .before .before .before .before .before .before .before .before .before .good,
+    )
 
 add-b : tie.Need-add-b Inv-loop μ-loop
 add-b c =
-    omega (arith, next-bytes-in (c .before .before .before .before .before .loop .inv) (c .before .before .before .before .loop-test .taken), c .before .before .before .before .before .loop .inv .same, c .before .before .before .before .before .before .before .pair-image-bytes .ensures, c .before .before .before .before .before .before .before .before .before .before .good)
+    omega (
+      arith,
+      next-bytes-in (c .before .before .before .before .before .loop .inv) (c .before .before .before .before .loop-test .taken),
+      c .before .before .before .before .before .loop .inv .same,
+      c .before .before .before .before .before .before .before .pair-image-bytes .ensures,
+      c .before .before .before .before .before .before .before .before .before .before .good,
+    )
 
 sub-left : tie.Need-sub-left Inv-loop μ-loop
 sub-left c = omega arith

@@ -36,11 +36,22 @@ pair-out-requires c κs = search (needs, next-image, next-cells)
 
 add-b : tie.Need-add-b Inv-loop μ-loop
 add-b c =
-    omega (arith, next-image (c .before .before .before .before .before .loop .inv) (c .before .before .before .before .loop-test .taken), c .before .before .before .before .before .before .before .pair-image-bytes .ensures, c .before .before .before .before .before .before .before .before .before .before .good)
+    omega (
+      arith,
+      next-image (c .before .before .before .before .before .loop .inv) (c .before .before .before .before .loop-test .taken),
+      c .before .before .before .before .before .before .before .pair-image-bytes .ensures,
+      c .before .before .before .before .before .before .before .before .before .before .good,
+    )
 
 add-a : tie.Need-add-a Inv-loop μ-loop
 add-a c =
-    omega (arith, next-cells (c .before .before .before .before .before .loop .inv) (c .before .before .before .before .loop-test .taken), c .before .before .before .before .before .loop .inv .same, c .before .before .before .before .before .before .pair-readout-bytes .ensures, c .before .before .before .before .before .before .before .before .before .before .good)
+    omega (
+      arith,
+      next-cells (c .before .before .before .before .before .loop .inv) (c .before .before .before .before .loop-test .taken),
+      c .before .before .before .before .before .loop .inv .same,
+      c .before .before .before .before .before .before .pair-readout-bytes .ensures,
+      c .before .before .before .before .before .before .before .before .before .before .good,
+    )
 
 sub-left : tie.Need-sub-left Inv-loop μ-loop
 sub-left c = omega arith

@@ -16,7 +16,8 @@ same-length c = search needs
 
 returns : tie.Need-returns
 returns c =
-    of-cells _ _ _ _ _ _ _ _ _ (c .before .before .before .before .joined .ensures) (c .before .before .put-above .ensures .0) (c .before .before .put-above .ensures .1)
+    of-cells _ _ _ _ _ _ _ _ _ (c .before .before .before .before .joined .ensures) (c .before .before .put-above .ensures .0)
+    (c .before .before .put-above .ensures .1)
 
 pub push-spec : {M : Type 1} → statement M
 push-spec = tie.close (tie.spec joined-requires put-above-requires same-length returns)

@@ -16,7 +16,8 @@ same-length c = search needs
 
 returns : tie.Need-returns
 returns c =
-    of-cells _ _ _ _ _ 8 _ _ _ (c .before .before .before .before .word8 .ensures) (c .before .before .put-eight .ensures .0) (c .before .before .put-eight .ensures .1)
+    of-cells _ _ _ _ _ 8 _ _ _ (c .before .before .before .before .word8 .ensures) (c .before .before .put-eight .ensures .0)
+    (c .before .before .put-eight .ensures .1)
 
 pub push-eight-spec : {M : Type 1} → statement M
 push-eight-spec = tie.close (tie.spec word8-requires put-eight-requires same-length returns)

@@ -29,7 +29,10 @@ same-length c = search needs
 returns : tie.Need-returns
 returns c =
     let start = c .before .before .before .before .before .before .before .before in
-    of-six (start .args .readout .now) (start .args .at) (start .args .skip) _ _ _ _ _ (start .args .bytes) _ _ _ (start .pre .0) (start .pre .1) (start .pre .2) (c .before .before .before .before .before .word8 .ensures) (c .before .before .before .before .six-together .ensures) (c .before .before .put-above .ensures .0) (c .before .before .put-above .ensures .1)
+    of-six (start .args .readout .now) (start .args .at) (start .args .skip) _ _ _ _ _ (start .args .bytes) _ _ _ (start .pre .0)
+    (start .pre .1) (start .pre .2) (c .before .before .before .before .before .word8 .ensures)
+    (c .before .before .before .before .six-together .ensures) (c .before .before .put-above .ensures .0)
+    (c .before .before .put-above .ensures .1)
 
 pub push-six-spec : {M : Type 1} → statement M
 push-six-spec =

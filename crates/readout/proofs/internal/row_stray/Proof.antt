@@ -18,18 +18,24 @@ add-result c = search needs
 
 returns : tie.Need-returns
 returns c =
-    main-row-clear _ _ _ _ (c .before .before .before .shared-slice-known .given) (c .before .before .if1 .taken) (c .before .word8 .ensures) (c .if2 .taken)
+    main-row-clear _ _ _ _ (c .before .before .before .shared-slice-known .given) (c .before .before .if1 .taken)
+    (c .before .word8 .ensures) (c .if2 .taken)
 
 add-run-stray : tie.Need-add-run-stray
 add-run-stray c = search needs
 
 run-stray-requires : tie.Need-run-stray-requires
 run-stray-requires c κs =
-    omega (arith, main-size (c .before .before .before .before .args .main) (c .before .before .if1 .taken), c .before .before .before .before .pre)
+    omega (
+      arith,
+      main-size (c .before .before .before .before .args .main) (c .before .before .if1 .taken),
+      c .before .before .before .before .pre,
+    )
 
 returns-2 : tie.Need-returns-2
 returns-2 c =
-    main-row-fine _ _ _ _ (c .before .before .before .before .shared-slice-known .given) (c .before .before .before .if1 .taken) (c .run-stray .ensures)
+    main-row-fine _ _ _ _ (c .before .before .before .before .shared-slice-known .given)
+    (c .before .before .before .if1 .taken) (c .run-stray .ensures)
 
 add-joined : tie.Need-add-joined
 add-joined c = search needs
@@ -42,18 +48,24 @@ add-result-2 c = search needs
 
 returns-3 : tie.Need-returns-3
 returns-3 c =
-    wire-and-row-clear _ _ _ _ (c .before .before .before .shared-slice-known .given) (c .before .before .if1 .left) (c .before .joined .ensures) (c .if3 .taken)
+    wire-and-row-clear _ _ _ _ (c .before .before .before .shared-slice-known .given) (c .before .before .if1 .left)
+    (c .before .joined .ensures) (c .if3 .taken)
 
 add-run-stray-2 : tie.Need-add-run-stray-2
 add-run-stray-2 c = search needs
 
 run-stray-requires-2 : tie.Need-run-stray-requires-2
 run-stray-requires-2 c κs =
-    omega (arith, wire-and-size (c .before .before .before .before .args .main) (c .before .before .if1 .left), c .before .before .before .before .pre)
+    omega (
+      arith,
+      wire-and-size (c .before .before .before .before .args .main) (c .before .before .if1 .left),
+      c .before .before .before .before .pre,
+    )
 
 returns-4 : tie.Need-returns-4
 returns-4 c =
-    wire-and-row-fine _ _ _ _ (c .before .before .before .before .shared-slice-known .given) (c .before .before .before .if1 .left) (c .run-stray2 .ensures)
+    wire-and-row-fine _ _ _ _ (c .before .before .before .before .shared-slice-known .given) (c .before .before .before .if1 .left)
+    (c .run-stray2 .ensures)
 
 pub row-stray-spec : {M : Type 1} → statement M
 row-stray-spec =

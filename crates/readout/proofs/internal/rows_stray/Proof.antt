@@ -23,7 +23,12 @@ row-stray-requires : tie.Need-row-stray-requires Inv-loop μ-loop
 row-stray-requires c κs = search (needs, scan-room)
 
 add-a : tie.Need-add-a Inv-loop μ-loop
-add-a c = omega (arith, scan-room (c .before .before .loop .inv) (c .before .loop-test .taken), c .before .before .before .row-bytes .ensures, c .before .before .before .before .before .good)
+add-a c = omega (
+  arith,
+  scan-room (c .before .before .loop .inv) (c .before .loop-test .taken),
+  c .before .before .before .row-bytes .ensures,
+  c .before .before .before .before .before .good,
+)
 
 returns : tie.Need-returns Inv-loop μ-loop
 returns c = search (needs, scan-found)

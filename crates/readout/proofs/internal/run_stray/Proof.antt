@@ -29,7 +29,11 @@ returns : tie.Need-returns Inv-loop μ-loop
 returns c = search (needs, run-found)
 
 add-a : tie.Need-add-a Inv-loop μ-loop
-add-a c = omega (arith, run-room (c .before .before .before .loop .inv) (c .before .before .loop-test .taken), c .before .before .before .before .good)
+add-a c = omega (
+  arith,
+  run-room (c .before .before .before .loop .inv) (c .before .before .loop-test .taken),
+  c .before .before .before .before .good,
+)
 
 sub-left : tie.Need-sub-left Inv-loop μ-loop
 sub-left c = omega arith

@@ -32,12 +32,14 @@ joined p a b c ha hb e =
     rw (one, up) (above a b c ha hb)
   where
     above : (a b c : ℕ) → a < 2 ^ 12 → b < 2 ^ 12
-        → (a * 2 ^ 4 + b * 2 ^ 16 + c * 2 ^ 32 + (a * 2 ^ 4 + b * 2 ^ 16 + c * 2 ^ 32) % 4294967296 * 15) / 2 ^ 8 ≡ a + b * 2 ^ 12 + c * 2 ^ 24
+        → (a * 2 ^ 4 + b * 2 ^ 16 + c * 2 ^ 32 + (a * 2 ^ 4 + b * 2 ^ 16 + c * 2 ^ 32) % 4294967296 * 15) / 2 ^ 8
+        ≡ a + b * 2 ^ 12 + c * 2 ^ 24
     above a b c ha hb =
         let two : (a * 2 ^ 4 + b * 2 ^ 16 + c * 2 ^ 32) % 4294967296 ≡ a * 2 ^ 4 + b * 2 ^ 16 = omega arith in
         rw two (omega arith)
 
-flat : (a b c d e f : ℕ) → a + b * 2 ^ 6 + (c + d * 2 ^ 6) * 2 ^ 12 + (e + f * 2 ^ 6) * 2 ^ 24 ≡ (((((0 * 2 ^ 6 + f) * 2 ^ 6 + e) * 2 ^ 6 + d) * 2 ^ 6 + c) * 2 ^ 6 + b) * 2 ^ 6 + a
+flat : (a b c d e f : ℕ) → a + b * 2 ^ 6 + (c + d * 2 ^ 6) * 2 ^ 12 + (e + f * 2 ^ 6) * 2 ^ 24
+    ≡ (((((0 * 2 ^ 6 + f) * 2 ^ 6 + e) * 2 ^ 6 + d) * 2 ^ 6 + c) * 2 ^ 6 + b) * 2 ^ 6 + a
 flat a b c d e f = omega arith
 
 pair-small : (a b : ℕ) → a < 2 ^ 6 → b < 2 ^ 6 → a + b * 2 ^ 6 < 2 ^ 12
@@ -46,11 +48,14 @@ pair-small a b ha hb = omega arith
 of-word : (w : ℕ)
     → (bitAnd w 0x3F003F003F00 / 2 ^ 2 * 3 ≤ bitAnd w 0x3F3F3F3F3F3F)
     × (bitAnd w 0x3F3F3F3F3F3F - bitAnd w 0x3F003F003F00 / 2 ^ 2 * 3
-    ≡ past w 0 % 2 ^ 6 + past w 1 % 2 ^ 6 * 2 ^ 6 + (past w 2 % 2 ^ 6 + past w 3 % 2 ^ 6 * 2 ^ 6) * 2 ^ 16 + (past w 4 % 2 ^ 6 + past w 5 % 2 ^ 6 * 2 ^ 6) * 2 ^ 32)
+    ≡ past w 0 % 2 ^ 6 + past w 1 % 2 ^ 6 * 2 ^ 6 + (past w 2 % 2 ^ 6 + past w 3 % 2 ^ 6 * 2 ^ 6) * 2 ^ 16
+    + (past w 4 % 2 ^ 6 + past w 5 % 2 ^ 6 * 2 ^ 6) * 2 ^ 32)
 unfolding fields mask narrow
 of-word w =
-    paired (bitAnd w 0x3F3F3F3F3F3F) (bitAnd w 0x3F003F003F00) (past w 0 % 2 ^ 6) (past w 1 % 2 ^ 6) (past w 2 % 2 ^ 6) (past w 3 % 2 ^ 6) (past w 4 % 2 ^ 6) (past w 5 % 2 ^ 6) (past w 0 % 2 ^ 0) (past w 2 % 2 ^ 0) (past w 4 % 2 ^ 0)
-    (masked (replicate 6 6) w refl) (masked (0 ∷ 6 ∷ 0 ∷ 6 ∷ 0 ∷ 6 ∷ []) w refl) (mod-one (past w 0)) (mod-one (past w 2)) (mod-one (past w 4))
+    paired (bitAnd w 0x3F3F3F3F3F3F) (bitAnd w 0x3F003F003F00) (past w 0 % 2 ^ 6) (past w 1 % 2 ^ 6) (past w 2 % 2 ^ 6) (past w 3 % 2 ^ 6)
+    (past w 4 % 2 ^ 6) (past w 5 % 2 ^ 6) (past w 0 % 2 ^ 0) (past w 2 % 2 ^ 0) (past w 4 % 2 ^ 0)
+    (masked (replicate 6 6) w refl) (masked (0 ∷ 6 ∷ 0 ∷ 6 ∷ 0 ∷ 6 ∷ []) w refl) (mod-one (past w 0))
+    (mod-one (past w 2)) (mod-one (past w 4))
 
 mul-pairs : tie.Need-mul-pairs
 mul-pairs c = omega (arith, and-le-r (c .args .word) 0x3F003F003F00)
@@ -75,8 +80,10 @@ unfolding packed narrow
 returns c =
     let w = c .args .word in
     let below : (x : ℕ) → x % 2 ^ 6 < 2 ^ 6 = λ x. mod-lt x (pow-pos 6) in
-    joined (bitAnd w 0x3F3F3F3F3F3F - bitAnd w 0x3F003F003F00 / 2 ^ 2 * 3) (past w 0 % 2 ^ 6 + past w 1 % 2 ^ 6 * 2 ^ 6) (past w 2 % 2 ^ 6 + past w 3 % 2 ^ 6 * 2 ^ 6) (past w 4 % 2 ^ 6 + past w 5 % 2 ^ 6 * 2 ^ 6)
-    (pair-small (past w 0 % 2 ^ 6) (past w 1 % 2 ^ 6) (below (past w 0)) (below (past w 1))) (pair-small (past w 2 % 2 ^ 6) (past w 3 % 2 ^ 6) (below (past w 2)) (below (past w 3))) (of-word w .1)
+    joined (bitAnd w 0x3F3F3F3F3F3F - bitAnd w 0x3F003F003F00 / 2 ^ 2 * 3) (past w 0 % 2 ^ 6 + past w 1 % 2 ^ 6 * 2 ^ 6)
+    (past w 2 % 2 ^ 6 + past w 3 % 2 ^ 6 * 2 ^ 6) (past w 4 % 2 ^ 6 + past w 5 % 2 ^ 6 * 2 ^ 6)
+    (pair-small (past w 0 % 2 ^ 6) (past w 1 % 2 ^ 6) (below (past w 0)) (below (past w 1)))
+    (pair-small (past w 2 % 2 ^ 6) (past w 3 % 2 ^ 6) (below (past w 2)) (below (past w 3))) (of-word w .1)
     ∙ flat (past w 0 % 2 ^ 6) (past w 1 % 2 ^ 6) (past w 2 % 2 ^ 6) (past w 3 % 2 ^ 6) (past w 4 % 2 ^ 6) (past w 5 % 2 ^ 6)
     ∙ packed-cells (replicate 6 6) w refl
 

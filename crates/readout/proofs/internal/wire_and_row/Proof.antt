@@ -23,7 +23,8 @@ five-together-requires c κs = search needs
 returns : tie.Need-returns
 returns c =
     let start = c .before .before .before in
-    of-row (start .args .readout .now) (start .args .at) (start .args .skip) _ _ (start .pre .0) (start .pre .1) (start .pre .2) (c .before .word8 .ensures) (c .five-together .ensures)
+    of-row (start .args .readout .now) (start .args .at) (start .args .skip) _ _ (start .pre .0) (start .pre .1) (start .pre .2)
+    (c .before .word8 .ensures) (c .five-together .ensures)
 
 pub wire-and-row-spec : {M : Type 1} → statement M
 wire-and-row-spec =

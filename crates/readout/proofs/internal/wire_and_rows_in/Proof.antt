@@ -31,7 +31,9 @@ returns c =
     let stored = c .before .before .before .before .before .before in
     let second = stored .before .before in
     let start = second .before .before .before .before in
-    wire-and-rows (start .args .readout .now) (start .args .image .now) _ _ (start .args .at) (start .args .byte) _ _ _ (second .before .wire-and-row .ensures) (second .wire-and-row2 .ensures) (stored .put-eight .ensures .0) (stored .put-eight .ensures .1) (c .before .before .put-cells .ensures)
+    wire-and-rows (start .args .readout .now) (start .args .image .now) _ _ (start .args .at) (start .args .byte) _ _ _
+    (second .before .wire-and-row .ensures) (second .wire-and-row2 .ensures) (stored .put-eight .ensures .0) (stored .put-eight .ensures .1)
+    (c .before .before .put-cells .ensures)
 
 pub wire-and-rows-in-spec : {M : Type 1} → statement M
 wire-and-rows-in-spec =

@@ -36,8 +36,11 @@ returns-4 : tie.Need-returns-4
 returns-4 c = ((λ e. of-block _ _ _ (c .enum-told4 .given .1)), (λ e. cc))
 
 returns-5 : tie.Need-returns-5
-returns-5 c =
-    ((λ e. of-global (c .before .before .args .d) (c .before .before .pre .0) (c .before .before .args .s) (c .before .before .pre .1) _ (c .enum-told5 .given .1)), (λ e. cc))
+returns-5 c = (
+  (λ e. of-global (c .before .before .args .d) (c .before .before .pre .0) (c .before .before .args .s) (c .before .before .pre .1) _
+      (c .enum-told5 .given .1)),
+  (λ e. cc),
+)
 
 pub in-whole-bytes-spec : {M : Type 1} → statement M
 in-whole-bytes-spec =

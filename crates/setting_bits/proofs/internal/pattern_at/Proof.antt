@@ -23,8 +23,8 @@ use borrow.Author.Needs.{needs}
 use Rattle.setting_bits.proofs.internal.pattern_at.Statement.{statement}
 use Rattle.setting_bits.proofs.internal.pattern_at.Tie as tie
 
-of-usercode : (d : Device) (layout : Layout) (bytes : List ℕ) (s : Setting) (width r : ℕ) → hasSetting d s ≡ true → width ≡ bitsOf s → width ≡ 32
-    → r ≡ patternAt d layout bytes usercode → r ≡ patternAt d layout bytes s
+of-usercode : (d : Device) (layout : Layout) (bytes : List ℕ) (s : Setting) (width r : ℕ) → hasSetting d s ≡ true
+    → width ≡ bitsOf s → width ≡ 32 → r ≡ patternAt d layout bytes usercode → r ≡ patternAt d layout bytes s
 of-usercode d layout bytes s width r h e q g = g ∙ its-pattern d s h width e q layout bytes
 
 -- what has been read so far
@@ -37,7 +37,8 @@ start : (d : Device) (layout : Layout) (bytes : List ℕ) (s : Setting) (width :
 unfolding gathered
 start d layout bytes s width e = record { all = e; upto = omega arith; so-far = refl }
 
-module _ (d : Device) (layout : Layout) (bytes : List ℕ) (s : Setting) (width pattern bit : ℕ) (r : Read d layout bytes s width pattern bit) where
+module _ (d : Device) (layout : Layout) (bytes : List ℕ) (s : Setting) (width pattern bit : ℕ)
+    (r : Read d layout bytes s width pattern bit) where
   in-width : bit < width → bit < bitsOf s
   in-width l = omega (arith, r .all)
 

@@ -22,7 +22,8 @@ use borrow.Author.Needs.{needs}
 use Rattle.setting_bits.proofs.internal.put_pattern.Statement.{statement}
 use Rattle.setting_bits.proofs.internal.put_pattern.Tie as tie
 
-module _ (d : Device) (layout : Layout) (before : List ℕ) (s : Setting) (pattern width : ℕ) (h : hasSetting d s ≡ true) (e : width ≡ bitsOf s) (q : width ≡ 32)
+module _ (d : Device) (layout : Layout) (before : List ℕ) (s : Setting) (pattern width : ℕ) (h : hasSetting d s ≡ true)
+    (e : width ≡ bitsOf s) (q : width ≡ 32)
     (after : List ℕ) (g : after ≡ withPattern d layout before usercode pattern) where
   of-usercode : after ≡ withPattern d layout before s pattern
   of-usercode = g ∙ its-bytes d s h width e q layout before pattern
@@ -37,8 +38,8 @@ record Put (d : Device) (layout : Layout) (before : List ℕ) (s : Setting) (pat
   size : length bytes ≡ bytesOf d layout
   so-far : bytes ≡ withBits d layout before s pattern bit
 
-start : (d : Device) (layout : Layout) (before : List ℕ) (s : Setting) (pattern width : ℕ) → length before ≡ bytesOf d layout → width ≡ bitsOf s
-    → Put d layout before s pattern width before 0
+start : (d : Device) (layout : Layout) (before : List ℕ) (s : Setting) (pattern width : ℕ)
+    → length before ≡ bytesOf d layout → width ≡ bitsOf s → Put d layout before s pattern width before 0
 unfolding withBits
 start d layout before s pattern width e g = record { all = g; upto = omega arith; size = e; so-far = refl }
 
@@ -50,15 +51,16 @@ module _ (d : Device) (layout : Layout) (before : List ℕ) (s : Setting) (patte
   few : bit < width → hasSetting d s ≡ true → bit < 32
   few l h = omega (arith, r .all, bits-few d s h)
 
-  index-in : (index : ℕ) → known d ≡ true → hasSetting d s ≡ true → bit < width → index ≡ byteOf d layout (fuseOf d s bit) → index < length bytes
+  index-in : (index : ℕ) → known d ≡ true → hasSetting d s ≡ true → bit < width
+      → index ≡ byteOf d layout (fuseOf d s bit) → index < length bytes
   index-in index k h l x = rw (r .size, x) (inside d layout (fuseOf d s bit) k (fuse-below d k s h bit (in-width l)))
 
   bit-in : (b : ℕ) → known d ≡ true → hasSetting d s ≡ true → bit < width → b ≡ bitIn d layout (fuseOf d s bit) → b < 8
   bit-in b k h l y = rw y (bit-small d k s h bit (in-width l) layout)
 
   more : (index b : ℕ) (after : List ℕ) → known d ≡ true → hasSetting d s ≡ true → bit < width
-      → index ≡ byteOf d layout (fuseOf d s bit) → b ≡ bitIn d layout (fuseOf d s bit) → after ≡ withBit bytes index b (pattern / 2 ^ bit % 2)
-      → Put d layout before s pattern width after (bit + 1)
+      → index ≡ byteOf d layout (fuseOf d s bit) → b ≡ bitIn d layout (fuseOf d s bit)
+      → after ≡ withBit bytes index b (pattern / 2 ^ bit % 2) → Put d layout before s pattern width after (bit + 1)
   unfolding withBits
   more index b after k h l x y g =
       let next : bit + 1 ≡ suc bit = omega arith in

@@ -19,13 +19,15 @@ use Rattle.setting_bits.proofs.internal.put_usercode.Tie as tie
 record Put (d : Device) (layout : Layout) (pattern first : ℕ) (entry bytes : List ℕ) (pair : ℕ) : Type 0 where
   upto : pair ≤ first + 8
   size : length bytes ≡ bytesOf d layout
-  so-far : (before : List ℕ) → entry ≡ withBits d layout before usercode pattern (2 * first) → bytes ≡ withBits d layout before usercode pattern (2 * pair)
+  so-far : (before : List ℕ) → entry ≡ withBits d layout before usercode pattern (2 * first)
+      → bytes ≡ withBits d layout before usercode pattern (2 * pair)
 
 start : (d : Device) (layout : Layout) (pattern first : ℕ) (entry : List ℕ) (pair : ℕ) → length entry ≡ bytesOf d layout → pair ≡ first
     → Put d layout pattern first entry entry pair
 start d layout pattern first entry pair e p = record { upto = omega arith; size = e; so-far = λ before g. rw p g }
 
-module _ (d : Device) (layout : Layout) (pattern first : ℕ) (entry bytes : List ℕ) (pair : ℕ) (r : Put d layout pattern first entry bytes pair) where
+module _ (d : Device) (layout : Layout) (pattern first : ℕ) (entry bytes : List ℕ) (pair : ℕ)
+    (r : Put d layout pattern first entry bytes pair) where
   more : (after : List ℕ) → pair < first + 8 → length after ≡ length bytes → after ≡ bothStates d layout bytes pattern pair
       → Put d layout pattern first entry after (pair + 1)
   more after l same g =
@@ -42,11 +44,12 @@ module _ (d : Device) (layout : Layout) (pattern first : ℕ) (entry bytes : Lis
       r .so-far before q ∙ ap (withBits d layout before usercode pattern) last
 
 -- the next row starts where one ends
-next-row : (d : Device) (layout : Layout) (pattern : ℕ) (before half : List ℕ) (pair : ℕ) → Put d layout pattern 0 before half pair → 8 ≤ pair
-    → Put d layout pattern 8 half half pair
+next-row : (d : Device) (layout : Layout) (pattern : ℕ) (before half : List ℕ) (pair : ℕ)
+    → Put d layout pattern 0 before half pair → 8 ≤ pair → Put d layout pattern 8 half half pair
 next-row d layout pattern before half pair r l = start d layout pattern 8 half pair (r .size) (omega (arith, r .upto))
 
-end : (d : Device) (layout : Layout) (pattern : ℕ) (before half after : List ℕ) (pair last : ℕ) → Put d layout pattern 0 before half pair → 8 ≤ pair
+end : (d : Device) (layout : Layout) (pattern : ℕ) (before half after : List ℕ) (pair last : ℕ)
+    → Put d layout pattern 0 before half pair → 8 ≤ pair
     → Put d layout pattern 8 half after last → 16 ≤ last → after ≡ withPattern d layout before usercode pattern
 unfolding withPattern withBits bitsOf
 end d layout pattern before half after pair last low l high m =

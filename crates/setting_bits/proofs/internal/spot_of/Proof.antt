@@ -33,7 +33,9 @@ spot-at-requires : tie.Need-spot-at-requires
 spot-at-requires c κs = search (needs, there)
 
 returns : tie.Need-returns
-returns c = let at = c .before .before in same (at .args .d) (at .args .s) (at .args .bit) _ (c .before .place-of .ensures) (at .args .layout) _ _ (c .spot-at .ensures)
+returns c =
+    let at = c .before .before in
+    same (at .args .d) (at .args .s) (at .args .bit) _ (c .before .place-of .ensures) (at .args .layout) _ _ (c .spot-at .ensures)
 
 pub spot-of-spec : {M : Type 1} → statement M
 spot-of-spec = tie.close (tie.spec place-of-requires spot-at-requires returns)

@@ -56,7 +56,11 @@ in-whole-bytes-requires : tie.Need-in-whole-bytes-requires
 in-whole-bytes-requires c κs = search needs
 
 returns : tie.Need-returns
-returns c = none-stray (c .before .before .before .args .d) (c .before .before .before .pre .0) (c .before .before .before .args .s) (c .before .before .before .pre .1) (c .before .before .before .args .readout .now) (λ i. c .before .before .shared-slice-known .given i .fits) (c .before .before .before .pre .2) (c .before .in-whole-bytes .ensures .0 (c .if1 .taken))
+returns c =
+    none-stray (c .before .before .before .args .d) (c .before .before .before .pre .0) (c .before .before .before .args .s)
+    (c .before .before .before .pre .1) (c .before .before .before .args .readout .now)
+    (λ i. c .before .before .shared-slice-known .given i .fits) (c .before .before .before .pre .2)
+    (c .before .in-whole-bytes .ensures .0 (c .if1 .taken))
 
 place-of-requires : tie.Need-place-of-requires
 place-of-requires c κs = search (needs, some-bit, c .before .in-whole-bytes .ensures .1)
@@ -71,7 +75,8 @@ width-of-requires : tie.Need-width-of-requires
 width-of-requires c κs = search needs
 
 above-width-requires : tie.Need-above-width-requires
-above-width-requires c κs = (search (needs, index-in, c .before .before .before .before .in-whole-bytes .ensures .1), search (needs, width-in))
+above-width-requires c κs =
+    (search (needs, index-in, c .before .before .before .before .in-whole-bytes .ensures .1), search (needs, width-in))
 
 returns-2 : tie.Need-returns-2
 returns-2 c = search (needs, a-stray, c .before .before .before .before .before .before .in-whole-bytes .ensures .1)

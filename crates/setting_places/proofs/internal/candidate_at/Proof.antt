@@ -39,16 +39,26 @@ enum-known-byte : tie.Need-enum-known-byte
 enum-known-byte c = search needs
 
 candidate-in-main-requires : tie.Need-candidate-in-main-requires
-candidate-in-main-requires c κs = in-main (c .before .before .before .args .d) (c .before .before .before .args .place) _ _ _ (c .before .before .before .pre) (c .before .byte .given .1)
+candidate-in-main-requires c κs =
+    in-main (c .before .before .before .args .d) (c .before .before .before .args .place) _ _ _ (c .before .before .before .pre)
+    (c .before .byte .given .1)
 
 enum-known-byte-2 : tie.Need-enum-known-byte-2
 enum-known-byte-2 c = search needs
 
 mul-t13 : tie.Need-mul-t13
-mul-t13 c = omega (arith, in-wire-and (c .before .before .before .args .d) (c .before .before .before .args .place) _ _ _ _ (c .before .before .before .pre) (c .before .byte2 .given .1))
+mul-t13 c = omega (
+  arith,
+  in-wire-and (c .before .before .before .args .d) (c .before .before .before .args .place) _ _ _ _ (c .before .before .before .pre)
+      (c .before .byte2 .given .1),
+)
 
 add-t14 : tie.Need-add-t14
-add-t14 c = omega (arith, in-wire-and (c .before .before .before .args .d) (c .before .before .before .args .place) _ _ _ _ (c .before .before .before .pre) (c .before .byte2 .given .1))
+add-t14 c = omega (
+  arith,
+  in-wire-and (c .before .before .before .args .d) (c .before .before .before .args .place) _ _ _ _ (c .before .before .before .pre)
+      (c .before .byte2 .given .1),
+)
 
 returns : tie.Need-returns
 unfolding candidateAt

@@ -41,7 +41,12 @@ global-bit-near-requires : tie.Need-global-bit-near-requires
 global-bit-near-requires c κs = search needs
 
 returns-2 : tie.Need-returns-2
-returns-2 c = rw (le-ltb _ _ (c .before .before .before .if1 .left), lt-ltb _ _ (c .before .before .if2 .taken), c .before .global-field-near .ensures, c .global-bit-near .ensures)
+returns-2 c = rw (
+  le-ltb _ _ (c .before .before .before .if1 .left),
+  lt-ltb _ _ (c .before .before .if2 .taken),
+  c .before .global-field-near .ensures,
+  c .global-bit-near .ensures,
+)
 
 returns-3 : tie.Need-returns-3
 returns-3 c = rw (le-ltb _ _ (c .before .before .if1 .left), le-ltb _ _ (c .before .if2 .left), lt-ltb _ _ (c .if3 .taken))
@@ -50,10 +55,16 @@ field-index-at-row-requires : tie.Need-field-index-at-row-requires
 field-index-at-row-requires c κs = search needs
 
 macrocell-field-at-requires : tie.Need-macrocell-field-at-requires
-macrocell-field-at-requires c κs = omega (arith, c .field-index-at-row .ensures, at-row (c .before .before .before .before .before .args .row) (c .before .before .if3 .left) (c .before .if4 .taken))
+macrocell-field-at-requires c κs = omega (
+  arith,
+  c .field-index-at-row .ensures,
+  at-row (c .before .before .before .before .before .args .row) (c .before .before .if3 .left) (c .before .if4 .taken),
+)
 
 row-of-requires : tie.Need-row-of-requires
-row-of-requires c κs = starts (c .before .before .before .before .before .before .args .row) _ (c .before .field-index-at-row .ensures) (c .before .before .before .if3 .left) (c .before .before .if4 .taken)
+row-of-requires c κs =
+    starts (c .before .before .before .before .before .before .args .row) _ (c .before .field-index-at-row .ensures)
+    (c .before .before .before .if3 .left) (c .before .before .if4 .taken)
 
 mul-t23 : tie.Need-mul-t23
 mul-t23 c = search needs
@@ -62,16 +73,33 @@ add-t24 : tie.Need-add-t24
 add-t24 c = search needs
 
 sub-t26 : tie.Need-sub-t26
-sub-t26 c = not-before (c .before .before .before .before .before .before .before .args .row) _ (c .before .before .field-index-at-row .ensures) _ (c .row-of .ensures) (c .before .before .before .before .if3 .left) (c .before .before .before .if4 .taken)
+sub-t26 c =
+    not-before (c .before .before .before .before .before .before .before .args .row) _ (c .before .before .field-index-at-row .ensures) _
+    (c .row-of .ensures) (c .before .before .before .before .if3 .left) (c .before .before .before .if4 .taken)
 
 returns-4 : tie.Need-returns-4
-returns-4 c = rw (le-ltb _ _ (c .before .before .before .before .before .before .if1 .left), le-ltb _ _ (c .before .before .before .before .before .if2 .left), le-ltb _ _ (c .before .before .before .before .if3 .left), lt-ltb _ _ (c .before .before .before .if4 .taken), first (c .before .before .before .before .before .before .before .args .row) _ (c .before .before .field-index-at-row .ensures) _ (c .row-of .ensures), c .before .macrocell-field-at .ensures, c .before .before .field-index-at-row .ensures)
+returns-4 c = rw (
+  le-ltb _ _ (c .before .before .before .before .before .before .if1 .left),
+  le-ltb _ _ (c .before .before .before .before .before .if2 .left),
+  le-ltb _ _ (c .before .before .before .before .if3 .left),
+  lt-ltb _ _ (c .before .before .before .if4 .taken),
+  first (c .before .before .before .before .before .before .before .args .row) _
+      (c .before .before .field-index-at-row .ensures) _ (c .row-of .ensures),
+  c .before .macrocell-field-at .ensures,
+  c .before .before .field-index-at-row .ensures,
+)
 
 block-field-near-requires : tie.Need-block-field-near-requires
 block-field-near-requires c κs = search needs
 
 returns-5 : tie.Need-returns-5
-returns-5 c = rw (le-ltb _ _ (c .before .before .before .before .if1 .left), le-ltb _ _ (c .before .before .before .if2 .left), le-ltb _ _ (c .before .before .if3 .left), le-ltb _ _ (c .before .if4 .left), c .block-field-near .ensures)
+returns-5 c = rw (
+  le-ltb _ _ (c .before .before .before .before .if1 .left),
+  le-ltb _ _ (c .before .before .before .if2 .left),
+  le-ltb _ _ (c .before .before .if3 .left),
+  le-ltb _ _ (c .before .if4 .left),
+  c .block-field-near .ensures,
+)
 
 pub candidate-in-main-spec : {M : Type 1} → statement M
 candidate-in-main-spec =

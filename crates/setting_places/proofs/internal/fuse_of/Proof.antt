@@ -40,7 +40,13 @@ first-fuse-requires : tie.Need-first-fuse-requires
 first-fuse-requires c κs = search (needs, its-byte)
 
 add-t7 : tie.Need-add-t7
-add-t7 c = omega (arith, below (c .before .before .before .before .args .d) (c .before .before .before .before .args .s) (c .before .before .before .before .args .bit) (c .before .before .before .before .pre .0) (c .before .before .before .before .pre .1) (c .before .before .before .before .pre .2) (c .before .before .before .place-of .result) (c .before .before .before .place-of .ensures) (c .before .before .first-fuse .result .0) (c .before .before .first-fuse .ensures))
+add-t7 c = omega (
+  arith,
+  below (c .before .before .before .before .args .d) (c .before .before .before .before .args .s)
+      (c .before .before .before .before .args .bit) (c .before .before .before .before .pre .0) (c .before .before .before .before .pre .1)
+      (c .before .before .before .before .pre .2) (c .before .before .before .place-of .result)
+      (c .before .before .before .place-of .ensures) (c .before .before .first-fuse .result .0) (c .before .before .first-fuse .ensures),
+)
 
 returns : tie.Need-returns
 returns c = search (needs, its-fuse)

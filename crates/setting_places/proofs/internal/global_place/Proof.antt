@@ -40,7 +40,11 @@ enum-known-field : tie.Need-enum-known-field
 enum-known-field c = search needs
 
 add-main-place : tie.Need-add-main-place
-add-main-place c = omega (arith, fclk-inv (c .before .before .before .args .d) (c .before .before .before .args .field) _ (c .before .before .before .args .bit) (c .before .before .before .pre .0) (c .before .before .before .pre .1) (c .before .field .given .1))
+add-main-place c = omega (
+  arith,
+  fclk-inv (c .before .before .before .args .d) (c .before .before .before .args .field) _ (c .before .before .before .args .bit)
+      (c .before .before .before .pre .0) (c .before .before .before .pre .1) (c .before .field .given .1),
+)
 
 main-place-requires-2 : tie.Need-main-place-requires-2
 main-place-requires-2 c κs = search needs
@@ -49,7 +53,11 @@ enum-known-field-2 : tie.Need-enum-known-field-2
 enum-known-field-2 c = search needs
 
 add-main-place-2 : tie.Need-add-main-place-2
-add-main-place-2 c = omega (arith, foe-inv (c .before .before .before .args .d) (c .before .before .before .args .field) _ (c .before .before .before .args .bit) (c .before .before .before .pre .0) (c .before .before .before .pre .1) (c .before .field2 .given .1))
+add-main-place-2 c = omega (
+  arith,
+  foe-inv (c .before .before .before .args .d) (c .before .before .before .args .field) _ (c .before .before .before .args .bit)
+      (c .before .before .before .pre .0) (c .before .before .before .pre .1) (c .before .field2 .given .1),
+)
 
 main-place-requires-3 : tie.Need-main-place-requires-3
 main-place-requires-3 c κs = search needs
@@ -58,10 +66,18 @@ enum-known-field-3 : tie.Need-enum-known-field-3
 enum-known-field-3 c = search needs
 
 add-main-place-3 : tie.Need-add-main-place-3
-add-main-place-3 c = omega (arith, fclk-mux (c .before .before .before .args .d) (c .before .before .before .args .field) _ (c .before .before .before .args .bit) (c .before .before .before .pre .0) (c .before .before .before .pre .1) (c .before .field3 .given .1))
+add-main-place-3 c = omega (
+  arith,
+  fclk-mux (c .before .before .before .args .d) (c .before .before .before .args .field) _ (c .before .before .before .args .bit)
+      (c .before .before .before .pre .0) (c .before .before .before .pre .1) (c .before .field3 .given .1),
+)
 
 add-main-place-4 : tie.Need-add-main-place-4
-add-main-place-4 c = omega (arith, fclk-mux (c .before .before .before .args .d) (c .before .before .before .args .field) _ (c .before .before .before .args .bit) (c .before .before .before .pre .0) (c .before .before .before .pre .1) (c .before .field3 .given .1))
+add-main-place-4 c = omega (
+  arith,
+  fclk-mux (c .before .before .before .args .d) (c .before .before .before .args .field) _ (c .before .before .before .args .bit)
+      (c .before .before .before .pre .0) (c .before .before .before .pre .1) (c .before .field3 .given .1),
+)
 
 main-place-requires-4 : tie.Need-main-place-requires-4
 main-place-requires-4 c κs = search needs
@@ -70,10 +86,18 @@ enum-known-field-4 : tie.Need-enum-known-field-4
 enum-known-field-4 c = search needs
 
 add-main-place-5 : tie.Need-add-main-place-5
-add-main-place-5 c = omega (arith, foe-mux (c .before .before .before .args .d) (c .before .before .before .args .field) _ (c .before .before .before .args .bit) (c .before .before .before .pre .0) (c .before .before .before .pre .1) (c .before .field4 .given .1))
+add-main-place-5 c = omega (
+  arith,
+  foe-mux (c .before .before .before .args .d) (c .before .before .before .args .field) _ (c .before .before .before .args .bit)
+      (c .before .before .before .pre .0) (c .before .before .before .pre .1) (c .before .field4 .given .1),
+)
 
 add-main-place-6 : tie.Need-add-main-place-6
-add-main-place-6 c = omega (arith, foe-mux (c .before .before .before .args .d) (c .before .before .before .args .field) _ (c .before .before .before .args .bit) (c .before .before .before .pre .0) (c .before .before .before .pre .1) (c .before .field4 .given .1))
+add-main-place-6 c = omega (
+  arith,
+  foe-mux (c .before .before .before .args .d) (c .before .before .before .args .field) _ (c .before .before .before .args .bit)
+      (c .before .before .before .pre .0) (c .before .before .before .pre .1) (c .before .field4 .given .1),
+)
 
 main-place-requires-5 : tie.Need-main-place-requires-5
 main-place-requires-5 c κs = search needs
@@ -82,7 +106,11 @@ enum-told-2 : tie.Need-enum-told-2
 enum-told-2 c = search needs
 
 sub-main-place : tie.Need-sub-main-place
-sub-main-place c = omega (arith, usercode (c .before .before .args .d) (c .before .before .args .field) 0 (c .before .before .args .bit) (c .before .before .pre .0) (c .before .before .pre .1) (c .enum-told2 .given .1))
+sub-main-place c = omega (
+  arith,
+  usercode (c .before .before .args .d) (c .before .before .args .field) 0 (c .before .before .args .bit) (c .before .before .pre .0)
+      (c .before .before .pre .1) (c .enum-told2 .given .1),
+)
 
 sub-main-place-2 : tie.Need-sub-main-place-2
 sub-main-place-2 c = search needs

@@ -19,8 +19,8 @@ use borrow.Author.Needs.{needs}
 use Rattle.setting_places.proofs.internal.place_of.Statement.{statement}
 use Rattle.setting_places.proofs.internal.place_of.Tie as tie
 
-at-literal : (s : Setting) (block j k l : ℕ) (p : Polarity) (bit : ℕ) (r : Place) → s ≡ Literal block j k l p → r ≡ placeOf (Literal block j k l p) 0
-    → r ≡ placeOf s bit
+at-literal : (s : Setting) (block j k l : ℕ) (p : Polarity) (bit : ℕ) (r : Place) → s ≡ Literal block j k l p
+    → r ≡ placeOf (Literal block j k l p) 0 → r ≡ placeOf s bit
 unfolding placeOf
 at-literal s block j k l p bit r e g = rw e g
 
@@ -33,7 +33,8 @@ module _ (d : Device) (s : Setting) (block m : ℕ) (f : MacrocellField) (i : �
   unfolding bitsOf
   inside bit hb = (omega (arith, has-macrocell d s h block m f e .2), rw same (rw e at hb))
 
-  at-macrocell : (row bit : ℕ) (r : Place) → row ≡ firstRow (macrocellFieldAt i) + bit → r ≡ main block row (m % 9) (6 + m / 9) → r ≡ placeOf s bit
+  at-macrocell : (row bit : ℕ) (r : Place) → row ≡ firstRow (macrocellFieldAt i) + bit
+      → r ≡ main block row (m % 9) (6 + m / 9) → r ≡ placeOf s bit
   unfolding placeOf
   at-macrocell row bit r g w = rw (e, ← ap firstRow same, ← g) w
 
@@ -41,7 +42,9 @@ enum-known-s : tie.Need-enum-known-s
 enum-known-s c = search needs
 
 literal-place-requires : tie.Need-literal-place-requires
-literal-place-requires c κs = let its = has-literal (c .before .before .before .args .d) (c .before .before .before .args .s) (c .before .before .before .pre .1) _ _ _ _ _ (c .before .s .given .1) in (its .2, its .3)
+literal-place-requires c κs =
+    let its = has-literal (c .before .before .before .args .d) (c .before .before .before .args .s)
+    (c .before .before .before .pre .1) _ _ _ _ _ (c .before .s .given .1) in (its .2, its .3)
 
 enum-known-s-2 : tie.Need-enum-known-s-2
 enum-known-s-2 c = search needs
@@ -53,7 +56,10 @@ macrocell-index-requires : tie.Need-macrocell-index-requires
 macrocell-index-requires c κs = search needs
 
 row-of-requires : tie.Need-row-of-requires
-row-of-requires c κs = inside (c .before .before .before .before .args .d) (c .before .before .before .before .args .s) _ _ _ (c .macrocell-index .result) (c .before .before .before .before .pre .1) (c .before .before .s3 .given .1) (c .macrocell-index .ensures) (c .before .before .before .before .args .bit) (c .before .before .before .before .pre .2)
+row-of-requires c κs =
+    inside (c .before .before .before .before .args .d) (c .before .before .before .before .args .s) _ _ _ (c .macrocell-index .result)
+    (c .before .before .before .before .pre .1) (c .before .before .s3 .given .1) (c .macrocell-index .ensures)
+    (c .before .before .before .before .args .bit) (c .before .before .before .before .pre .2)
 
 add-main-place : tie.Need-add-main-place
 add-main-place c = search needs
@@ -72,7 +78,11 @@ enum-known-s-5 c = search needs
 
 global-place-requires : tie.Need-global-place-requires
 unfolding bitsOf
-global-place-requires c κs = (has-global (c .before .before .before .args .d) (c .before .before .before .args .s) (c .before .before .before .pre .1) _ (c .before .s5 .given .1), (rw (c .before .s5 .given .1) at (c .before .before .before .pre .2)))
+global-place-requires c κs = (
+  has-global (c .before .before .before .args .d) (c .before .before .before .args .s) (c .before .before .before .pre .1) _
+      (c .before .s5 .given .1),
+  (rw (c .before .s5 .given .1) at (c .before .before .before .pre .2)),
+)
 
 returns : tie.Need-returns
 returns c = search (needs, at-literal)

@@ -18,7 +18,8 @@ use borrow.Author.Needs.{needs}
 use Rattle.setting_places.proofs.internal.place_of_literal.Statement.{statement}
 use Rattle.setting_places.proofs.internal.place_of_literal.Tie as tie
 
-module _ (d : Device) (x : ℕ) (l : x < start d wireAnds) (block j k i : ℕ) (p : Polarity) (e : Literal block j k i p ≡ inGroup d literals x) where
+module _ (d : Device) (x : ℕ) (l : x < start d wireAnds) (block j k i : ℕ) (p : Polarity)
+    (e : Literal block j k i p ≡ inGroup d literals x) where
   same : settingOf d x ≡ Literal block j k i p
   same = let at : 0 + x ≡ x = omega arith in ap (settingOf d) (sym at) ∙ in-its-group d literals x l ∙ sym e
 

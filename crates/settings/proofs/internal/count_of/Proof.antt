@@ -15,7 +15,9 @@ global-fields-requires : tie.Need-global-fields-requires
 global-fields-requires c κs = search needs
 
 add-result : tie.Need-add-result
-add-result c = rw (c .global-fields .ensures, c .before .start-of-globals .ensures) (omega (arith, ends (c .before .before .args .d) globals, count-small (c .before .before .args .d) (c .before .before .pre)))
+add-result c =
+    rw (c .global-fields .ensures, c .before .start-of-globals .ensures)
+    (omega (arith, ends (c .before .before .args .d) globals, count-small (c .before .before .args .d) (c .before .before .pre)))
 
 returns : tie.Need-returns
 unfolding countOf

@@ -23,7 +23,12 @@ add-if3 : tie.Need-add-if3
 add-if3 c = omega (arith, c .before .before .foe-count .ensures, few (c .before .before .before .args .d))
 
 returns-3 : tie.Need-returns-3
-returns-3 c = rw (← c .before .before .before .foe-count .ensures, ne-eqb _ _ (c .before .before .if1 .left), le-ltb _ _ (c .before .if2 .left), lt-ltb _ _ (c .if3 .taken))
+returns-3 c = rw (
+  ← c .before .before .before .foe-count .ensures,
+  ne-eqb _ _ (c .before .before .if1 .left),
+  le-ltb _ _ (c .before .if2 .left),
+  lt-ltb _ _ (c .if3 .taken),
+)
 
 add-if4 : tie.Need-add-if4
 add-if4 c = omega (arith, c .before .before .before .foe-count .ensures, few (c .before .before .before .before .args .d))
@@ -35,7 +40,13 @@ sub-t9 : tie.Need-sub-t9
 sub-t9 c = search needs
 
 returns-4 : tie.Need-returns-4
-returns-4 c = rw (← c .before .before .before .before .foe-count .ensures, ne-eqb _ _ (c .before .before .before .if1 .left), le-ltb _ _ (c .before .before .if2 .left), le-ltb _ _ (c .before .if3 .left), lt-ltb _ _ (c .if4 .taken))
+returns-4 c = rw (
+  ← c .before .before .before .before .foe-count .ensures,
+  ne-eqb _ _ (c .before .before .before .if1 .left),
+  le-ltb _ _ (c .before .before .if2 .left),
+  le-ltb _ _ (c .before .if3 .left),
+  lt-ltb _ _ (c .if4 .taken),
+)
 
 add-if5 : tie.Need-add-if5
 add-if5 c = search needs
@@ -50,10 +61,24 @@ sub-t12 : tie.Need-sub-t12
 sub-t12 c = search needs
 
 returns-5 : tie.Need-returns-5
-returns-5 c = rw (← c .before .before .before .before .before .foe-count .ensures, ne-eqb _ _ (c .before .before .before .before .if1 .left), le-ltb _ _ (c .before .before .before .if2 .left), le-ltb _ _ (c .before .before .if3 .left), le-ltb _ _ (c .before .if4 .left), lt-ltb _ _ (c .if5 .taken))
+returns-5 c = rw (
+  ← c .before .before .before .before .before .foe-count .ensures,
+  ne-eqb _ _ (c .before .before .before .before .if1 .left),
+  le-ltb _ _ (c .before .before .before .if2 .left),
+  le-ltb _ _ (c .before .before .if3 .left),
+  le-ltb _ _ (c .before .if4 .left),
+  lt-ltb _ _ (c .if5 .taken),
+)
 
 returns-6 : tie.Need-returns-6
-returns-6 c = rw (← c .before .before .before .before .before .foe-count .ensures, ne-eqb _ _ (c .before .before .before .before .if1 .left), le-ltb _ _ (c .before .before .before .if2 .left), le-ltb _ _ (c .before .before .if3 .left), le-ltb _ _ (c .before .if4 .left), le-ltb _ _ (c .if5 .left))
+returns-6 c = rw (
+  ← c .before .before .before .before .before .foe-count .ensures,
+  ne-eqb _ _ (c .before .before .before .before .if1 .left),
+  le-ltb _ _ (c .before .before .before .if2 .left),
+  le-ltb _ _ (c .before .before .if3 .left),
+  le-ltb _ _ (c .before .if4 .left),
+  le-ltb _ _ (c .if5 .left),
+)
 
 pub global-field-at-spec : {M : Type 1} → statement M
 global-field-at-spec =

@@ -48,7 +48,10 @@ enum-known-field-2 : tie.Need-enum-known-field-2
 enum-known-field-2 c = search needs
 
 listed-at-requires-2 : tie.Need-listed-at-requires-2
-listed-at-requires-2 c κs = (omega (arith, c .before .before .before .before .foe-count .ensures, few (c .before .before .before .before .before .args .d)), omega arith)
+listed-at-requires-2 c κs = (
+  omega (arith, c .before .before .before .before .foe-count .ensures, few (c .before .before .before .before .before .args .d)),
+  omega arith,
+)
 
 enum-known-field-3 : tie.Need-enum-known-field-3
 enum-known-field-3 c = search needs
@@ -57,7 +60,10 @@ add-listed-at : tie.Need-add-listed-at
 add-listed-at c = search needs
 
 listed-at-requires-3 : tie.Need-listed-at-requires-3
-listed-at-requires-3 c κs = (omega arith, omega (arith, c .before .before .before .before .foe-count .ensures, few (c .before .before .before .before .before .args .d)))
+listed-at-requires-3 c κs = (
+  omega arith,
+  omega (arith, c .before .before .before .before .foe-count .ensures, few (c .before .before .before .before .before .args .d)),
+)
 
 enum-known-field-4 : tie.Need-enum-known-field-4
 enum-known-field-4 c = search needs
@@ -66,7 +72,10 @@ add-listed-at-2 : tie.Need-add-listed-at-2
 add-listed-at-2 c = search needs
 
 listed-at-requires-4 : tie.Need-listed-at-requires-4
-listed-at-requires-4 c κs = (omega (arith, c .before .before .before .before .foe-count .ensures, few (c .before .before .before .before .before .args .d)), omega (arith, c .before .before .before .before .foe-count .ensures, few (c .before .before .before .before .before .args .d)))
+listed-at-requires-4 c κs = (
+  omega (arith, c .before .before .before .before .foe-count .ensures, few (c .before .before .before .before .before .args .d)),
+  omega (arith, c .before .before .before .before .foe-count .ensures, few (c .before .before .before .before .before .args .d)),
+)
 
 enum-told-2 : tie.Need-enum-told-2
 enum-told-2 c = search needs

@@ -63,7 +63,29 @@ returns-18 : tie.Need-returns-18
 returns-18 c = rw (c .if18 .taken)
 
 returns-19 : tie.Need-returns-19
-returns-19 c = rw (le-ltb _ _ (c .before .before .before .before .before .before .before .before .before .before .before .before .before .before .before .before .before .if1 .left), le-ltb _ _ (c .before .before .before .before .before .before .before .before .before .before .before .before .before .before .before .before .if2 .left), ne-eqb _ _ (c .before .before .before .before .before .before .before .before .before .before .before .before .before .before .before .if3 .left), ne-eqb _ _ (c .before .before .before .before .before .before .before .before .before .before .before .before .before .before .if4 .left), ne-eqb _ _ (c .before .before .before .before .before .before .before .before .before .before .before .before .before .if5 .left), ne-eqb _ _ (c .before .before .before .before .before .before .before .before .before .before .before .before .if6 .left), ne-eqb _ _ (c .before .before .before .before .before .before .before .before .before .before .before .if7 .left), ne-eqb _ _ (c .before .before .before .before .before .before .before .before .before .before .if8 .left), ne-eqb _ _ (c .before .before .before .before .before .before .before .before .before .if9 .left), ne-eqb _ _ (c .before .before .before .before .before .before .before .before .if10 .left), ne-eqb _ _ (c .before .before .before .before .before .before .before .if11 .left), ne-eqb _ _ (c .before .before .before .before .before .before .if12 .left), ne-eqb _ _ (c .before .before .before .before .before .if13 .left), ne-eqb _ _ (c .before .before .before .before .if14 .left), ne-eqb _ _ (c .before .before .before .if15 .left), ne-eqb _ _ (c .before .before .if16 .left), ne-eqb _ _ (c .before .if17 .left), ne-eqb _ _ (c .if18 .left))
+returns-19 c = rw (
+  le-ltb _ _ (c .before .before .before .before .before .before .before .before .before .before .before .before .before .before .before
+      .before .before .if1 .left),
+  le-ltb _ _ (c .before .before .before .before .before .before .before .before .before .before .before .before .before .before
+      .before .before .if2 .left),
+  ne-eqb _ _ (c .before .before .before .before .before .before .before .before .before .before .before .before .before
+      .before .before .if3 .left),
+  ne-eqb _ _ (c .before .before .before .before .before .before .before .before .before .before .before .before .before .before .if4 .left),
+  ne-eqb _ _ (c .before .before .before .before .before .before .before .before .before .before .before .before .before .if5 .left),
+  ne-eqb _ _ (c .before .before .before .before .before .before .before .before .before .before .before .before .if6 .left),
+  ne-eqb _ _ (c .before .before .before .before .before .before .before .before .before .before .before .if7 .left),
+  ne-eqb _ _ (c .before .before .before .before .before .before .before .before .before .before .if8 .left),
+  ne-eqb _ _ (c .before .before .before .before .before .before .before .before .before .if9 .left),
+  ne-eqb _ _ (c .before .before .before .before .before .before .before .before .if10 .left),
+  ne-eqb _ _ (c .before .before .before .before .before .before .before .if11 .left),
+  ne-eqb _ _ (c .before .before .before .before .before .before .if12 .left),
+  ne-eqb _ _ (c .before .before .before .before .before .if13 .left),
+  ne-eqb _ _ (c .before .before .before .before .if14 .left),
+  ne-eqb _ _ (c .before .before .before .if15 .left),
+  ne-eqb _ _ (c .before .before .if16 .left),
+  ne-eqb _ _ (c .before .if17 .left),
+  ne-eqb _ _ (c .if18 .left),
+)
 
 pub macrocell-field-at-spec : {M : Type 1} → statement M
 macrocell-field-at-spec =

@@ -23,7 +23,8 @@ module _ (d : Device) (x a b : ℕ) (r : Setting) where
   among-literals e high h =
       let same : x - 0 ≡ x = omega arith in among d literals x 0 r refl (omega arith) (omega arith) (rw same h)
 
-  among-wire-ands : a ≡ start d wireAnds → b ≡ start d macrocellSettings → a ≤ x → x < b → r ≡ inGroup d wireAnds (x - a) → r ≡ settingOf d x
+  among-wire-ands : a ≡ start d wireAnds → b ≡ start d macrocellSettings → a ≤ x → x < b
+      → r ≡ inGroup d wireAnds (x - a) → r ≡ settingOf d x
   among-wire-ands e f low high h = among d wireAnds x a r e low (omega arith) h
 
   among-macrocells : a ≡ start d macrocellSettings → b ≡ start d blockSettings → a ≤ x → x < b → r ≡ inGroup d macrocellSettings (x - a)

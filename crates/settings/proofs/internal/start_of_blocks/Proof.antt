@@ -20,7 +20,9 @@ mul-result-2 : tie.Need-mul-result-2
 mul-result-2 c = search needs
 
 add-result : tie.Need-add-result
-add-result c = rw (c .blocks-of .ensures, c .before .start-of-macrocells .ensures) (omega (arith, ends (c .before .before .args .d) macrocellSettings, count-small (c .before .before .args .d) (c .before .before .pre)))
+add-result c =
+    rw (c .blocks-of .ensures, c .before .start-of-macrocells .ensures)
+    (omega (arith, ends (c .before .before .args .d) macrocellSettings, count-small (c .before .before .args .d) (c .before .before .pre)))
 
 returns : tie.Need-returns
 returns c = search needs

@@ -17,7 +17,9 @@ mul-result : tie.Need-mul-result
 mul-result c = search needs
 
 add-result : tie.Need-add-result
-add-result c = rw (c .blocks-of .ensures, c .before .start-of-blocks .ensures) (omega (arith, ends (c .before .before .args .d) blockSettings, count-small (c .before .before .args .d) (c .before .before .pre)))
+add-result c =
+    rw (c .blocks-of .ensures, c .before .start-of-blocks .ensures)
+    (omega (arith, ends (c .before .before .args .d) blockSettings, count-small (c .before .before .args .d) (c .before .before .pre)))
 
 returns : tie.Need-returns
 returns c = search needs

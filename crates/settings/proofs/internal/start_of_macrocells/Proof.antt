@@ -20,10 +20,14 @@ mul-result-2 : tie.Need-mul-result-2
 mul-result-2 c = search needs
 
 mul-result-3 : tie.Need-mul-result-3
-mul-result-3 c = rw (c .before .blocks-of .ensures) (omega (arith, ends (c .before .before .args .d) wireAnds, count-small (c .before .before .args .d) (c .before .before .pre)))
+mul-result-3 c =
+    rw (c .before .blocks-of .ensures)
+    (omega (arith, ends (c .before .before .args .d) wireAnds, count-small (c .before .before .args .d) (c .before .before .pre)))
 
 add-result : tie.Need-add-result
-add-result c = rw (c .before .blocks-of .ensures, c .start-of-wire-ands .ensures) (omega (arith, ends (c .before .before .args .d) wireAnds, count-small (c .before .before .args .d) (c .before .before .pre)))
+add-result c =
+    rw (c .before .blocks-of .ensures, c .start-of-wire-ands .ensures)
+    (omega (arith, ends (c .before .before .args .d) wireAnds, count-small (c .before .before .args .d) (c .before .before .pre)))
 
 returns : tie.Need-returns
 returns c = rw (c .before .blocks-of .ensures, c .start-of-wire-ands .ensures)

@@ -11,7 +11,8 @@ blocks-of-requires : tie.Need-blocks-of-requires
 blocks-of-requires c κs = search needs
 
 mul-result : tie.Need-mul-result
-mul-result c = rw (c .blocks-of .ensures) (omega (arith, ends (c .before .args .d) literals, count-small (c .before .args .d) (c .before .pre)))
+mul-result c =
+    rw (c .blocks-of .ensures) (omega (arith, ends (c .before .args .d) literals, count-small (c .before .args .d) (c .before .pre)))
 
 returns : tie.Need-returns
 returns c = search needs

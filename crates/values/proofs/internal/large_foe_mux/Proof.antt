@@ -25,14 +25,18 @@ foe-list-requires-3 c κs = search needs
 
 returns-3 : tie.Need-returns-3
 unfolding largeFoeMuxes
-returns-3 c = rw (ne-eqb _ _ (c .before .before .before .if1 .left), ne-eqb _ _ (c .before .before .if2 .left), eq-eqb _ _ (c .before .if3 .taken)) (c .foe-list3 .ensures)
+returns-3 c =
+    rw (ne-eqb _ _ (c .before .before .before .if1 .left), ne-eqb _ _ (c .before .before .if2 .left), eq-eqb _ _ (c .before .if3 .taken))
+    (c .foe-list3 .ensures)
 
 foe-list-requires-4 : tie.Need-foe-list-requires-4
 foe-list-requires-4 c κs = search needs
 
 returns-4 : tie.Need-returns-4
 unfolding largeFoeMuxes
-returns-4 c = rw (ne-eqb _ _ (c .before .before .before .if1 .left), ne-eqb _ _ (c .before .before .if2 .left), ne-eqb _ _ (c .before .if3 .left)) (c .foe-list4 .ensures)
+returns-4 c =
+    rw (ne-eqb _ _ (c .before .before .before .if1 .left), ne-eqb _ _ (c .before .before .if2 .left), ne-eqb _ _ (c .before .if3 .left))
+    (c .foe-list4 .ensures)
 
 pub large-foe-mux-spec : {M : Type 1} → statement M
 large-foe-mux-spec =
