@@ -11,26 +11,26 @@ use crate::vectors::{devices_and_others, fill, halves, word, Digest};
 use std::fmt::Write;
 
 #[derive(Clone, Copy)]
-enum Picture {
+enum Layout {
     Image,
     Readout,
 }
 
-fn read_pattern(picture: Picture, device: Device, bytes: &[u8], setting: u32) -> Answer<u32> {
-    match picture {
-        Picture::Image => read_in_image(device, bytes, setting),
-        Picture::Readout => read_in_readout(device, bytes, setting),
+fn read_pattern(layout: Layout, device: Device, bytes: &[u8], setting: u32) -> Answer<u32> {
+    match layout {
+        Layout::Image => read_in_image(device, bytes, setting),
+        Layout::Readout => read_in_readout(device, bytes, setting),
     }
 }
 
-fn read(picture: Picture, device: Device, bytes: &[u8], setting: u32) -> u64 {
-    word(read_pattern(picture, device, bytes, setting).map(u64::from))
+fn read(layout: Layout, device: Device, bytes: &[u8], setting: u32) -> u64 {
+    word(read_pattern(layout, device, bytes, setting).map(u64::from))
 }
 
-fn set(picture: Picture, device: Device, bytes: &mut [u8], setting: u32, pattern: u32) -> u64 {
-    let answer = match picture {
-        Picture::Image => set_in_image(device, bytes, setting, pattern),
-        Picture::Readout => set_in_readout(device, bytes, setting, pattern),
+fn set(layout: Layout, device: Device, bytes: &mut [u8], setting: u32, pattern: u32) -> u64 {
+    let answer = match layout {
+        Layout::Image => set_in_image(device, bytes, setting, pattern),
+        Layout::Readout => set_in_readout(device, bytes, setting, pattern),
     };
     word(answer.map(|()| 0))
 }
@@ -62,19 +62,19 @@ fn pattern_to_put(k: usize, turn: u32) -> u32 {
     }
 }
 
-fn reads(picture: Picture, device: Device, bytes: &[u8]) -> u64 {
+fn reads(layout: Layout, device: Device, bytes: &[u8]) -> u64 {
     let mut digest = Digest::new();
     for setting in numbers_to_ask(device) {
-        digest.take_in(read(picture, device, bytes, setting));
+        digest.take_in(read(layout, device, bytes, setting));
     }
     digest.value
 }
 
-fn sets(picture: Picture, device: Device, bytes: &mut [u8], turn: u32) -> u64 {
+fn sets(layout: Layout, device: Device, bytes: &mut [u8], turn: u32) -> u64 {
     let mut digest = Digest::new();
     for (k, setting) in numbers_to_ask(device).into_iter().enumerate() {
         let pattern = pattern_to_put(k, turn);
-        digest.take_in(set(picture, device, bytes, setting, pattern));
+        digest.take_in(set(layout, device, bytes, setting, pattern));
     }
     digest.value
 }
@@ -88,10 +88,10 @@ fn digest_of(bytes: &[u8]) -> u64 {
 }
 
 /// What is read, what setting answers, what is read then, and the bytes.
-fn edits(picture: Picture, device: Device, bytes: &mut [u8], turn: u32) -> String {
-    let read = reads(picture, device, bytes);
-    let set = sets(picture, device, bytes, turn);
-    let then = reads(picture, device, bytes);
+fn edits(layout: Layout, device: Device, bytes: &mut [u8], turn: u32) -> String {
+    let read = reads(layout, device, bytes);
+    let set = sets(layout, device, bytes, turn);
+    let then = reads(layout, device, bytes);
     let bytes = digest_of(bytes);
     format!("read {read} set {set} then {then} bytes {bytes}")
 }
@@ -102,12 +102,12 @@ fn answers(device: Device, image_length: usize, readout_length: usize) -> String
     let mut readout = vec![0; readout_length];
     fill(&mut image, 1);
     fill(&mut readout, 2);
-    let in_image = edits(Picture::Image, device, &mut image, 0);
-    let in_any = edits(Picture::Readout, device, &mut readout, 1);
+    let in_image = edits(Layout::Image, device, &mut image, 0);
+    let in_any = edits(Layout::Readout, device, &mut readout, 1);
     let passage = halves(word(
         image_to_readout(device, &image, &mut readout).map(|()| 0),
     ));
-    let in_its_readout = edits(Picture::Readout, device, &mut readout, 2);
+    let in_its_readout = edits(Layout::Readout, device, &mut readout, 2);
     format!(
         "image {image_length} {in_image} readout {readout_length} {in_any} \
          {passage} {in_its_readout}"
@@ -115,23 +115,23 @@ fn answers(device: Device, image_length: usize, readout_length: usize) -> String
 }
 
 /// OE_MUX as it is read, then set to FOE2 and read again.
-fn set_to_foe2(picture: Picture, device: Device, bytes: &mut [u8], oe_mux: u32) -> Answer<String> {
-    let before = read(picture, device, bytes, oe_mux);
+fn set_to_foe2(layout: Layout, device: Device, bytes: &mut [u8], oe_mux: u32) -> Answer<String> {
+    let before = read(layout, device, bytes, oe_mux);
     let foe2 = pattern_of_value(device, oe_mux, Value::Named(ValueName::Foe2))?;
-    let set = set(picture, device, bytes, oe_mux, foe2);
-    let then = read(picture, device, bytes, oe_mux);
+    let set = set(layout, device, bytes, oe_mux, foe2);
+    let then = read(layout, device, bytes, oe_mux);
     let bytes = digest_of(bytes);
     Ok(format!("{before} set {set} then {then} bytes {bytes}"))
 }
 
 /// The same with its values: 0 for PT, 1 for FOE2, 2 for any other, 3 for a refusal.
 fn set_to_foe2_by_name(
-    picture: Picture,
+    layout: Layout,
     device: Device,
     bytes: &mut [u8],
     oe_mux: u32,
 ) -> Answer<String> {
-    let which = |bytes: &[u8]| match read_pattern(picture, device, bytes, oe_mux)
+    let which = |bytes: &[u8]| match read_pattern(layout, device, bytes, oe_mux)
         .and_then(|pattern| value_of_pattern(device, oe_mux, pattern))
     {
         Ok(Value::Named(ValueName::Pt)) => 0,
@@ -141,7 +141,7 @@ fn set_to_foe2_by_name(
     };
     let before = which(bytes);
     let foe2 = pattern_of_value(device, oe_mux, Value::Named(ValueName::Foe2))?;
-    let set = set(picture, device, bytes, oe_mux, foe2);
+    let set = set(layout, device, bytes, oe_mux, foe2);
     let then = which(bytes);
     let bytes = digest_of(bytes);
     Ok(format!("{before} set {set} then {then} bytes {bytes}"))
@@ -159,18 +159,18 @@ fn document_case(smallest: Device) -> Answer<Vec<String>> {
     let mut readout = vec![0; readout_bytes(smallest)?];
     let passage = image_to_readout(smallest, &image, &mut readout);
     let mut lines = vec![format!("readout of ones {}", word(passage.map(|()| 0)))];
-    let in_image = set_to_foe2(Picture::Image, smallest, &mut image, oe_mux)?;
+    let in_image = set_to_foe2(Layout::Image, smallest, &mut image, oe_mux)?;
     lines.push(format!("OE_MUX in the image {in_image}"));
     for fuse in [3138, 3246, 3354] {
         lines.push(format!("byte of fuse {fuse} {}", image[fuse / 8]));
     }
-    let in_readout = set_to_foe2(Picture::Readout, smallest, &mut readout, oe_mux)?;
+    let in_readout = set_to_foe2(Layout::Readout, smallest, &mut readout, oe_mux)?;
     lines.push(format!("OE_MUX in the readout {in_readout}"));
     image.fill(255);
-    let in_image = set_to_foe2_by_name(Picture::Image, smallest, &mut image, oe_mux)?;
+    let in_image = set_to_foe2_by_name(Layout::Image, smallest, &mut image, oe_mux)?;
     lines.push(format!("by name in the image {in_image}"));
     readout.fill(255);
-    let in_readout = set_to_foe2_by_name(Picture::Readout, smallest, &mut readout, oe_mux)?;
+    let in_readout = set_to_foe2_by_name(Layout::Readout, smallest, &mut readout, oe_mux)?;
     lines.push(format!("by name in a readout of bytes 255 {in_readout}"));
     Ok(lines)
 }

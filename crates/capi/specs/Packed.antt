@@ -64,7 +64,7 @@ abbrev pub WordFits : {A : Type 0} → (A → ℕ) → Outcome A → Type 0
 WordFits result (accepted x) = result x < 2 ^ 56
 WordFits result (refused number value) = (0 < number) × (value < 2 ^ 56)
 
--- .. and a result that there is is not the one that stands for none
+-- the same where there may be no result: a result that there is is not the one that stands for none
 abbrev pub WordFitsOrNone : {A : Type 0} → (A → ℕ) → Outcome (Option A) → Type 0
 WordFitsOrNone result (accepted none) = Unit {0}
 WordFitsOrNone result (accepted (some x)) = result x < 2 ^ 56 - 1

@@ -23,30 +23,30 @@ use Rattle.demand.specs.declared.BothDone.{BothDone}
 use Rattle.demand.specs.declared.BeforeAnswer.{BeforeAnswer}
 use Rattle.demand.specs.declared.BothAnswer.{BothAnswer}
 
--- What the steps of `both_ways` give: a setting read in an image and in a readout ..
+-- What the steps of `both_ways` give. A setting is read in an image and in a readout.
 pub record ReadInBoth (d : Device) (image readout : List ℕ) (s : Setting) (r : BothRead) : Type 0 where
   pub in-image : valueOutcome (r .image) ≡ readIn d Image image s
   pub in-readout : valueOutcome (r .readout) ≡ readIn d Readout readout s
 
--- .. bytes copied to a slice of the same length, which else stands ..
+-- Bytes are copied to a slice of the same length; one of another length stands.
 abbrev pub copied : (bytes kept : List ℕ) → List ℕ
 copied bytes kept = cond (eqb (length kept) (length bytes)) bytes kept
 
--- .. an image converted, the readout so copied, and a setting read in both ..
+-- An image is converted, the readout is so copied, and a setting is read in both.
 pub record Begun (d : Device) (image readout readout' kept kept' : List ℕ) (t : Setting)
     (r : BeforeAnswer) : Type 0 where
   pub converted : Written (toReadout d image readout) (doneOutcome (r .converted)) (readoutOf d image) readout readout'
   pub keeps : kept' ≡ copied readout' kept
   pub read : ReadInBoth d image readout' t (r .other)
 
--- .. a setting set in both ..
+-- A setting is set in both.
 pub record SetInBoth (d : Device) (image image' readout readout' : List ℕ) (s : Setting) (v : Value)
     (r : BothDone) : Type 0 where
   pub in-image : Written (setIn d Image image s v) (doneOutcome (r .image)) (withValue d Image image s v) image image'
   pub in-readout : Written (setIn d Readout readout s v) (doneOutcome (r .readout))
       (withValue d Readout readout s v) readout readout'
 
--- .. and both converted
+-- Both are converted.
 pub record BothConverted (d : Device) (image readout its-readout its-readout' its-image its-image' : List ℕ)
     (r : BothDone) : Type 0 where
   pub of-image : Written (toReadout d image its-readout) (doneOutcome (r .image))

@@ -142,7 +142,7 @@ fn set_to_foe2(name: &[u8], in_readout: bool, bytes: &mut [u8]) {
     vectors::end_line();
 }
 
-// The same by name and value.
+// OE_MUX of macrocell 0 of block 0 by its name.
 fn oe_mux() -> Setting {
     Setting::Macrocell {
         block: 0,

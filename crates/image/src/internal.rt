@@ -47,7 +47,7 @@ pub fn set_pair(bytes: &mut [u8], index: usize, bit: u32, states: u32)
     bytes[index] = rest + ((states as u8) << bit);
 }
 
-// Two bytes as one number, the first lowest ..
+// Two bytes as one number, the first lowest.
 fn two_bytes(bytes: &[u8], i: usize) -> u16
     requires { ⌜ i + 2 ≤ length (now bytes) ⌝ }
     ensures { λ r. ⌜ r ≡ getD (now (bytes .entry)) i 0 + getD (now (bytes .entry)) (i + 1) 0 * 2 ^ 8 ⌝ }
@@ -55,8 +55,8 @@ fn two_bytes(bytes: &[u8], i: usize) -> u16
     bytes[i] as u16 + bytes[i + 1] as u16 * 256
 }
 
-// .. in which the second counts 256 times: 256 of the seconds come off, and one comes
-// back. 65281 is 1 - 256 modulo 2^16.
+// The sum of bytes, from the sum of such pairs, in which each second byte counts 256 times: 256 of the seconds come
+// off, and one comes back. 65281 is 1 - 256 modulo 2^16.
 fn counted_once(pairs: u16, seconds: u16) -> u16
     ensures { λ r. ⌜ r ≡ (pairs + seconds * 65281) % 2 ^ 16 ⌝ }
 {

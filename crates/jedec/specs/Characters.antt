@@ -61,7 +61,7 @@ isBlank b = eqb b space || eqb b 9 || eqb b 13 || eqb b lf
 abbrev pub isMark : ℕ → Bool
 isMark b = eqb b stx || eqb b etx
 
--- what a decimal digit and a hex digit stand for, if the byte is one ..
+-- what a decimal digit and a hex digit stand for, if the byte is one
 abbrev pub between : (low high base : ℕ) → ℕ → Option ℕ → Option ℕ
 between low high base b other = cond (leb low b && leb b high) (some (b - low + base)) other
 
@@ -71,7 +71,7 @@ decimalValue b = between 48 57 0 b none
 abbrev pub hexValue : ℕ → Option ℕ
 hexValue b = between 48 57 0 b (between 65 70 10 b (between 97 102 10 b none))
 
--- .. and the digit of a number below ten and sixteen
+-- the digit of a number below ten, and of one below sixteen
 abbrev pub decimalDigit : ℕ → ℕ
 decimalDigit x = 48 + x
 

@@ -117,7 +117,7 @@ putField fuses after (says.Sum x) m image = image
 putField fuses after says.Skipped m image = image
 putField fuses after says.Bad m image = image
 
--- .. for which there is room
+-- the states of an L field are there, and the fuses from its first on are below the count
 pub record ListGoes (fuses : ℕ) (after : List ℕ) (first skip number : ℕ) : Type 0 where
   pub list : ListFits after skip number
   pub room : first + number ≤ fuses
@@ -147,7 +147,7 @@ pub record TextRead (o : Outcome (List ℕ)) (answer : Outcome (Unit {0})) (imag
   pub answers : answer ≡ verdict o
   pub holds : answer ≡ accepted tt → image ≡ resultOf o
 
--- .. and put in place
+-- the same of the caller's image: it holds the image made where the text is accepted, and else what it held
 pub record ReadInto (o : Outcome (List ℕ)) (answer : Outcome (Unit {0})) (before after : List ℕ) : Type 0 where
   pub answers : answer ≡ verdict o
   pub holds : after ≡ written answer (resultOf o) before

@@ -24,11 +24,11 @@ blocksOf d = d .blocks
 abbrev pub isLarge : Device → Bool
 isLarge d = eqb (d .class) 1
 
--- a row has `wide` columns of 8 bits, and then columns of `narrow` bits: the bits of a column ..
+-- a row has `wide` columns of 8 bits, and then columns of `narrow` bits: the bits of a column
 abbrev pub columnWidth : (wide narrow : ℕ) → ℕ → ℕ
 columnWidth wide narrow column = cond (ltb column wide) 8 narrow
 
--- .. and the bits of the row before it
+-- the bits of such a row before a column
 abbrev pub columnStart : (wide narrow : ℕ) → ℕ → ℕ
 columnStart wide narrow column = cond (ltb column wide) (column * 8) (wide * 8 + (column - wide) * narrow)
 

@@ -27,13 +27,13 @@ widthOf (WireAnd block subarea row column) = wireAndWidth column
 unfoldable pub hasPlace : Device → Place → Bool
 hasPlace d p = hasByte d (p .byte) && ltb (p .bit) (widthOf (p .byte))
 
--- Fuses run block, area, row, column, bit, lowest bit first: the fuses before a byte ..
+-- Fuses run block, area, row, column, bit, lowest bit first: the fuses before a byte
 abbrev pub firstFuse : Device → BytePlace → ℕ
 firstFuse d (Main block row column) = block * blockFuses d + (row * mainRowFuses + mainStart column)
 firstFuse d (WireAnd block subarea row column) =
     block * blockFuses d + (mainFuses + (subarea * subareaFuses + (row * wireAndRowFuses + wireAndStart column)))
 
--- .. and before a bit of it
+-- the fuses before a bit of a byte
 abbrev pub fuseOfPlace : Device → Place → ℕ
 fuseOfPlace d p = firstFuse d (p .byte) + p .bit
 
@@ -93,13 +93,13 @@ byteOfAddress address =
 unfoldable pub valid : Device → ℕ → Bool
 valid d address = eqb (addressOfByte (byteOfAddress address)) address && hasByte d (byteOfAddress address)
 
--- A readout has one byte for each valid address, in ascending address order: the bytes before a byte ..
+-- A readout has one byte for each valid address, in ascending address order: the bytes before a byte
 abbrev pub indexOfByte : Device → BytePlace → ℕ
 indexOfByte d (Main block row column) = block * blockBytes d + (row * mainColumns + column)
 indexOfByte d (WireAnd block subarea row column) =
     block * blockBytes d + (mainBytes + (subarea * subareaBytes + (row * wireAndColumns + column)))
 
--- .. and the byte at an index
+-- the byte at an index of a readout
 abbrev pub byteInBlock : ℕ → ℕ → BytePlace
 byteInBlock block rest =
     cond (ltb rest mainBytes)

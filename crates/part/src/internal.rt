@@ -88,7 +88,7 @@ pub fn is_large(d: Device) -> bool
     d.class == 1
 }
 
-// What a block of a known device has, of so much in its main area and so much in each of its subareas ..
+// What a block of a known device has, of so much in its main area and so much in each of its subareas.
 fn in_block(d: Device, main: u32, subarea: u32) -> u32
     requires { ⌜ (known d ≡ true) × (main ≤ 65535) × (subarea ≤ 65535) ⌝ }
     ensures { λ r. ⌜ r ≡ inBlock d main subarea ⌝ }
@@ -96,7 +96,7 @@ fn in_block(d: Device, main: u32, subarea: u32) -> u32
     main + d.blocks * subarea
 }
 
-// .. and what all of its blocks have.
+// What all blocks of a known device have, of so much in a main area and so much in a subarea.
 fn in_device(d: Device, main: u32, subarea: u32) -> u32
     requires { ⌜ (known d ≡ true) × (main ≤ 65535) × (subarea ≤ 65535) ⌝ }
     ensures { λ r. ⌜ r ≡ inDevice d main subarea ⌝ }
@@ -175,7 +175,7 @@ pub fn has_byte(d: Device, byte: BytePlace) -> bool
     }
 }
 
-// The bits of a column of such a row ..
+// The bits of a column of a row that has columns of 8 bits first and narrower ones after them.
 fn column_width(wide: u32, narrow: u32, column: u32) -> u32
     ensures { λ r. ⌜ r ≡ columnWidth wide narrow column ⌝ }
 {
@@ -185,7 +185,7 @@ fn column_width(wide: u32, narrow: u32, column: u32) -> u32
     narrow
 }
 
-// .. and the bits of the row before it.
+// The bits of such a row before a column.
 fn column_start(wide: u32, narrow: u32, column: u32) -> u32
     requires { ⌜ (wide ≤ 9) × (narrow ≤ 8) × (column < 15) ⌝ }
     ensures { λ r. ⌜ r ≡ columnStart wide narrow column ⌝ }
@@ -338,7 +338,7 @@ pub struct InBlock {
     pub rest: u32,
 }
 
-// The place of a fuse, by the steps of the forward routine of document 003: its block ..
+// The block of a fuse and what is left in it: the first step of the forward routine of document 003.
 pub fn in_its_block(d: Device, fuse: FuseNumber) -> InBlock
     requires { ⌜ (known d ≡ true) × (fuse .0 < fuseCount d) ⌝ }
     ensures { λ r. ⌜ (r .block ≡ fuse .0 / blockFuses d) × (r .rest ≡ fuse .0 % blockFuses d) ⌝ }
@@ -350,7 +350,7 @@ pub fn in_its_block(d: Device, fuse: FuseNumber) -> InBlock
     InBlock { block, rest }
 }
 
-// .. its place in a main area ..
+// The place of a fuse in the main area of a block.
 pub fn main_place(block: u32, rest: u32) -> Place
     requires { ⌜ rest < mainFuses ⌝ }
     ensures { λ r. ⌜ r ≡ placeInMain block rest ⌝ }
@@ -367,7 +367,7 @@ pub fn main_place(block: u32, rest: u32) -> Place
     }
 }
 
-// .. or in the subareas.
+// The place of a fuse in the subareas of a block.
 pub fn wire_and_place(block: u32, rest: u32) -> Place
     requires { ⌜ rest < 16 * subareaFuses ⌝ }
     ensures { λ r. ⌜ r ≡ placeInWireAnd block rest ⌝ }

@@ -1,4 +1,4 @@
--- The widths of a readout's bytes in order, as lists: what the passages cut an image's number by.
+-- The widths of a readout's bytes in order, as lists: what the conversions cut an image's number by.
 -- `widths-at` in proofs/Widths.antt ties them to the bytes of the device.
 use Prim.Native.Nat.{ℕ, zero, suc, _+_, _*_, _-_, _/_, _^_}
 use mathlib.Core.Bool.{Bool, true, false, cond}

@@ -1,4 +1,4 @@
-// The passages two rows at a time: a row is not whole bytes of an image, and two are.
+// The conversions two rows at a time: a row is not whole bytes of an image, and two are.
 // Nothing here is part of the public interface.
 ghost use mathlib.Core.Path.{_≡_};
 ghost use mathlib.Core.Bool.{true, false};
@@ -163,7 +163,8 @@ fn put_above(cells: u64, carry: u64, shift: u32, image: &mut [u8], byte: usize, 
     word >> (bytes * 8)
 }
 
-// The same of cells of a readout.
+// Some cells of a readout put into an image above the bits that the cells before left over. Answers what is left over
+// now.
 fn push(
     readout: &[u8],
     at: usize,
@@ -234,7 +235,7 @@ fn six_together(word: u64) -> u64
     all >> 8
 }
 
-// The same of a wire-AND row, a cell of 8 bits and four of 7.
+// A wire-AND row, a cell of 8 bits and four of 7, each in a byte of a word, put together in the same way.
 fn five_together(word: u64) -> u64
     ensures { λ r. ⌜ r ≡ join (rowWidths false) (cut (replicate 5 8) word) ⌝ }
 {
@@ -388,7 +389,8 @@ fn run_stray(readout: &[u8], at: usize, width: u32, count: usize) -> usize
     a
 }
 
-// The same of a row. Bytes of 8 bits have none above; the others are taken as one word, and as a rule none has any.
+// The index of the first byte of a row that has a bit above its width, or the index behind the row. Bytes of 8 bits
+// have none above; the others are taken as one word, and as a rule none has any.
 fn row_stray(main: bool, readout: &[u8], at: usize) -> usize
     requires { ⌜ at + length (rowWidths main) ≤ length (now readout) ⌝ }
     ensures { λ r. ⌜ r ≡ at + fine (rowWidths main) (drop at (now (readout .entry))) ⌝ }
@@ -405,7 +407,7 @@ fn row_stray(main: bool, readout: &[u8], at: usize) -> usize
     run_stray(readout, at + 1, 7, 4)
 }
 
-// The same of some rows, one after another.
+// The index of the first byte of some rows that has a bit above its width, or the index behind them.
 fn rows_stray(main: bool, readout: &[u8], at: usize, count: usize) -> usize
     requires { ⌜ at + count * length (rowWidths main) ≤ length (now readout) ⌝ }
     ensures { λ r. ⌜ r ≡ at + fine (repeat count (rowWidths main)) (drop at (now (readout .entry))) ⌝ }
@@ -424,7 +426,7 @@ fn rows_stray(main: bool, readout: &[u8], at: usize, count: usize) -> usize
     a
 }
 
-// The same of a block.
+// The index of the first byte of a block that has a bit above its width, or the index behind the block.
 fn block_stray(d: Device, readout: &[u8], at: usize) -> usize
     requires { ⌜ (known d ≡ true) × (at + length (blockWidths d) ≤ length (now readout)) ⌝ }
     ensures { λ r. ⌜ r ≡ at + fine (blockWidths d) (drop at (now (readout .entry))) ⌝ }

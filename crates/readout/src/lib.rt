@@ -1,4 +1,4 @@
-// The passages between an image and a device readout.
+// The conversions between an image and a device readout.
 // The definitions stand in specs/Readout.antt.
 ghost use Rattle.part.specs.Answer.{doneOutcome};
 ghost use Rattle.part.specs.Outcome.{Written};

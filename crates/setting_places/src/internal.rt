@@ -141,7 +141,7 @@ const BLOCK_ROW: [u32; 6] = [67, 67, 68, 11, 68, 68];
 
 const BLOCK_COLUMN: [u32; 6] = [0, 1, 6, 3, 3, 0];
 
-// The row of a bit of a macrocell field ..
+// The row of a bit of a macrocell field.
 fn row_of(index: u32, bit: u32) -> u32
     requires { ⌜ (index < 27) × (bit < rows (macrocellFieldAt index)) ⌝ }
     ensures { λ r. ⌜ r ≡ firstRow (macrocellFieldAt index) + bit ⌝ }
@@ -149,7 +149,7 @@ fn row_of(index: u32, bit: u32) -> u32
     ROW_OF_BIT[index as usize][bit as usize] as u32
 }
 
-// .. and how many rows it has.
+// How many rows a macrocell field has.
 fn rows_of(index: u32) -> u32
     requires { ⌜ index < 27 ⌝ }
     ensures { λ r. ⌜ r ≡ rows (macrocellFieldAt index) ⌝ }

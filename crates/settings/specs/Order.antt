@@ -46,7 +46,7 @@ group (Macrocell block m field) = macrocellSettings
 group (Block block field) = blockSettings
 group (Global field) = globals
 
--- the indices of a setting in its group, in the order in which they count, the last fastest ..
+-- the indices of a setting in its group, in the order in which they count, the last fastest
 abbrev pub indices : Device → Setting → List ℕ
 indices d (Literal block j k l polarity) = block ∷ j ∷ k ∷ l ∷ polarityIndex polarity ∷ []
 indices d (WireAnd i j k l) = i ∷ j ∷ k ∷ l ∷ []
@@ -54,7 +54,7 @@ indices d (Macrocell block m field) = block ∷ m ∷ macrocellIndex field ∷ [
 indices d (Block block field) = block ∷ blockIndex field ∷ []
 indices d (Global field) = globalIndex (foes d) field ∷ []
 
--- .. and how many values each of them has
+-- how many values each of these indices has
 abbrev pub bounds : Device → Group → List ℕ
 bounds d literals = blocksOf d ∷ macrocells ∷ terms ∷ inputs ∷ 2 ∷ []
 bounds d wireAnds = blocksOf d ∷ inputs ∷ blocksOf d ∷ macrocells ∷ []
@@ -67,13 +67,13 @@ abbrev pub product : List ℕ → ℕ
 product [] = 1
 product (b ∷ bs) = b * product bs
 
--- the position of a list of indices among all of them, the last fastest ..
+-- the position of a list of indices among all of them, the last fastest
 abbrev pub position : (bounds indices : List ℕ) → ℕ
 position [] xs = 0
 position (b ∷ bs) [] = 0
 position (b ∷ bs) (x ∷ xs) = x * product bs + position bs xs
 
--- .. and the list of indices at a position
+-- the list of indices at a position
 abbrev pub at : List ℕ → ℕ → List ℕ
 at [] position = []
 at (b ∷ bs) position = position / product bs ∷ at bs (position % product bs)

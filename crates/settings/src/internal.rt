@@ -92,7 +92,7 @@ pub fn has_setting(d: Device, s: Setting) -> bool
     }
 }
 
-// The index of each field in the listing order ..
+// The index of each field in the listing order.
 fn polarity_index(polarity: Polarity) -> u32
     ensures { λ r. ⌜ r ≡ polarityIndex polarity ⌝ }
 {
@@ -167,7 +167,7 @@ fn global_index(d: Device, field: GlobalField) -> u32
     }
 }
 
-// .. and each field by its index.
+// Each field by its index.
 fn polarity_at(x: u32) -> Polarity
     ensures { λ r. ⌜ r ≡ polarityAt x ⌝ }
 {

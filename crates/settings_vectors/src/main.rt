@@ -534,7 +534,7 @@ fn offers_of_number(digest: u64, d: Device, number: u32) -> u64 {
     }
 }
 
-// Each value of each setting of the sample ..
+// The digest of the answers for each value offered to each setting of the sample.
 fn values_offered(d: Device) -> u64 {
     let mut digest: u64 = 0;
     let mut number: u32 = FIRST_OF_SAMPLE;
@@ -545,7 +545,7 @@ fn values_offered(d: Device) -> u64 {
     digest
 }
 
-// .. and patterns as "unassigned".
+// The same digest with patterns offered as "unassigned" taken in.
 fn offers_digest(d: Device) -> u64 {
     let mut digest = values_offered(d);
     let mut pattern: u32 = 0;

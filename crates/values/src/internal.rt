@@ -39,7 +39,7 @@ pub enum Found {
     NoSuchValue,
 }
 
-// A list of two names, for 1 and 0 ..
+// The value of a pattern by a list of two names, for 1 and 0.
 fn of_two(pattern: u32, v1: Value, v0: Value) -> Value
     ensures { λ r. ⌜ r ≡ named ((1, v1) ∷ (0, v0) ∷ []) pattern ⌝ }
 {
@@ -52,7 +52,7 @@ fn of_two(pattern: u32, v1: Value, v0: Value) -> Value
     Value::Unassigned(pattern)
 }
 
-// .. of three, for 11, 10 and 01 ..
+// The value of a pattern by a list of three names, for 11, 10 and 01.
 fn of_three(pattern: u32, v3: Value, v2: Value, v1: Value) -> Value
     ensures { λ r. ⌜ r ≡ named ((3, v3) ∷ (2, v2) ∷ (1, v1) ∷ []) pattern ⌝ }
 {
@@ -68,7 +68,7 @@ fn of_three(pattern: u32, v3: Value, v2: Value, v1: Value) -> Value
     Value::Unassigned(pattern)
 }
 
-// .. and of four, for 11, 10, 01 and 00.
+// The value of a pattern by a list of four names, for 11, 10, 01 and 00.
 fn of_four(pattern: u32, v3: Value, v2: Value, v1: Value, v0: Value) -> Value
     ensures { λ r. ⌜ r ≡ named ((3, v3) ∷ (2, v2) ∷ (1, v1) ∷ (0, v0) ∷ []) pattern ⌝ }
 {
