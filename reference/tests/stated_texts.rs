@@ -70,7 +70,8 @@ fn all_but(byte: u8, index: usize, other: u8) -> Vec<u8> {
 #[test]
 fn each_text_is_answered_as_stated() {
     let (mut accepted, mut refused) = (0, 0);
-    for line in CASES.lines() {
+    // A case that is too long for one line goes on at the bracket of its answer.
+    for line in CASES.replace("\n    (", " (").lines() {
         let Some(case) = line.trim_start_matches([' ', '∷']).strip_prefix("is (") else {
             continue;
         };
