@@ -1,7 +1,6 @@
 -- Every answer of the interface fits its word, so that a caller reads it back by `unpacked` and `unpacked-none`
 -- (proofs/Words.antt). A field for each definition that the contracts of src/lib.rt pack.
 use Prim.Native.Nat.{ℕ}
-use mathlib.Core.Bool.{Bool}
 use mathlib.Core.List.{List}
 use Rattle.part.specs.Convert.{addressOfFuse, fuseOfAddress}
 use Rattle.part.specs.declared.Device.{Device}

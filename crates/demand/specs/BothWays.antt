@@ -1,6 +1,5 @@
--- What `both_ways` ensures: for whatever it was given, each answer and each slice is what its definition gives (`Ran`);
--- and for any known device, image, setting and value and slices of the right lengths demand 3 holds of them (`Made` and
--- `DemandByName` of crate `edit`).
+-- What `both_ways` ensures: each answer and each slice is what its definition gives (`Ran`), and for any known device,
+-- image, setting and value and slices of the right lengths demand 3 holds of them (`Made`, `DemandByName` of `edit`).
 use mathlib.Core.Path.{_≡_}
 use mathlib.Core.Bool.{cond}
 use mathlib.Core.List.{List}

@@ -1,5 +1,4 @@
--- Document 01's case of OE_MUX on an image of ones, and the order of the refusals of
--- setting: on the part of two blocks.
+-- Document 01's case of OE_MUX on an image of ones, and the order of setting's refusals: on the part of two blocks.
 -- Assumes nothing.
 use mathlib.Core.Path.{_≡_}
 use mathlib.Core.Bool.{true}

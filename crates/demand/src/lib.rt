@@ -1,6 +1,5 @@
 // Demand 3 as a run of calls: a setting is set in an image and straight in its readout, both are converted, and
-// settings are read before and after. The records that its contract cites stand in specs/Demand.antt of crate
-// `edit` and in specs/BothWays.antt.
+// settings are read before and after. It cites specs/BothWays.antt here and specs/Demand.antt of crate `edit`.
 ghost use mathlib.Core.Path.{_≡_};
 ghost use Rattle.demand.specs.BothWays.{ReadInBoth, copied, Begun, SetInBoth, BothConverted, BothWays};
 use part::Device;
@@ -37,7 +36,7 @@ pub struct BothAnswer {
 }
 
 // A setting read in an image and in a readout.
-pub fn read_both(d: Device, image: &[u8], readout: &[u8], s: Setting) -> BothRead
+fn read_both(d: Device, image: &[u8], readout: &[u8], s: Setting) -> BothRead
     ensures { λ r. ⌜ ReadInBoth d (now (image .entry)) (now (readout .entry)) s r ⌝ }
 {
     let in_image = edit::read_in_image(d, image, s);
@@ -49,7 +48,7 @@ pub fn read_both(d: Device, image: &[u8], readout: &[u8], s: Setting) -> BothRea
 }
 
 // A slice copied to another one of the same length; one of another length stands.
-pub fn keep(bytes: &[u8], kept: &mut [u8])
+fn keep(bytes: &[u8], kept: &mut [u8])
     ensures { λ _. ⌜ now (kept .exit) ≡ copied (now (bytes .entry)) (now (kept .entry)) ⌝ }
 {
     if kept.len() != bytes.len() {
@@ -59,13 +58,7 @@ pub fn keep(bytes: &[u8], kept: &mut [u8])
 }
 
 // An image converted to a readout, the readout copied to `kept`, and a setting read in both.
-pub fn begin(
-    d: Device,
-    image: &[u8],
-    readout: &mut [u8],
-    kept: &mut [u8],
-    t: Setting,
-) -> BeforeAnswer
+fn begin(d: Device, image: &[u8], readout: &mut [u8], kept: &mut [u8], t: Setting) -> BeforeAnswer
     ensures { λ r. ⌜ Begun d (now (image .entry)) (now (readout .entry)) (now (readout .exit)) (now (kept .entry))
         (now (kept .exit)) t r ⌝ }
 {
@@ -76,7 +69,7 @@ pub fn begin(
 }
 
 // A setting set to a value in an image and straight in a readout.
-pub fn set_both(d: Device, image: &mut [u8], readout: &mut [u8], s: Setting, v: Value) -> BothDone
+fn set_both(d: Device, image: &mut [u8], readout: &mut [u8], s: Setting, v: Value) -> BothDone
     ensures { λ r.
         ⌜ SetInBoth d (now (image .entry)) (now (image .exit)) (now (readout .entry)) (now (readout .exit)) s v r ⌝ }
 {
@@ -89,7 +82,7 @@ pub fn set_both(d: Device, image: &mut [u8], readout: &mut [u8], s: Setting, v: 
 }
 
 // An image converted to a readout, and a readout to an image.
-pub fn convert_both(
+fn convert_both(
     d: Device,
     image: &[u8],
     readout: &[u8],

@@ -1,15 +1,14 @@
 -- Demand 3 holds: of the definitions of setting, reading and the conversions, for every known device, image, setting and value. Each
 -- field is proved in a file of its own, and rests on no later one.
-use mathlib.Core.Path.{_≡_, sym, _∙_, ap}
+use mathlib.Core.Path.{_≡_, _∙_}
 use mathlib.Core.List.{List}
 use Prim.Native.Nat.{ℕ}
-use Rattle.part.specs.Outcome.{Outcome}
 use Rattle.part.specs.declared.Device.{Device}
-use Rattle.readout.specs.Readout.{toReadout, readoutOf, toImage, imageOf}
+use Rattle.readout.specs.Readout.{readoutOf, imageOf}
 use Rattle.settings.specs.declared.Setting.{Setting}
 use Rattle.values.specs.declared.Value.{Value}
 use Rattle.setting_bits.specs.declared.Layout.the-variants.{Image, Readout}
-use Rattle.edit.specs.Edit.{withValue, readIn, setIn}
+use Rattle.edit.specs.Edit.{withValue}
 use Rattle.edit.specs.Demand.{Taken, Calls, callsByName, DemandByName, Made}
 use Rattle.edit.proofs.NotRefused.{not-refused}
 use Rattle.edit.proofs.SameReadout.{same-readout}

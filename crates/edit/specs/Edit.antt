@@ -1,6 +1,5 @@
--- Reading and setting a setting, in an image and in a readout: unless refused, setting puts a value's states there
--- and changes no other bit; reading answers the value whose states stand there. Document 01, "What the statements
--- must settle" and the refusals.
+-- Reading and setting a setting, in an image and in a readout: unless refused, setting puts a value's states there and
+-- changes no other bit; reading answers the value whose states stand there (document 01, the words of demand 3).
 use Prim.Native.Nat.{ℕ}
 use mathlib.Core.Bool.{cond}
 use mathlib.Core.List.{List}

@@ -2,7 +2,7 @@
 -- number reads as the pattern that stands in its fuses.
 use mathlib.Core.Path.{_≡_, refl, sym, _∙_, ap}
 use mathlib.Core.Logic.{_≢_}
-use mathlib.Core.Bool.{Bool, true}
+use mathlib.Core.Bool.{true}
 use mathlib.Core.List.{List}
 use Prim.Native.Nat.{ℕ, _<_}
 use native.Mathlib.Omega.{arith}
@@ -19,10 +19,10 @@ use Rattle.values.specs.declared.Value.{Value}
 use Rattle.setting_values.specs.Kinds.{valueOf}
 use Rattle.setting_bits.specs.declared.Layout.{Layout}
 use Rattle.setting_bits.specs.declared.Layout.the-variants.{Image, Readout}
-use Rattle.setting_bits.specs.SettingBits.{bytesOf, patternAt, withPattern}
+use Rattle.setting_bits.specs.SettingBits.{bytesOf, patternAt}
 use Rattle.setting_bits.proofs.Edits.{set-length, set-reads, set-others-read, same-pattern}
 use Rattle.edit.specs.Edit.{setIn, withValue}
-use Rattle.edit.specs.Demand.{Taken, callsByName, DemandByName}
+use Rattle.edit.specs.Demand.{Taken}
 use Rattle.edit.proofs.NotRefused.{Clean, its-length, its-bits}
 use Rattle.edit.proofs.ReadsAsSet.{image-clean, readout-clean}
 use Rattle.edit.proofs.Demand.{holds}

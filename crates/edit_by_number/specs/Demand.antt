@@ -1,6 +1,5 @@
--- Demand 3 of the operations by setting number and pattern: the same sentences (`Demand3` in specs/Demand.antt of
--- crate `edit`), where a setting is called by its number and what it reads as is its pattern. The law is
--- `holds-by-number` in proofs/Laws.antt.
+-- Demand 3 of the operations by setting number and pattern: the sentences of `Demand3` in specs/Demand.antt of `edit`,
+-- where a setting is called by its number and reads as its pattern. The law is `holds-by-number` in proofs/Laws.antt.
 use mathlib.Core.Path.{_≡_}
 use mathlib.Core.Bool.{true}
 use mathlib.Core.List.{List}

@@ -6,7 +6,7 @@ use Prim.Native.Nat.{ℕ, zero, suc, _+_, _*_, _/_, _%_, _^_, _<_}
 use native.Mathlib.Omega.{arith}
 use native.Mathlib.Nat.{zero-mul, suc-mul, add-comm, not-suc-le-zero, le-of-suc-le-suc}
 use lib.ListN.{length, getD, take, replicate, length-replicate}
-use Rattle.cells.specs.Cells.{cut, join, number, total}
+use Rattle.cells.specs.Cells.{join, number, total}
 use Rattle.cells.proofs.Laws.{cut-at, cut-join}
 use Rattle.image.specs.Bits.{bitOf, bitAt}
 use Rattle.image.specs.Image.{state}

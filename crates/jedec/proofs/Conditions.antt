@@ -1,6 +1,5 @@
--- A text is of document 01's form or refused 7, and accepted exactly if its counts and sums are right too (`GoodForm`,
--- `Accepted` in specs/Form.antt).
--- Assumes nothing.
+-- A text is of good form or refused 7, and is accepted exactly if it is in place and its counts and sums are right too.
+-- Assumes nothing. `GoodForm` and `Accepted` stand in specs/Form.antt.
 use mathlib.Core.Path.{_≡_, refl, sym, _∙_, ap}
 use mathlib.Core.Logic.{_↔_, _⊎_, inl, inr}
 use mathlib.Core.Bool.{Bool, true, false, cond, _||_}

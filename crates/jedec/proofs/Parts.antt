@@ -1,6 +1,5 @@
--- A text is of good form exactly if it is put together from its parts (`GoodForm`, `Assembled` in
--- specs/Form.antt): the way back from the cut.
--- Assumes nothing.
+-- A text is of good form exactly if it is put together from its parts: the way back from the cut.
+-- Assumes nothing. `GoodForm` and `Assembled` stand in specs/Form.antt.
 use mathlib.Core.Path.{_≡_, refl, sym, _∙_, ap}
 use mathlib.Core.Logic.{_↔_}
 use mathlib.Core.Bool.{Bool, true, false, cond, true≢false}

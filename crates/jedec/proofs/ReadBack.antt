@@ -21,7 +21,7 @@ use Rattle.jedec.specs.Characters.{stx, etx, lf, star, letterC, letterF,
 use Rattle.jedec.specs.Cut.{Field, holdsMark}
 use Rattle.jedec.specs.Judge.{Judged, judge}
 use Rattle.jedec.specs.Judge.Judged.{count, start, sum}
-use Rattle.jedec.specs.Rules.{At, Listed, Known, nothingKnown, inOrder, after, allFields, endOf, misplaced, stateGiven, within}
+use Rattle.jedec.specs.Rules.{At, Listed, Known, nothingKnown, inOrder, after, allFields, misplaced, stateGiven, within}
 use Rattle.jedec.specs.Rules.{imageWith}
 use Rattle.jedec.specs.Rules.Fields.{known}
 use Rattle.jedec.specs.Meaning.{longest, meaning}

@@ -1,6 +1,5 @@
--- The image of a text in plain terms: when each L is in place, and which state each fuse then has (`InPlace`,
--- `Described` in specs/Form.antt).
--- Assumes nothing.
+-- The image of a text in plain terms: when each L is in place, and which state each fuse then has.
+-- Assumes nothing. `InPlace` and `Described` stand in specs/Form.antt.
 use mathlib.Core.Path.{_≡_, refl, sym, _∙_, ap, subst}
 use mathlib.Core.Logic.{_↔_, inl, inr}
 use mathlib.Core.Bool.{Bool, true, false, cond, _&&_, _||_}

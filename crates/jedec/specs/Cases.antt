@@ -1,6 +1,5 @@
--- Texts and what they mean for the part of 18144 fuses: document 01's bench section, and points that its words leave
--- room for. A written text, byte by byte. The independent program is held to the same texts
--- (reference/tests/stated_texts.rs).
+-- Texts and what they mean for the part of 18144 fuses: document 01's bench section, and points that it leaves open;
+-- a written text, byte by byte. The independent program is held to the same texts (reference/tests/stated_texts.rs).
 use mathlib.Core.Path.{_≡_}
 use mathlib.Core.List.{List, [], _∷_, _++_, map}
 use Prim.Native.Nat.{ℕ}

@@ -1,6 +1,5 @@
--- A text of document 01's form, put together from its parts, and what it is for a text to be accepted, or refused 9:
--- what the laws speak of. The laws stand in proofs/Laws.antt: those whose names end in -iff, `finished-state`,
--- `assembled-accepted` and `read-back`.
+-- The form of a text, put together from its parts, and the conditions for it to be accepted or refused 9.
+-- The laws about them stand in proofs/Laws.antt: those that end in -iff, `finished-state` and `assembled-accepted`.
 use Prim.Native.Nat.{ℕ, _+_, _/_, _^_, _<_, _≤_}
 use mathlib.Core.Path.{_≡_}
 use mathlib.Core.Logic.{_⊎_}

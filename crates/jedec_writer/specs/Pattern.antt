@@ -1,6 +1,5 @@
--- The line pattern of a device, as 001 has it: "per main row 40, 38 and 30 bits, per wire-AND row 36",
--- five columns to a line. The writer's text by that pattern, and what the writer answers: refusals 1, 2
--- and then 12 with the bytes needed.
+-- The line pattern of a device, as 001 has it: "per main row 40, 38 and 30 bits, per wire-AND row 36", five columns a
+-- line. The writer's text by that pattern, and what the writer answers: refusals 1, 2 and 12 with the bytes needed.
 use Prim.Native.Nat.{ℕ, _+_, _*_}
 use mathlib.Core.Bool.{Bool, true, false, cond}
 use mathlib.Core.List.{List, [], _∷_, _++_}

@@ -1,6 +1,5 @@
--- What the proofs of the writer work with: the characters of a number's bits, the bytes of lines,
--- bytes stored with more behind them.
--- Assumes nothing.
+-- What the proofs of the writer work with: the characters of a number's bits, the bytes of lines, bytes stored with
+-- more behind them. Assumes nothing.
 use Prim.Native.Nat.{ℕ, _+_, _/_, _^_, _≤_}
 use mathlib.Core.Path.{_≡_}
 use mathlib.Core.List.{List, [], _∷_, _++_, map}

@@ -1,6 +1,5 @@
--- Which devices there are, and how many fuses and bytes each has: document 01, "Covered by the first build" and
--- "Three pictures of one part". Contracts above speak of `known`, the fuse count and the lengths; those that are given
--- a block count make a device of it.
+-- Which devices there are, and how many fuses and bytes each has: document 01, "Covered by the first build" and "Three
+-- pictures of one part". Contracts above speak of `known`, the fuse count and the lengths, never of the fields.
 use Prim.Native.Nat.{ℕ, _+_, _*_, _-_, _/_}
 use mathlib.Core.Bool.{Bool, cond, _&&_, _||_}
 use lib.Dec.{eqb, ltb}

@@ -1,6 +1,5 @@
--- Where a fuse lies (document 01's "place"): a byte, that is block, area, row and column, and a bit of it.
--- Then the fuse number, the address and the readout index of each. Document 01, "Three pictures of one part";
--- 003's forward routine decides.
+-- Where a fuse lies (document 01's "place"): a byte, that is block, area, row and column, and a bit of it; then the
+-- fuse number, the address and the readout index of each. 003's forward routine decides.
 use Prim.Native.Nat.{ℕ, _+_, _*_, _-_, _/_, _%_, _^_}
 use mathlib.Core.Bool.{Bool, cond, _&&_}
 use lib.Dec.{eqb, ltb}

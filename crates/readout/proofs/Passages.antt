@@ -1,9 +1,9 @@
 -- What the passages make, bit by bit: cutting an image's number by the device's widths gives its readout, and cutting a readout's
 -- number by bytes gives its image.
-use mathlib.Core.Path.{_≡_, sym, _∙_, ap, subst}
+use mathlib.Core.Path.{_≡_, sym, _∙_, subst}
 use mathlib.Core.Bool.{true}
 use mathlib.Core.List.{List, append-nil}
-use Prim.Native.Nat.{ℕ, _+_, _*_, _/_, _%_, _^_, _<_}
+use Prim.Native.Nat.{ℕ, _+_, _*_, _/_, _^_, _<_}
 use native.Mathlib.Omega.{arith}
 use native.Mathlib.Nat.{zero-add, le-of-eq}
 use lib.Dec.{ltb}
@@ -11,7 +11,7 @@ use lib.ListN.{length, getD, replicate, length-replicate, drop-of-length-le}
 use lib.Seq.{sets, sets-eq, ext-getD}
 use borrow.Author.Tests.{lt-ltb, ltb-true}
 use Rattle.cells.specs.Cells.{cut, join, number}
-use Rattle.cells.proofs.Laws.{cut-at, cut-length, cut-join, total-repeat}
+use Rattle.cells.proofs.Laws.{cut-at, cut-length, total-repeat}
 use Rattle.part.specs.Device.{known, fuseCount, imageBytes, readoutBytes}
 use Rattle.part.specs.Place.{hasByte, hasPlace, widthOf, firstFuse, placeOfFuse, indexOfByte, byteOfIndex}
 use Rattle.part.specs.declared.Device.{Device}

@@ -3,9 +3,9 @@
 use mathlib.Core.Path.{_≡_, refl, sym, _∙_, ap}
 use mathlib.Core.Bool.{Bool, true, false}
 use mathlib.Core.List.{List, _++_, append-assoc}
-use Prim.Native.Nat.{ℕ, zero, suc, _+_, _*_, _-_, _/_, _≤_, _<_}
+use Prim.Native.Nat.{ℕ, zero, suc, _+_, _*_, _-_, _/_, _≤_}
 use native.Mathlib.Omega.{arith}
-use native.Mathlib.Nat.{suc-mul, zero-mul, mul-assoc}
+use native.Mathlib.Nat.{zero-mul, mul-assoc}
 use lib.ListN.{length, length-append}
 use Rattle.cells.specs.Cells.{total, repeat}
 use Rattle.cells.proofs.Laws.{total-append, total-repeat, length-repeat}

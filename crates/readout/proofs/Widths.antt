@@ -5,9 +5,9 @@ use mathlib.Core.Bool.{true, false}
 use mathlib.Core.List.{List, _++_}
 use Prim.Native.Nat.{ℕ, zero, suc, _+_, _*_, _-_, _/_, _%_, _<_}
 use native.Mathlib.Omega.{arith}
-use native.Mathlib.Nat.{zero-add, zero-mul, suc-mul, add-comm, mod-lt, div-add-mod', div-lt-iff-lt-mul, not-suc-le-zero, le-of-suc-le-suc}
+use native.Mathlib.Nat.{zero-add, zero-mul, suc-mul, mod-lt, div-add-mod', div-lt-iff-lt-mul, not-suc-le-zero, le-of-suc-le-suc}
 use native.Mathlib.Nat.{le-of-lt}
-use lib.ListN.{length, getD, take, replicate, length-replicate, List·getD-append}
+use lib.ListN.{length, take, replicate, length-replicate, List·getD-append}
 use lib.Seq.{take-append-le, take-append-add, getD-append-add}
 use borrow.Author.Tests.{lt-ltb, le-ltb}
 use Rattle.cells.specs.Cells.{total, repeat}

@@ -1,6 +1,5 @@
--- Readout: one byte for each valid address, in ascending address order, value in the low bits, bits above the
--- byte's width 0. The two conversions between image and readout, refusals and target bytes included. Document
--- 01, "Three pictures of one part".
+-- Readout: one byte for each valid address, in ascending order, value in the low bits, bits above the byte's width 0.
+-- The two conversions between image and readout, refusals and target bytes included. Document 01, "Three pictures".
 use Prim.Native.Nat.{ℕ, zero, suc, _^_}
 use mathlib.Core.Bool.{Bool, cond}
 use mathlib.Core.List.{List}

@@ -1,5 +1,4 @@
--- Document 01's text and what the bench program writes for it; the empty text, and texts for
--- which it takes four blocks and two.
+-- Document 01's text and what the bench program writes for it; the empty text; texts for four blocks and for two.
 -- Assumes nothing.
 use mathlib.Core.Path.{_≡_}
 use mathlib.Core.List.{List, [], _∷_, _++_}

@@ -1,6 +1,5 @@
--- What the bench program writes for its input: document 01, "Bench cases". "The bench program reads standard input (at
--- most 65,536 bytes, more is 7 at 65536), takes n = 4 where the first QF field reads 41472, else 2, and writes ..
--- exactly these lines"; for a refusal, `refused N at V`.
+-- What the bench program writes for its input: document 01, "Bench cases". The lines of a text that is accepted, and
+-- `refused N at V` for a refusal.
 use Prim.Native.Nat.{ℕ, _+_}
 use mathlib.Core.Bool.{cond}
 use mathlib.Core.List.{List, [], _∷_, _++_}

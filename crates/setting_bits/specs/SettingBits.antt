@@ -1,6 +1,5 @@
--- The bits of a setting in an image or a readout: where a fuse stands, the states that stand there as a
--- pattern, a pattern put there, and the lowest byte that has a bit above its width. Document 01, "What the
--- statements must settle" and refusal 6.
+-- The bits of a setting in an image or a readout: where a fuse stands, the states that stand there as a pattern,
+-- a pattern put there, and the lowest byte that has a bit above its width (document 01, refusal 6).
 use Prim.Native.Nat.{ℕ, zero, suc, _/_, _%_}
 use mathlib.Core.Bool.{Bool, true, false, cond, _&&_}
 use mathlib.Core.List.{List}

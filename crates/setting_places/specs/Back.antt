@@ -1,6 +1,5 @@
--- The way from a fuse back to its setting: a candidate is taken from the place of the fuse, and it is the
--- answer exactly if it lists that fuse. So only `settingAt` is to be believed; `fuses-inverse` and
--- `unnamed-iff` say what it gives.
+-- The way from a fuse back to its setting: a candidate is taken from the place of the fuse, and it is the answer
+-- exactly if it lists that fuse. Only `settingAt` is to be believed; `fuses-inverse` and `unnamed-iff` determine it.
 use Prim.Native.Nat.{ℕ, zero, suc, _+_, _*_, _-_, _/_, _%_}
 use mathlib.Core.Bool.{cond, _&&_}
 use mathlib.Core.Option.{Option}

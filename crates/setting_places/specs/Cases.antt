@@ -1,6 +1,5 @@
--- Document 01's words and cases about places, on the part of two blocks: USERCODE's two rows from place to bit, the
--- bench cases, and the fuses of every field.
--- Assumes nothing.
+-- Document 01's words and cases about places, on the part of two blocks: USERCODE's rows from place to bit, the bench
+-- cases, and the fuses of every field. Assumes nothing.
 use mathlib.Core.Path.{_≡_}
 use Prim.Native.Nat.{ℕ, suc, _+_, _*_, _-_, _<_, _≤_}
 use mathlib.Core.List.{List, [], _∷_, _++_, map}

@@ -1,6 +1,5 @@
-// What the operations on the fuses of settings and the crates above need, and no caller: the tables and
-// steps behind them. A function here may require that the device is known or has the setting; nothing here
-// is part of the public interface.
+// The tables and steps behind the operations on the fuses of settings, for the crates above and no caller.
+// A function here may require that the device is known or has the setting.
 ghost use mathlib.Core.Path.{_≡_};
 ghost use mathlib.Core.Bool.{true};
 ghost use Prim.Native.Nat.{_+_, _<_, _≤_};

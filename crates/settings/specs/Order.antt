@@ -1,6 +1,5 @@
--- The numbers of the settings: "from 0 in the order of this list: group by group, indices in the order block,
--- macrocell, term, input, P before N (for wire-AND: i, j, k, l), the last fastest; a macrocell's, block's or global
--- field comes last, in the order listed".
+-- The numbers of the settings, "from 0 in the order of this list: group by group", then by indices, the last fastest;
+-- a macrocell's, block's or global field comes last, in the order listed. P stands before N.
 use Prim.Native.Nat.{ℕ, zero, suc, _+_, _*_, _-_, _/_, _%_}
 use mathlib.Core.Bool.{Bool, false, cond, _&&_, _||_}
 use mathlib.Core.List.{List, [], _∷_}

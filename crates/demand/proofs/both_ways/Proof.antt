@@ -1,6 +1,6 @@
 -- `both_ways` meets its contract: each call gave what its definition says, and demand 3 holds of the definitions.
 -- Assumes nothing.
-use mathlib.Core.Path.{_≡_, sym, _∙_, ap, subst}
+use mathlib.Core.Path.{_≡_, sym, _∙_, ap}
 use mathlib.Core.List.{List}
 use Prim.Native.Nat.{ℕ}
 use native.Mathlib.Omega.{arith}
@@ -15,7 +15,7 @@ use Rattle.readout.specs.Readout.{toReadout, readoutOf, toImage, imageOf}
 use Rattle.settings.specs.declared.Setting.{Setting}
 use Rattle.values.specs.declared.Value.{Value}
 use Rattle.setting_bits.specs.declared.Layout.the-variants.{Image, Readout}
-use Rattle.edit.specs.Edit.{withValue, readIn, setIn}
+use Rattle.edit.specs.Edit.{withValue, setIn}
 use Rattle.edit.specs.Demand.{Taken, Made}
 use Rattle.edit.proofs.NotRefused.{not-refused, its-length}
 use Rattle.edit.proofs.SameReadout.{same-readout}

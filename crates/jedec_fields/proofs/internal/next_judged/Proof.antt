@@ -1,5 +1,4 @@
--- `next_judged` meets its contract: blanks are passed, and then it is the end of the text, ETX, or a field up to its `*`; a
--- good L field is found at once.
+-- `next_judged` meets its contract: behind blanks stands the end of the text, ETX, or a field up to its `*`.
 -- Assumes nothing.
 use mathlib.Core.Path.{_≡_, refl, sym, _∙_}
 use mathlib.Core.Bool.{Bool, true, false, cond}

@@ -1,7 +1,7 @@
 -- `pattern_at` meets its contract: USERCODE by pairs; of any other setting, a bit more of the pattern at each turn.
 -- Assumes nothing.
 use mathlib.Core.Path.{_≡_, refl, _∙_, ap, ap₂}
-use mathlib.Core.Bool.{Bool, true}
+use mathlib.Core.Bool.{true}
 use Prim.Native.Nat.{ℕ, _+_, _*_, _-_, _%_, _^_, _<_, _≤_}
 use native.Mathlib.Omega.{arith}
 use Rattle.part.specs.Device.{known}

@@ -1,7 +1,7 @@
 -- `spot_of` meets its contract: the fuse of a bit is the fuse at its place.
 -- Assumes nothing.
 use mathlib.Core.Path.{_≡_}
-use mathlib.Core.Bool.{Bool, true}
+use mathlib.Core.Bool.{true}
 use Prim.Native.Nat.{ℕ, _<_}
 use Rattle.part.specs.Device.{known}
 use Rattle.part.specs.Place.{hasPlace, fuseOfPlace}

@@ -1,7 +1,7 @@
 -- `usercode_spot` meets its contract: the row, the column and bit 6 of a pair are those of its lower bit.
 -- Assumes nothing.
-use mathlib.Core.Path.{_≡_, refl}
-use mathlib.Core.Bool.{Bool, true, false}
+use mathlib.Core.Path.{_≡_}
+use mathlib.Core.Bool.{true}
 use Prim.Native.Nat.{ℕ, _+_, _*_, _/_, _%_, _<_}
 use Rattle.part.specs.Device.{known}
 use Rattle.part.specs.declared.Device.{Device}
