@@ -159,7 +159,7 @@ fn main() -> Result<(), String> {
     // Image to text: a refusal 12 says how many bytes are needed. Then that text to an image.
     let needed = image_to_text(&image, &mut []);
     if needed >> 56 != 12 {
-        return Err("image_to_text: no room was enough".to_string());
+        return Err("image_to_text: no buffer was enough".to_string());
     }
     let mut text = vec![0; (needed & NONE) as usize];
     let length = result("image_to_text", image_to_text(&image, &mut text))? as usize;

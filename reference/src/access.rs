@@ -25,14 +25,14 @@ fn bit_of_pattern(pattern: u32, bit: usize) -> bool {
 
 /// Refusal 6 at the lowest byte that holds the setting and has a bit above its width.
 fn check_holding_bytes(layout: &Layout, entry: &Entry, readout: &[u8]) -> Answer<()> {
-    let mut stray = Vec::new();
+    let mut above = Vec::new();
     for fuse in &entry.fuses {
         let index = layout.fuses[*fuse as usize].readout_index;
-        if layout.has_stray_bit(readout, index) {
-            stray.push(index);
+        if layout.has_bit_above_width(readout, index) {
+            above.push(index);
         }
     }
-    match stray.into_iter().min() {
+    match above.into_iter().min() {
         Some(index) => refuse(6, index as u64),
         None => Ok(()),
     }

@@ -104,13 +104,13 @@ fn answers(device: Device, image_length: usize, readout_length: usize) -> String
     fill(&mut readout, 2);
     let in_image = edits(Layout::Image, device, &mut image, 0);
     let in_any = edits(Layout::Readout, device, &mut readout, 1);
-    let passage = halves(word(
+    let conversion = halves(word(
         image_to_readout(device, &image, &mut readout).map(|()| 0),
     ));
     let in_its_readout = edits(Layout::Readout, device, &mut readout, 2);
     format!(
         "image {image_length} {in_image} readout {readout_length} {in_any} \
-         {passage} {in_its_readout}"
+         {conversion} {in_its_readout}"
     )
 }
 
@@ -157,8 +157,8 @@ fn document_case(smallest: Device) -> Answer<Vec<String>> {
     let oe_mux = number_of_setting(smallest, setting)?;
     let mut image = vec![255; image_bytes(smallest)?];
     let mut readout = vec![0; readout_bytes(smallest)?];
-    let passage = image_to_readout(smallest, &image, &mut readout);
-    let mut lines = vec![format!("readout of ones {}", word(passage.map(|()| 0)))];
+    let conversion = image_to_readout(smallest, &image, &mut readout);
+    let mut lines = vec![format!("readout of ones {}", word(conversion.map(|()| 0)))];
     let in_image = set_to_foe2(Layout::Image, smallest, &mut image, oe_mux)?;
     lines.push(format!("OE_MUX in the image {in_image}"));
     for fuse in [3138, 3246, 3354] {

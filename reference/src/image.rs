@@ -38,7 +38,7 @@ pub fn readout_to_image(device: Device, readout: &[u8], image: &mut [u8]) -> Ans
     layout.check_readout(readout)?;
     layout.check_image(image)?;
     for index in 0..readout.len() {
-        if layout.has_stray_bit(readout, index) {
+        if layout.has_bit_above_width(readout, index) {
             return refuse(6, index as u64);
         }
     }

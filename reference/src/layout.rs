@@ -200,7 +200,7 @@ impl Layout {
     }
 
     /// True if a readout byte has a bit at or above its width.
-    pub fn has_stray_bit(&self, readout: &[u8], index: usize) -> bool {
+    pub fn has_bit_above_width(&self, readout: &[u8], index: usize) -> bool {
         (self.bytes[index].width..8).any(|bit| bit_of_byte(readout[index], bit))
     }
 }

@@ -1,5 +1,5 @@
 // What the vectors program of the writer prints, worked out by the plain writer of texts.
-// Images and rooms have the right length and wrong ones; of the room every byte is taken in.
+// Images and buffers have the right length and wrong ones; of the buffer every byte is taken in.
 
 use crate::device::{Device, SMALL};
 use crate::image::image_bytes;
@@ -7,12 +7,12 @@ use crate::jedec_writer::{image_to_text, text_bytes};
 use crate::vectors::{devices_and_others, fill, halves, word, Digest};
 use std::fmt::Write;
 
-/// Bytes past the text in the longer room.
+/// Bytes past the text in the longer buffer.
 const MORE: usize = 7;
 
-/// The digest of the room after the writer was called with it, and the answer.
-fn written(device: Device, image: &[u8], room: usize) -> String {
-    let mut text = vec![0; room];
+/// The digest of the buffer after the writer was called with it, and the answer.
+fn written(device: Device, image: &[u8], buffer: usize) -> String {
+    let mut text = vec![0; buffer];
     fill(&mut text, 4);
     let answer = image_to_text(device, image, &mut text);
     let mut digest = Digest::new();
@@ -32,7 +32,7 @@ fn image_of_kind(length: usize, kind: u64) -> Vec<u8> {
     image
 }
 
-/// Images of each kind, one too short and one too long, each with the four rooms.
+/// Images of each kind, one too short and one too long, each with the four buffers.
 pub(crate) fn text_vectors() -> String {
     let smallest = Device {
         blocks: 2,
@@ -58,13 +58,13 @@ pub(crate) fn text_vectors() -> String {
                 "blocks {blocks} class {class} image {length} kind {kind}"
             )
             .unwrap();
-            for (name, room) in [
+            for (name, buffer) in [
                 ("exact", needed),
                 ("short", needed - 1),
                 ("longer", needed + MORE),
                 ("empty", 0),
             ] {
-                let answer = written(device, &image, room);
+                let answer = written(device, &image, buffer);
                 write!(lines, " {name} {answer}").unwrap();
             }
             lines.push('\n');

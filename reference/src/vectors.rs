@@ -154,7 +154,7 @@ pub(crate) fn next(word: u64) -> u64 {
 }
 
 /// The digest of the bytes that a call was lent, and its answer.
-fn passage(answer: Answer<()>, bytes: &[u8]) -> String {
+fn conversion(answer: Answer<()>, bytes: &[u8]) -> String {
     let mut digest = Digest::new();
     for &byte in bytes {
         digest.take_in(u64::from(byte));
@@ -170,16 +170,16 @@ fn passages(device: Device, image_length: usize, readout_length: usize) -> Strin
     fill(&mut readout, 2);
     let sum = word(fuse_sum(device, &image).map(u64::from));
     let zeros = word(zero_count(device, &image).map(u64::from));
-    let out = passage(image_to_readout(device, &image, &mut readout), &readout);
+    let out = conversion(image_to_readout(device, &image, &mut readout), &readout);
     fill(&mut image, 3);
-    let back = passage(readout_to_image(device, &readout, &mut image), &image);
+    let back = conversion(readout_to_image(device, &readout, &mut image), &image);
     readout[readout_length - 1] = 255;
-    let last = passage(readout_to_image(device, &readout, &mut image), &image);
+    let last = conversion(readout_to_image(device, &readout, &mut image), &image);
     fill(&mut readout, 4);
-    let stray = passage(readout_to_image(device, &readout, &mut image), &image);
+    let above = conversion(readout_to_image(device, &readout, &mut image), &image);
     format!(
         "image {image_length} readout {readout_length} sum {sum} zeros {zeros} \
-         out {out} back {back} last {last} stray {stray}"
+         out {out} back {back} last {last} above {above}"
     )
 }
 

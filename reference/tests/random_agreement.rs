@@ -206,8 +206,8 @@ fn only_the_bytes_of_the_setting_are_tested_for_6() {
         let length = image_bytes(device).unwrap();
         // Every byte has all bits above its width, but for those of the setting.
         let clean = readout_of(device, &random.bytes(length));
-        let mut all_stray = clean.clone();
-        for (byte, (_, width)) in all_stray.iter_mut().zip(&widths) {
+        let mut all_above = clean.clone();
+        for (byte, (_, width)) in all_above.iter_mut().zip(&widths) {
             *byte |= (0xFF00u16 >> (8 - width)) as u8;
         }
         for setting in some_settings(device, &mut random, 40) {
@@ -223,7 +223,7 @@ fn only_the_bytes_of_the_setting_are_tested_for_6() {
                 })
                 .collect();
             holding.sort();
-            let mut readout = all_stray.clone();
+            let mut readout = all_above.clone();
             for index in &holding {
                 readout[*index] = clean[*index];
             }
@@ -254,7 +254,7 @@ fn only_the_bytes_of_the_setting_are_tested_for_6() {
                     number: 6,
                     value: *lowest as u64,
                 };
-                let mut damaged = all_stray.clone();
+                let mut damaged = all_above.clone();
                 assert_eq!(read_in_readout(device, &damaged, setting), Err(refused));
                 assert_eq!(
                     set_in_readout(device, &mut damaged, setting, pattern),
@@ -283,7 +283,7 @@ fn only_the_bytes_of_the_setting_are_tested_for_6() {
                         value: 0
                     })
                 );
-                assert!(damaged == all_stray);
+                assert!(damaged == all_above);
             }
         }
     }

@@ -220,8 +220,8 @@ fn written_texts_have_the_computed_length_and_read_back() {
             assert_eq!(image_to_text(device, &image, &mut exact), Ok(needed));
             assert!(exact == text[..needed]);
 
-            for room in [0, 1, needed - 1] {
-                let mut short = vec![0x77; room];
+            for buffer in [0, 1, needed - 1] {
+                let mut short = vec![0x77; buffer];
                 assert_eq!(
                     image_to_text(device, &image, &mut short),
                     Err(Refusal {
@@ -229,7 +229,7 @@ fn written_texts_have_the_computed_length_and_read_back() {
                         value: needed as u64
                     })
                 );
-                assert!(short == vec![0x77; room]);
+                assert!(short == vec![0x77; buffer]);
             }
         }
     }

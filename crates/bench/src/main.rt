@@ -6,15 +6,15 @@ use libc::STDIN_FILENO;
 use libc::STDOUT_FILENO;
 use part::NumberAnswer;
 
-// Room for the longest text that is read and one byte more, which tells that a text is too long.
-fn room_for_text() -> [u8; 65537]
+// A buffer for the longest text that is read and one byte more, which tells that a text is too long.
+fn buffer_for_text() -> [u8; 65537]
     ensures { λ r. ⌜ 65537 ≡ length r ⌝ }
 {
     [0; 65537]
 }
 
 fn main() {
-    let mut text = room_for_text();
+    let mut text = buffer_for_text();
     let n = io::read_full(STDIN_FILENO, &mut text);
     let mut lines = [0u8; 64];
     let answer = report::report(&text[..n], &mut lines);

@@ -23,12 +23,12 @@ use Rattle.part.proofs.Devices.{fuses-small}
 use Rattle.part.proofs.Laws.{at-valid, each-address, width-small}
 use Rattle.image.specs.Image.{sum16, zerosBelow, fuseSum, zeroCount}
 use Rattle.image.proofs.Bits.{gathered-small}
-use Rattle.readout.specs.Readout.{firstStray, toReadout, toImage}
+use Rattle.readout.specs.Readout.{firstAbove, toReadout, toImage}
 use Rattle.settings.specs.Settings.{hasSetting}
 use Rattle.settings.specs.Order.{settingOf, countOf}
 use Rattle.settings.specs.Operations.{countOfSettings, settingOfNumber}
 use Rattle.settings.specs.declared.Setting.{Setting}
-use Rattle.settings.proofs.Numbers.{number-below, number-again, count-small}
+use Rattle.settings.proofs.Numbering.{number-below, number-inverse, count-small}
 use Rattle.setting_places.specs.Places.{bitsOf, fuseOf}
 use Rattle.setting_places.specs.Back.{settingAt}
 use Rattle.setting_places.specs.Operations.{fuseOfBit, settingAtFuse}
@@ -43,12 +43,12 @@ use Rattle.jedec.proofs.Laws.{values-small}
 use Rattle.jedec_writer.proofs.Laws.{text-few}
 use Rattle.jedec_writer.specs.Pattern.{toText}
 use Rattle.jedec_reader.specs.Reader.{verdict, toImageFromText}
-use Rattle.edit.specs.Edit.{strayIn, ifClean}
+use Rattle.edit.specs.Edit.{aboveIn, ifClean}
 use Rattle.edit_by_number.specs.ByNumber.{readPattern, setPattern}
 use Rattle.capi.specs.Packed.{addressAndBit, itself, noResult, settingAndBit, through, WordFits, WordFitsOrNone}
 use Rattle.capi.specs.Words.{EachFits}
 
--- what holds of the answer where a test fails, and of the one where it passes
+-- What holds of the answer where a test fails, and of the one where it passes.
 chosen : {A : Type 0} (P : A → Type 0) (t : Bool) {a b : A} → P b → (t ≡ true → P a) → P (cond t a b)
 chosen P t {a} {b} wrong right = go t refl
   where
@@ -116,18 +116,18 @@ module _ (d : Device) where
       (λ e.
       chosen (WordFits noResult) (eqb (length target) (imageBytes d)) (omega arith, omega arith)
       (λ f.
-      by-cases (WordFits noResult) (firstStray d readout) (readoutBytes d)
+      by-cases (WordFits noResult) (firstAbove d readout) (readoutBytes d)
       (λ l. (omega arith, omega (arith, bytes-between d Readout k))) (λ g. omega arith))))
 
   text-small : known d ≡ true → textBytes d < 2 ^ 56
   text-small k = omega (arith, text-few d k)
 
-  image-to-text : (image : List ℕ) (room : ℕ) → WordFits itself (toText d image room)
+  image-to-text : (image : List ℕ) (buffer : ℕ) → WordFits itself (toText d image buffer)
   unfolding toText
-  image-to-text image room =
+  image-to-text image buffer =
       chosen (WordFits itself) (known d) (omega arith, omega arith)
       (λ k. chosen (WordFits itself) (eqb (length image) (imageBytes d)) (omega arith, omega arith)
-      (λ e. by-cases (WordFits itself) room (textBytes d) (λ l. (omega arith, text-small k)) (λ g. text-small k)))
+      (λ e. by-cases (WordFits itself) buffer (textBytes d) (λ l. (omega arith, text-small k)) (λ g. text-small k)))
 
   of-meaning : (text : List ℕ) (o : Outcome (List ℕ)) → meaning (fuseCount d) text ≡ o → WordFits noResult (verdict o)
   of-meaning text (accepted image) e = omega arith
@@ -178,19 +178,19 @@ module _ (d : Device) where
       (λ k. by-cases (WordFitsOrNone (settingAndBit d)) fuse (fuseCount d) (λ l. named k fuse (settingAt d fuse) refl)
       (λ g. (omega arith, omega arith)))
 
-  -- by number: refusals 1, 2, 4, and then 6 with an index below the length
+  -- By number: refusals 1, 2, 4, and then 6 with an index below the length.
   module _ (layout : Layout) (bytes : List ℕ) (setting : ℕ) where
     pattern-small : setting < countOf d → patternAt d layout bytes (settingOf d setting) < 2 ^ 56
     unfolding patternAt
     pattern-small l =
         let s = settingOf d setting in
         lt-of-lt-of-le (gathered-small (λ b. stateOf d layout bytes (fuseOf d s b)) (λ b. state-small d layout bytes (fuseOf d s b))
-        (bitsOf s)) (pow-mono {j = 56} (omega (arith, bits-few d s (number-again d setting l .0))))
+        (bitsOf s)) (pow-mono {j = 56} (omega (arith, bits-few d s (number-inverse d setting l .0))))
 
     if-clean : {A : Type 0} (result : A → ℕ) (answer : Outcome A) → known d ≡ true → WordFits result answer
         → WordFits result (ifClean d layout bytes (settingOf d setting) answer)
     if-clean result answer k fits =
-        by-cases (WordFits result) (strayIn d layout bytes (settingOf d setting)) (bytesOf d layout)
+        by-cases (WordFits result) (aboveIn d layout bytes (settingOf d setting)) (bytesOf d layout)
         (λ l. (omega arith, omega (arith, bytes-between d layout k))) (λ g. fits)
 
     read : WordFits itself (readPattern d layout bytes setting)

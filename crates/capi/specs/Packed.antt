@@ -20,51 +20,51 @@ packed result (refused number value) = refusalWord number value
 abbrev pub device : ℕ → ℕ → Device
 device blocks class = record { blocks = blocks; class = class }
 
--- the result of an address and a bit: the address times 8 plus the bit
+-- The result of an address and a bit: the address times 8 plus the bit.
 abbrev pub addressAndBit : ℕ × ℕ → ℕ
 addressAndBit p = p .0 * 8 + p .1
 
--- the result of a single number
+-- The result of a single number.
 abbrev pub itself : ℕ → ℕ
 itself x = x
 
--- the result of a call that has none
+-- The result of a call that has none.
 abbrev pub noResult : Unit {0} → ℕ
 noResult x = 0
 
--- a result that there may not be: 2^56 - 1 where there is none
+-- A result that there may not be: 2^56 - 1 where there is none.
 abbrev pub orNone : {A : Type 0} → (A → ℕ) → Option A → ℕ
 orNone result none = 2 ^ 56 - 1
 orNone result (some x) = result x
 
--- the result of a setting and a bit: the setting's number times 32 plus the bit
+-- The result of a setting and a bit: the setting's number times 32 plus the bit.
 abbrev pub settingAndBit : Device → Setting × ℕ → ℕ
 settingAndBit d p = numberOf d (p .0) * 32 + p .1
 
--- a call by setting number goes through the setting of that number
+-- A call by setting number goes through the setting of that number.
 abbrev pub through : {A : Type 0} → Outcome Setting → (Setting → Outcome A) → Outcome A
 through (accepted s) answer = answer s
 through (refused number value) answer = refused number value
 
--- what a caller reads of a word by the header's XC9500_REFUSAL and XC9500_RESULT
+-- What a caller reads of a word by the header's XC9500_REFUSAL and XC9500_RESULT.
 abbrev pub refusalIn : (word : ℕ) → ℕ
 refusalIn word = word / 2 ^ 56
 
 abbrev pub resultIn : (word : ℕ) → ℕ
 resultIn word = word % 2 ^ 56
 
--- an accepted answer is read as refusal 0 and its result, a refused one as its number, which is not 0, and its value
+-- An accepted answer is read as refusal 0 and its result, a refused one as its number, which is not 0, and its value.
 abbrev pub WordReads : {A : Type 0} → (A → ℕ) → Outcome A → (word : ℕ) → Type 0
 WordReads result (accepted x) word = (refusalIn word ≡ 0) × (resultIn word ≡ result x)
 WordReads result (refused number value) word =
     (0 < refusalIn word) × (refusalIn word ≡ number) × (resultIn word ≡ value)
 
--- where the result, or the value, has 56 bits, and no refusal has the number 0
+-- Where the result, or the value, has 56 bits, and no refusal has the number 0.
 abbrev pub WordFits : {A : Type 0} → (A → ℕ) → Outcome A → Type 0
 WordFits result (accepted x) = result x < 2 ^ 56
 WordFits result (refused number value) = (0 < number) × (value < 2 ^ 56)
 
--- the same where there may be no result: a result that there is is not the one that stands for none
+-- The same where there may be no result: a result that there is is not the one that stands for none.
 abbrev pub WordFitsOrNone : {A : Type 0} → (A → ℕ) → Outcome (Option A) → Type 0
 WordFitsOrNone result (accepted none) = Unit {0}
 WordFitsOrNone result (accepted (some x)) = result x < 2 ^ 56 - 1

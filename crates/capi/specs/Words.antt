@@ -21,7 +21,7 @@ pub record EachFits : Type 0 where
   pub zero-count : (d : Device) (image : List ℕ) → WordFits itself (zeroCount d image)
   pub image-to-readout : (d : Device) (image target : List ℕ) → WordFits noResult (toReadout d image target)
   pub readout-to-image : (d : Device) (readout target : List ℕ) → WordFits noResult (toImage d readout target)
-  pub image-to-text : (d : Device) (image : List ℕ) (room : ℕ) → WordFits itself (toText d image room)
+  pub image-to-text : (d : Device) (image : List ℕ) (buffer : ℕ) → WordFits itself (toText d image buffer)
   pub text-to-image : (d : Device) (text target : List ℕ) → WordFits noResult (toImageFromText d text target)
   pub setting-count : (d : Device) → WordFits itself (countOfSettings d)
   pub setting-fuse : (d : Device) (setting bit : ℕ)

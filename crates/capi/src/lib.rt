@@ -216,7 +216,7 @@ pub extern "C" fn xc9500_setting_at_fuse(blocks: u32, class: u32, fuse: u32) -> 
     let answer = setting_places::setting_at_fuse(d, FuseNumber(fuse));
     match answer {
         NamedAnswer::Bit(s, bit) => {
-            let number = settings::internal::number_of(d, s);
+            let number = settings::numbers::number_of(d, s);
             number.0 as u64 * 32 + bit as u64
         }
         NamedAnswer::Unnamed => NO_RESULT,

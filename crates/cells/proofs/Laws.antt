@@ -35,7 +35,7 @@ unfolding cut
 cut-length [] x = refl
 cut-length (w ∷ ws) x = ap suc (cut-length ws (x / 2 ^ w))
 
--- the bits before a cell
+-- The bits before a cell.
 pub cut-at : (ws : List ℕ) (x k : ℕ) → k < length ws → getD (cut ws x) k 0 ≡ x / 2 ^ total (take k ws) % 2 ^ getD ws k 0
 unfolding cut total
 cut-at [] x k h = absurd (not-suc-le-zero h)
@@ -43,7 +43,7 @@ cut-at (w ∷ ws) x zero h = ap (λ (y : ℕ). y % 2 ^ w) (sym (div-one x))
 cut-at (w ∷ ws) x (suc k) h =
     cut-at ws (x / 2 ^ w) k (le-of-suc-le-suc h) ∙ ap (λ (y : ℕ). y % 2 ^ getD ws k 0) (shr-shr x w (total (take k ws)))
 
--- only the low bits count, for any number of bits that is enough
+-- Only the low bits count, for any number of bits that is enough.
 pub cut-low : (ws : List ℕ) (x more : ℕ) → cut ws (x % 2 ^ (more + total ws)) ≡ cut ws x
 unfolding cut total
 cut-low [] x more = refl
@@ -52,7 +52,7 @@ cut-low (w ∷ ws) x more =
     rw e
     (ap₂ _∷_ (mod-mod-pow x (more + total ws) w) (ap (cut ws) (field x (more + total ws) w) ∙ cut-low ws (x / 2 ^ w) more))
 
--- two digits, where the high one is a sum
+-- Two digits, where the high one is a sum.
 pub regrouped : (a b c t w : ℕ) → (a + b * 2 ^ t) * 2 ^ w + c ≡ a * 2 ^ w + c + b * 2 ^ (w + t)
 regrouped a b c t w =
     let e : (a + b * 2 ^ t) * 2 ^ w ≡ a * 2 ^ w + b * (2 ^ t * 2 ^ w) =
@@ -114,7 +114,7 @@ length-repeat zero ws = sym (zero-mul (length ws))
 length-repeat (suc k) ws =
     length-append ws (repeat k ws) ∙ rw (length-repeat k ws) (add-comm (length ws) (k * length ws) ∙ sym (suc-mul k (length ws)))
 
--- at most so many cells of at most 8 bits have at most so many bytes
+-- At most so many cells of at most 8 bits have at most so many bytes.
 pub join-few : (k width most : ℕ) (cells : List ℕ) → k ≤ most → width ≤ 8 → join (replicate k width) cells < 2 ^ (most * 8)
 join-few k width most cells hk hw =
     lt-of-lt-of-le (join-small (replicate k width) cells)
@@ -169,7 +169,7 @@ piece bytes ws p s k h g =
     ∙ cut-low ws (x / 2 ^ s) (j - total ws)
     ∙ ap (cut ws) (shr-shr (number bytes) (p * 8) s))
 
--- no cells
+-- No cells.
 pub join-none : (cells : List ℕ) (at : ℕ) → 0 ≡ join (replicate 0 8) (drop at cells)
 unfolding join
 join-none cells at = refl

@@ -13,8 +13,8 @@ use Rattle.jedec_writer.specs.Pattern.{textOf}
 use Rattle.jedec_writer.proofs.Laws.{written-read}
 use Rattle.jedec_reader.specs.Reader.{toImageFromText, imageIn}
 
-pub text-again : (d : Device) (image target : List ℕ) → known d ≡ true → length image ≡ imageBytes d → ((i : ℕ) → getD image i 0 < 2 ^ 8)
+pub text-inverse : (d : Device) (image target : List ℕ) → known d ≡ true → length image ≡ imageBytes d → ((i : ℕ) → getD image i 0 < 2 ^ 8)
     → length target ≡ imageBytes d → (toImageFromText d (textOf d image) target ≡ accepted tt) × (imageIn d (textOf d image) ≡ image)
 unfolding toImageFromText imageIn
-text-again d image target k size bytes room =
-    let read = written-read d image k size bytes in (rw (k, eq-eqb (length target) (imageBytes d) room, read), rw read)
+text-inverse d image target k size bytes buffer =
+    let read = written-read d image k size bytes in (rw (k, eq-eqb (length target) (imageBytes d) buffer, read), rw read)

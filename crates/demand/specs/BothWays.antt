@@ -46,16 +46,16 @@ pub record SetInBoth (d : Device) (image image' readout readout' : List ℕ) (s 
       (withValue d Readout readout s v) readout readout'
 
 -- Both are converted.
-pub record BothConverted (d : Device) (image readout its-readout its-readout' its-image its-image' : List ℕ)
+pub record BothConverted (d : Device) (image readout as-readout as-readout' as-image as-image' : List ℕ)
     (r : BothDone) : Type 0 where
-  pub of-image : Written (toReadout d image its-readout) (doneOutcome (r .image))
-      (readoutOf d image) its-readout its-readout'
-  pub of-readout : Written (toImage d readout its-image) (doneOutcome (r .readout))
-      (imageOf d readout) its-image its-image'
+  pub of-image : Written (toReadout d image as-readout) (doneOutcome (r .image))
+      (readoutOf d image) as-readout as-readout'
+  pub of-readout : Written (toImage d readout as-image) (doneOutcome (r .readout))
+      (imageOf d readout) as-image as-image'
 
--- the calls of `both_ways`: what they answered, and what its five slices then held
-abbrev pub callsOf : BothAnswer → (image readout kept its-readout its-image : List ℕ) → Calls Value
-callsOf r image readout kept its-readout its-image = record {
+-- The calls of `both_ways`: what they answered, and what its five slices then held.
+abbrev pub callsOf : BothAnswer → (image readout kept as-readout as-image : List ℕ) → Calls Value
+callsOf r image readout kept as-readout as-image = record {
   converted = doneOutcome (r .before .converted);
   readout-before = kept;
   set-image = doneOutcome (r .set .image);
@@ -63,9 +63,9 @@ callsOf r image readout kept its-readout its-image = record {
   image = image;
   readout = readout;
   converted-image = doneOutcome (r .converted .image);
-  its-readout = its-readout;
+  as-readout = as-readout;
   converted-readout = doneOutcome (r .converted .readout);
-  its-image = its-image;
+  as-image = as-image;
   read-image = valueOutcome (r .read .image);
   read-readout = valueOutcome (r .read .readout);
   other-image-before = valueOutcome (r .before .other .image);
@@ -74,29 +74,29 @@ callsOf r image readout kept its-readout its-image = record {
   other-readout = valueOutcome (r .other .readout);
 }
 
--- these steps one after the other, whatever is refused
-pub record Ran (d : Device) (image readout kept its-readout its-image : List ℕ) (s : Setting) (v : Value)
+-- These steps one after the other, whatever is refused.
+pub record Ran (d : Device) (image readout kept as-readout as-image : List ℕ) (s : Setting) (v : Value)
     (t : Setting) (r : BothAnswer)
-    (image' readout' kept' its-readout' its-image' : List ℕ) : Type 0 where
+    (image' readout' kept' as-readout' as-image' : List ℕ) : Type 0 where
   pub begun : Begun d image readout
       (written (toReadout d image readout) (readoutOf d image) readout) kept kept' t (r .before)
   pub set : SetInBoth d image image'
       (written (toReadout d image readout) (readoutOf d image) readout) readout' s v (r .set)
-  pub converted : BothConverted d image' readout' its-readout its-readout' its-image its-image' (r .converted)
+  pub converted : BothConverted d image' readout' as-readout as-readout' as-image as-image' (r .converted)
   pub read : ReadInBoth d image' readout' s (r .read)
   pub other : ReadInBoth d image' readout' t (r .other)
 
--- its four other slices have the lengths of a readout, a readout, a readout and an image
-pub record RightLengths (d : Device) (readout kept its-readout its-image : List ℕ) : Type 0 where
+-- Its four other slices have the lengths of a readout, a readout, a readout and an image.
+pub record RightLengths (d : Device) (readout kept as-readout as-image : List ℕ) : Type 0 where
   pub readout-size : length readout ≡ readoutBytes d
   pub kept-size : length kept ≡ readoutBytes d
-  pub its-readout-size : length its-readout ≡ readoutBytes d
-  pub its-image-size : length its-image ≡ imageBytes d
+  pub as-readout-size : length as-readout ≡ readoutBytes d
+  pub as-image-size : length as-image ≡ imageBytes d
 
-abbrev pub BothWays : Device → (image readout kept its-readout its-image : List ℕ) → Setting → Value
-    → (t : Setting) → BothAnswer → (image' readout' kept' its-readout' its-image' : List ℕ) → Type 0
-BothWays d image readout kept its-readout its-image s v t r image' readout' kept' its-readout' its-image' =
-    Ran d image readout kept its-readout its-image s v t r image' readout' kept' its-readout' its-image'
-    × ((pattern : ℕ) → Taken d image s v pattern → RightLengths d readout kept its-readout its-image
-    → Made d image s v t (callsOf r image' readout' kept' its-readout' its-image')
-    × DemandByName d image s v pattern t (callsOf r image' readout' kept' its-readout' its-image'))
+abbrev pub BothWays : Device → (image readout kept as-readout as-image : List ℕ) → Setting → Value
+    → (t : Setting) → BothAnswer → (image' readout' kept' as-readout' as-image' : List ℕ) → Type 0
+BothWays d image readout kept as-readout as-image s v t r image' readout' kept' as-readout' as-image' =
+    Ran d image readout kept as-readout as-image s v t r image' readout' kept' as-readout' as-image'
+    × ((pattern : ℕ) → Taken d image s v pattern → RightLengths d readout kept as-readout as-image
+    → Made d image s v t (callsOf r image' readout' kept' as-readout' as-image')
+    × DemandByName d image s v pattern t (callsOf r image' readout' kept' as-readout' as-image'))

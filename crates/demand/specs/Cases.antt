@@ -26,7 +26,7 @@ oeMuxOf0 = Macrocell 0 0 OeMux
 abbrev pub changed : List ℕ
 changed = withValue twoSmall Image image oeMuxOf0 (value.OeMux oeMux.Foe2)
 
--- it reads PT; set to FOE2 it clears 3138 and 3246 and keeps 3354
+-- It reads PT; set to FOE2 it clears 3138 and 3246 and keeps 3354.
 abbrev pub OeMuxCase : Type 0
 OeMuxCase =
     (readIn twoSmall Image image oeMuxOf0 ≡ accepted (value.OeMux oeMux.Pt))
@@ -35,7 +35,7 @@ OeMuxCase =
     × (state changed 3246 ≡ 0)
     × (state changed 3354 ≡ 1)
 
--- a readout of bytes 255: each byte narrower than 8 bits has a bit above its width
+-- A readout of bytes 255: each byte narrower than 8 bits has a bit above its width.
 abbrev pub readout : List ℕ
 readout = replicate 2520 255
 
@@ -45,7 +45,7 @@ noSetting = Literal 0 18 0 0 P
 abbrev pub inNarrowByte : Setting
 inNarrowByte = Literal 0 2 0 0 P
 
--- the lowest of 1, 2, 4, 5 and 6; a setting in bytes of 8 bits is set, whatever the other bytes hold
+-- The lowest of 1, 2, 4, 5 and 6; a setting in bytes of 8 bits is set, whatever the other bytes hold.
 abbrev pub Order : Type 0
 Order =
     (setIn (record { blocks = 3; class = 0 }) Readout image noSetting (value.OeMux oeMux.Pt) ≡ refused 1 0)

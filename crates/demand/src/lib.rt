@@ -54,7 +54,7 @@ fn keep(bytes: &[u8], kept: &mut [u8])
     if kept.len() != bytes.len() {
         return;
     }
-    image::internal::copy(bytes, kept);
+    image::bytes::copy(bytes, kept);
 }
 
 // An image converted to a readout, the readout copied to `kept`, and a setting read in both.
@@ -86,14 +86,14 @@ fn convert_both(
     d: Device,
     image: &[u8],
     readout: &[u8],
-    its_readout: &mut [u8],
-    its_image: &mut [u8],
+    as_readout: &mut [u8],
+    as_image: &mut [u8],
 ) -> BothDone
-    ensures { λ r. ⌜ BothConverted d (now (image .entry)) (now (readout .entry)) (now («its_readout» .entry))
-        (now («its_readout» .exit)) (now («its_image» .entry)) (now («its_image» .exit)) r ⌝ }
+    ensures { λ r. ⌜ BothConverted d (now (image .entry)) (now (readout .entry)) (now («as_readout» .entry))
+        (now («as_readout» .exit)) (now («as_image» .entry)) (now («as_image» .exit)) r ⌝ }
 {
-    let to_readout = readout::image_to_readout(d, image, its_readout);
-    let to_image = readout::readout_to_image(d, readout, its_image);
+    let to_readout = readout::image_to_readout(d, image, as_readout);
+    let to_image = readout::readout_to_image(d, readout, as_image);
     BothDone {
         image: to_readout,
         readout: to_image,
@@ -102,26 +102,26 @@ fn convert_both(
 
 // Demand 3, run on slices that the caller passes: an image is converted to a readout, which is copied to `kept`;
 // setting `t` is read in both; setting `s` is set to `v` in the image and straight in the readout; the changed image is
-// converted to `its_readout` and the changed readout to `its_image`; `s` and `t` are read in both. Where a call is
+// converted to `as_readout` and the changed readout to `as_image`; `s` and `t` are read in both. Where a call is
 // refused, the calls after it are made all the same.
 pub fn both_ways(
     d: Device,
     image: &mut [u8],
     readout: &mut [u8],
     kept: &mut [u8],
-    its_readout: &mut [u8],
-    its_image: &mut [u8],
+    as_readout: &mut [u8],
+    as_image: &mut [u8],
     s: Setting,
     v: Value,
     t: Setting,
 ) -> BothAnswer
     ensures { λ r. ⌜ BothWays d (now (image .entry)) (now (readout .entry)) (now (kept .entry))
-        (now («its_readout» .entry)) (now («its_image» .entry)) s v t r (now (image .exit)) (now (readout .exit))
-        (now (kept .exit)) (now («its_readout» .exit)) (now («its_image» .exit)) ⌝ }
+        (now («as_readout» .entry)) (now («as_image» .entry)) s v t r (now (image .exit)) (now (readout .exit))
+        (now (kept .exit)) (now («as_readout» .exit)) (now («as_image» .exit)) ⌝ }
 {
     let before = begin(d, image, readout, kept, t);
     let set = set_both(d, image, readout, s, v);
-    let converted = convert_both(d, image, readout, its_readout, its_image);
+    let converted = convert_both(d, image, readout, as_readout, as_image);
     let read = read_both(d, image, readout, s);
     let other = read_both(d, image, readout, t);
     BothAnswer {

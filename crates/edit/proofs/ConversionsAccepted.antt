@@ -20,13 +20,13 @@ use Rattle.edit.proofs.NotRefused.{its-length}
 use Rattle.edit.proofs.SameReadout.{same-readout}
 use Rattle.edit.proofs.SameImage.{changed, same-image}
 
--- the conversion of an image ..
+-- The conversion of an image.
 pub passes : (d : Device) (image target : List ℕ) → known d ≡ true → length image ≡ imageBytes d → length target ≡ readoutBytes d
     → toReadout d image target ≡ accepted tt
 unfolding toReadout
 passes d image target k e f = rw (k, eq-eqb (length image) (imageBytes d) e, eq-eqb (length target) (readoutBytes d) f)
 
--- .. and of a readout that is an image's
+-- The conversion of a readout that is an image's.
 pub passes-back : (d : Device) (image readout target : List ℕ) → known d ≡ true → readout ≡ readoutOf d image → length target ≡ imageBytes d
     → toImage d readout target ≡ accepted tt
 passes-back d image readout target k same size =

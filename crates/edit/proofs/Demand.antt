@@ -32,10 +32,10 @@ holds d image s v pattern taken t = record {
   conversions-accepted = conversions-accepted d image s v pattern taken;
 }
 
--- calls are equal where all that they gave is
+-- Calls are equal where all that they gave is.
 built : {A : Type 0} {b c : Calls A} → b .converted ≡ c .converted → b .readout-before ≡ c .readout-before → b .set-image ≡ c .set-image
     → b .set-readout ≡ c .set-readout → b .image ≡ c .image → b .readout ≡ c .readout → b .converted-image ≡ c .converted-image
-    → b .its-readout ≡ c .its-readout → b .converted-readout ≡ c .converted-readout → b .its-image ≡ c .its-image
+    → b .as-readout ≡ c .as-readout → b .converted-readout ≡ c .converted-readout → b .as-image ≡ c .as-image
     → b .read-image ≡ c .read-image → b .read-readout ≡ c .read-readout → b .other-image-before ≡ c .other-image-before
     → b .other-readout-before ≡ c .other-readout-before → b .other-image ≡ c .other-image → b .other-readout ≡ c .other-readout → b ≡ c
 built e0 e1 e2 e3 e4 e5 e6 e7 e8 e9 e10 e11 e12 e13 e14 e15 = λ i. record {
@@ -46,9 +46,9 @@ built e0 e1 e2 e3 e4 e5 e6 e7 e8 e9 e10 e11 e12 e13 e14 e15 = λ i. record {
   image = e4 i;
   readout = e5 i;
   converted-image = e6 i;
-  its-readout = e7 i;
+  as-readout = e7 i;
   converted-readout = e8 i;
-  its-image = e9 i;
+  as-image = e9 i;
   read-image = e10 i;
   read-readout = e11 i;
   other-image-before = e12 i;
@@ -57,7 +57,7 @@ built e0 e1 e2 e3 e4 e5 e6 e7 e8 e9 e10 e11 e12 e13 e14 e15 = λ i. record {
   other-readout = e15 i;
 }
 
--- calls that are those that their names say are what the definitions give
+-- Calls that are those that their names say are what the definitions give.
 module _ (d : Device) (image : List ℕ) (s : Setting) (v : Value) (t : Setting) (c : Calls Value) (made : Made d image s v t c) where
   before : c .readout-before ≡ readoutOf d image
   before = made .conversion .1
@@ -68,11 +68,11 @@ module _ (d : Device) (image : List ℕ) (s : Setting) (v : Value) (t : Setting)
   readout-after : c .readout ≡ withValue d Readout (readoutOf d image) s v
   readout-after = made .changes .1 ∙ rw before
 
-  its-readout : c .its-readout ≡ readoutOf d (withValue d Image image s v)
-  its-readout = made .image-converted .1 ∙ rw image-after
+  as-readout : c .as-readout ≡ readoutOf d (withValue d Image image s v)
+  as-readout = made .image-converted .1 ∙ rw image-after
 
-  its-image : c .its-image ≡ imageOf d (withValue d Readout (readoutOf d image) s v)
-  its-image = made .readout-converted .1 ∙ rw readout-after
+  as-image : c .as-image ≡ imageOf d (withValue d Readout (readoutOf d image) s v)
+  as-image = made .readout-converted .1 ∙ rw readout-after
 
   same-calls : c ≡ callsByName d image s v t
   same-calls =
@@ -83,10 +83,10 @@ module _ (d : Device) (image : List ℕ) (s : Setting) (v : Value) (t : Setting)
       (made .answers .1 ∙ rw before)
       image-after
       readout-after
-      (made .image-converted .0 ∙ rw (image-after, its-readout))
-      its-readout
-      (made .readout-converted .0 ∙ rw (readout-after, its-image))
-      its-image
+      (made .image-converted .0 ∙ rw (image-after, as-readout))
+      as-readout
+      (made .readout-converted .0 ∙ rw (readout-after, as-image))
+      as-image
       (made .readings .0 ∙ rw image-after)
       (made .readings .1 ∙ rw readout-after)
       (made .others-before .0)

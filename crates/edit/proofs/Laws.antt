@@ -47,7 +47,7 @@ module _ (d : Device) (k : known d ≡ true) (s : Setting) (h : hasSetting d s �
   pub read-after-set-image : (image : List ℕ) → length image ≡ imageBytes d → readIn d Image (withValue d Image image s v) s ≡ accepted v
   read-after-set-image image e = reads-set Image image e (image-clean d _ _)
 
-  -- in a readout whose bytes that hold the setting have no bit above their width; its other bytes may hold anything
+  -- In a readout whose bytes that hold the setting have no bit above their width; its other bytes may hold anything.
   pub read-after-set : (readout : List ℕ) → length readout ≡ readoutBytes d
       → ((b : ℕ) → b < bitsOf s → getD readout (byteOf d Readout (fuseOf d s b)) 0 < 2 ^ widthAt d (byteOf d Readout (fuseOf d s b)))
       → readIn d Readout (withValue d Readout readout s v) s ≡ accepted v

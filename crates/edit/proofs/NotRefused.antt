@@ -24,12 +24,12 @@ use Rattle.setting_values.specs.Kinds.{kindOf, valueOf}
 use Rattle.setting_values.proofs.Widths.{kind-bits}
 use Rattle.setting_bits.specs.declared.Layout.{Layout}
 use Rattle.setting_bits.specs.declared.Layout.the-variants.{Image, Readout}
-use Rattle.setting_bits.specs.SettingBits.{bytesOf, byteOf, strayAmong}
+use Rattle.setting_bits.specs.SettingBits.{bytesOf, byteOf, aboveAmong}
 use Rattle.setting_bits.proofs.Edits.{inside, fuse-below, clean-through}
-use Rattle.edit.specs.Edit.{strayIn, setIn}
+use Rattle.edit.specs.Edit.{aboveIn, setIn}
 use Rattle.edit.specs.Demand.{Taken}
 
--- the pattern of a value of a setting
+-- The pattern of a value of a setting.
 pub value-iff : (d : Device) (s : Setting) (v : Value) (pattern : ℕ) → hasSetting d s ≡ true
     → (patternIn (kindOf d s) v ≡ some pattern) ↔ ((pattern < 2 ^ bitsOf s) × (valueOf d s pattern ≡ v))
 value-iff d s v pattern h = rw (← kind-bits d s h) (values.pattern-iff (kindOf d s) v pattern)
@@ -38,11 +38,11 @@ pub its-pattern : {d : Device} {image : List ℕ} {s : Setting} {v : Value} {pat
     → patternIn (kindOf d s) v ≡ some pattern
 its-pattern {d} {image} {s} {v} {pattern} taken = value-iff d s v pattern (taken .setting) .1 (taken .fits, taken .value)
 
--- no byte that holds the setting has a bit above its width
+-- No byte that holds the setting has a bit above its width.
 abbrev pub Clean : Device → Layout → List ℕ → Setting → Type 0
-Clean d layout bytes t = strayIn d layout bytes t ≡ bytesOf d layout
+Clean d layout bytes t = aboveIn d layout bytes t ≡ bytesOf d layout
 
--- setting is not refused where the device, the length, the setting and the value are right and no byte has such a bit
+-- Setting is not refused where the device, the length, the setting and the value are right and no byte has such a bit.
 sets : (d : Device) (layout : Layout) (bytes : List ℕ) (t : Setting) (v : Value) (pattern : ℕ) → known d ≡ true
     → length bytes ≡ bytesOf d layout
     → hasSetting d t ≡ true → patternIn (kindOf d t) v ≡ some pattern → Clean d layout bytes t → setIn d layout bytes t v ≡ accepted tt
@@ -50,20 +50,20 @@ unfolding setIn
 sets d layout bytes t v pattern k e h p clean =
     rw (k, eq-eqb (length bytes) (bytesOf d layout) e, h, p, clean, le-ltb (bytesOf d layout) (bytesOf d layout) (omega arith))
 
--- the readout of an image: its length, and no byte of it has such a bit
+-- The readout of an image: its length, and no byte of it has such a bit.
 pub its-length : (d : Device) (image : List ℕ) → length (readoutOf d image) ≡ readoutBytes d
 unfolding readoutOf
 its-length d image = from-length d _
 
 pub its-bits : (d : Device) (image : List ℕ) (t : Setting) → known d ≡ true → hasSetting d t ≡ true
-    → strayAmong d (readoutOf d image) t (bitsOf t) ≡ readoutBytes d
+    → aboveAmong d (readoutOf d image) t (bitsOf t) ≡ readoutBytes d
 its-bits d image t k h =
     clean-through d (readoutOf d image) t (bitsOf t)
     (λ b l. readout-accepted d image (byteOf d Readout (fuseOf d t b)) (inside d Readout (fuseOf d t b) k (fuse-below d k t h b l)))
 
 pub not-refused : (d : Device) (image : List ℕ) (s : Setting) (v : Value) (pattern : ℕ) → Taken d image s v pattern
     → (setIn d Image image s v ≡ accepted tt) × (setIn d Readout (readoutOf d image) s v ≡ accepted tt)
-unfolding strayIn
+unfolding aboveIn
 not-refused d image s v pattern taken = (
   sets d Image image s v pattern (taken .device) (taken .size) (taken .setting) (its-pattern taken) refl,
   sets d Readout (readoutOf d image) s v pattern (taken .device) (its-length d image) (taken .setting) (its-pattern taken)

@@ -18,24 +18,24 @@ use Rattle.values.specs.declared.Value.{Value}
 use Rattle.setting_values.specs.Kinds.{valueOf}
 use Rattle.setting_bits.specs.declared.Layout.{Layout}
 use Rattle.setting_bits.specs.declared.Layout.the-variants.{Image, Readout}
-use Rattle.setting_bits.specs.SettingBits.{bytesOf, patternAt, strayAmong}
+use Rattle.setting_bits.specs.SettingBits.{bytesOf, patternAt, aboveAmong}
 use Rattle.setting_bits.proofs.Edits.{set-reads, same-pattern}
-use Rattle.edit.specs.Edit.{strayIn, readIn, withValue}
+use Rattle.edit.specs.Edit.{aboveIn, readIn, withValue}
 use Rattle.edit.specs.Demand.{Taken}
 use Rattle.edit.proofs.NotRefused.{Clean, its-pattern, its-length, its-bits}
 use Rattle.edit.proofs.SameReadout.{start, same-readout}
 use Rattle.edit.proofs.SameImage.{changed}
 
 pub image-clean : (d : Device) (bytes : List ℕ) (t : Setting) → Clean d Image bytes t
-unfolding strayIn
+unfolding aboveIn
 image-clean d bytes t = refl
 
-pub readout-clean : (d : Device) (bytes : List ℕ) (t : Setting) → strayAmong d bytes t (bitsOf t) ≡ readoutBytes d → Clean d Readout bytes t
-unfolding strayIn
+pub readout-clean : (d : Device) (bytes : List ℕ) (t : Setting) → aboveAmong d bytes t (bitsOf t) ≡ readoutBytes d → Clean d Readout bytes t
+unfolding aboveIn
 readout-clean d bytes t e = e
 
 -- reading answers the value of the pattern that stands there, where the device, the length and the setting are right and no byte of the
--- setting has a bit above its width ..
+-- setting has a bit above its width.
 pub reads : (d : Device) (layout : Layout) (bytes : List ℕ) (t : Setting) (pattern : ℕ) (v : Value) → known d ≡ true
     → length bytes ≡ bytesOf d layout
     → hasSetting d t ≡ true → Clean d layout bytes t → patternAt d layout bytes t ≡ pattern → valueOf d t pattern ≡ v
@@ -44,7 +44,7 @@ unfolding readIn
 reads d layout bytes t pattern v k e h clean p means =
     rw (k, eq-eqb (length bytes) (bytesOf d layout) e, h, clean, le-ltb (bytesOf d layout) (bytesOf d layout) (omega arith), p, means)
 
--- .. and so the same in an image and in its readout
+-- So the same is read in an image and in its readout.
 pub same-reading : (d : Device) (image : List ℕ) (t : Setting) → known d ≡ true → length image ≡ imageBytes d → hasSetting d t ≡ true
     → readIn d Readout (readoutOf d image) t ≡ readIn d Image image t
 unfolding readIn

@@ -5,7 +5,7 @@ use mathlib.Core.List.{List}
 use Prim.Native.Nat.{ℕ}
 use Rattle.part.specs.declared.Device.{Device}
 use Rattle.readout.specs.Readout.{readoutOf, imageOf}
-use Rattle.readout.proofs.Laws.{image-again}
+use Rattle.readout.proofs.Laws.{image-inverse}
 use Rattle.settings.specs.declared.Setting.{Setting}
 use Rattle.values.specs.declared.Value.{Value}
 use Rattle.setting_bits.specs.declared.Layout.the-variants.{Image, Readout}
@@ -16,7 +16,7 @@ use Rattle.edit.proofs.NotRefused.{its-pattern}
 use Rattle.edit.proofs.SameReadout.{IsImage, start, same-readout}
 
 module _ (d : Device) (image : List ℕ) (s : Setting) (v : Value) (pattern : ℕ) (taken : Taken d image s v pattern) where
-  -- the changed image is an image
+  -- The changed image is an image.
   pub changed : IsImage d (withValue d Image image s v)
   unfolding withValue
   changed =
@@ -30,4 +30,4 @@ module _ (d : Device) (image : List ℕ) (s : Setting) (v : Value) (pattern : �
   pub same-image : imageOf d (withValue d Readout (readoutOf d image) s v) ≡ withValue d Image image s v
   same-image =
       ap (imageOf d) (same-readout d image s v pattern taken)
-      ∙ image-again d (withValue d Image image s v) (taken .device) (changed .size) (changed .bytes)
+      ∙ image-inverse d (withValue d Image image s v) (taken .device) (changed .size) (changed .bytes)

@@ -15,13 +15,13 @@ use Rattle.edit.specs.Edit.{withValue}
 use Rattle.edit.specs.Demand.{Taken}
 use Rattle.edit.proofs.NotRefused.{its-pattern}
 
--- an image: its length, and its bytes
+-- An image: its length, and its bytes.
 pub record IsImage (d : Device) (image : List ℕ) : Type 0 where
   pub size : length image ≡ imageBytes d
   pub bytes : (i : ℕ) → getD image i 0 < 2 ^ 8
 
 module _ (d : Device) (image : List ℕ) (s : Setting) (v : Value) (pattern : ℕ) (taken : Taken d image s v pattern) where
-  -- the image whose bits setting changes
+  -- The image whose bits setting changes.
   pub start : IsImage d image
   start = record { size = taken .size; bytes = taken .bytes }
 

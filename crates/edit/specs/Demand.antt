@@ -24,7 +24,7 @@ use Rattle.edit.specs.Edit.{readIn, setIn, withValue}
 
 -- "take any known device, any image of it, the readout of that image, any setting of that device and any value of
 -- that setting": what 003's list for the setting gives a pattern of its bits; by `value-iff` (proofs/Laws.antt)
--- no other pattern has this value
+-- no other pattern has this value.
 pub record Taken (d : Device) (image : List ℕ) (s : Setting) (v : Value) (pattern : ℕ) : Type 0 where
   pub device : known d ≡ true
   pub size : length image ≡ imageBytes d
@@ -45,9 +45,9 @@ pub record Calls (A : Type 0) : Type 0 where
   pub image : List ℕ
   pub readout : List ℕ
   pub converted-image : Outcome (Unit {0})
-  pub its-readout : List ℕ
+  pub as-readout : List ℕ
   pub converted-readout : Outcome (Unit {0})
-  pub its-image : List ℕ
+  pub as-image : List ℕ
   pub read-image : Outcome A
   pub read-readout : Outcome A
   pub other-image-before : Outcome A
@@ -68,9 +68,9 @@ callsBy d set changed read image s t = record {
   image = changed Image image;
   readout = changed Readout (readoutOf d image);
   converted-image = toReadout d (changed Image image) (readoutOf d (changed Image image));
-  its-readout = readoutOf d (changed Image image);
+  as-readout = readoutOf d (changed Image image);
   converted-readout = toImage d (changed Readout (readoutOf d image)) (imageOf d (changed Readout (readoutOf d image)));
-  its-image = imageOf d (changed Readout (readoutOf d image));
+  as-image = imageOf d (changed Readout (readoutOf d image));
   read-image = read Image (changed Image image) s;
   read-readout = read Readout (changed Readout (readoutOf d image)) s;
   other-image-before = read Image image t;
@@ -85,12 +85,12 @@ callsBy d set changed read image s t = record {
 pub record Demand3 {S A : Type 0} (d : Device) (has : S → Type 0)
     (read : Layout → List ℕ → S → Outcome A) (image : List ℕ)
     (s : S) (v : A) (pattern bits : ℕ) (fuse : ℕ → ℕ) (t : S) (c : Calls A) : Type 0 where
-  -- "Set it in the image, or set it straight in the readout's few bytes. Neither is refused."
+  -- "Set it in the image, or set it straight in the readout's few bytes. Neither is refused.".
   pub not-refused : (c .set-image ≡ accepted tt) × (c .set-readout ≡ accepted tt)
   -- "Then the changed readout equals, byte for byte, the readout of the changed image, .."
-  pub same-readout : c .readout ≡ c .its-readout
+  pub same-readout : c .readout ≡ c .as-readout
   -- ".. and turned into an image it equals the changed image."
-  pub same-image : c .its-image ≡ c .image
+  pub same-image : c .as-image ≡ c .image
   -- "In the changed image and in the changed readout the setting reads as that value, .."
   pub reads-as-set : (c .read-image ≡ accepted v) × (c .read-readout ≡ accepted v)
   -- ".. and every other setting reads as it did before.": the one that the calls read, and every one
@@ -99,15 +99,15 @@ pub record Demand3 {S A : Type 0} (d : Device) (has : S → Type 0)
       × ((u : S) → has u → u ≢ s
       → (read Image (c .image) u ≡ read Image image u)
       × (read Readout (c .readout) u ≡ read Readout (c .readout-before) u))
-  -- "Each fuse listed for the setting stands as the value needs it."
+  -- "Each fuse listed for the setting stands as the value needs it.".
   pub listed-fuses : (b : ℕ) → b < bits
       → (stateOf d Image (c .image) (fuse b) ≡ bitOf pattern b)
       × (stateOf d Readout (c .readout) (fuse b) ≡ bitOf pattern b)
-  -- "Every other fuse of the part, named or not, stands as before."
+  -- "Every other fuse of the part, named or not, stands as before.".
   pub other-fuses : (f : ℕ) → f < fuseCount d → ((b : ℕ) → b < bits → fuse b ≢ f)
       → (stateOf d Image (c .image) f ≡ stateOf d Image image f)
       × (stateOf d Readout (c .readout) f ≡ stateOf d Readout (c .readout-before) f)
-  -- none of the three conversions was refused
+  -- None of the three conversions was refused.
   pub conversions-accepted :
       (c .converted ≡ accepted tt) × (c .converted-image ≡ accepted tt) × (c .converted-readout ≡ accepted tt)
 
@@ -127,10 +127,10 @@ pub record Made (d : Device) (image : List ℕ) (s : Setting) (v : Value) (t : S
   pub conversion : (c .converted ≡ toReadout d image (c .readout-before)) × (c .readout-before ≡ readoutOf d image)
   pub answers : (c .set-image ≡ setIn d Image image s v) × (c .set-readout ≡ setIn d Readout (c .readout-before) s v)
   pub changes : (c .image ≡ withValue d Image image s v) × (c .readout ≡ withValue d Readout (c .readout-before) s v)
-  pub image-converted : (c .converted-image ≡ toReadout d (c .image) (c .its-readout))
-      × (c .its-readout ≡ readoutOf d (c .image))
+  pub image-converted : (c .converted-image ≡ toReadout d (c .image) (c .as-readout))
+      × (c .as-readout ≡ readoutOf d (c .image))
   pub readout-converted :
-      (c .converted-readout ≡ toImage d (c .readout) (c .its-image)) × (c .its-image ≡ imageOf d (c .readout))
+      (c .converted-readout ≡ toImage d (c .readout) (c .as-image)) × (c .as-image ≡ imageOf d (c .readout))
   pub readings : (c .read-image ≡ readIn d Image (c .image) s) × (c .read-readout ≡ readIn d Readout (c .readout) s)
   pub others-before : (c .other-image-before ≡ readIn d Image image t)
       × (c .other-readout-before ≡ readIn d Readout (c .readout-before) t)

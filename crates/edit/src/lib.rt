@@ -13,13 +13,13 @@ use setting_values::ValueAnswer;
 use settings::Setting;
 use values::Value;
 
-pub mod internal;
+pub mod by_name;
 
 // The value of a setting in an image. Refused: 1, 2, 4.
 pub fn read_in_image(d: Device, image: &[u8], s: Setting) -> ValueAnswer
     ensures { λ r. ⌜ valueOutcome r ≡ readIn d Image (now (image .entry)) s ⌝ }
 {
-    internal::read(d, Layout::Image, image, s)
+    by_name::read(d, Layout::Image, image, s)
 }
 
 // A setting set to a value in an image. Refused: 1, 2, 4, 5.
@@ -27,14 +27,14 @@ pub fn set_in_image(d: Device, image: &mut [u8], s: Setting, v: Value) -> DoneAn
     ensures { λ r. ⌜ Written (setIn d Image (now (image .entry)) s v) (doneOutcome r)
         (withValue d Image (now (image .entry)) s v) (now (image .entry)) (now (image .exit)) ⌝ }
 {
-    internal::set(d, Layout::Image, image, s, v)
+    by_name::set(d, Layout::Image, image, s, v)
 }
 
 // The value of a setting in a readout. Refused: 1, 2, 4, 6.
 pub fn read_in_readout(d: Device, readout: &[u8], s: Setting) -> ValueAnswer
     ensures { λ r. ⌜ valueOutcome r ≡ readIn d Readout (now (readout .entry)) s ⌝ }
 {
-    internal::read(d, Layout::Readout, readout, s)
+    by_name::read(d, Layout::Readout, readout, s)
 }
 
 // A setting set to a value in a readout, in the bytes that hold it. Refused: 1, 2, 4, 5, 6.
@@ -42,5 +42,5 @@ pub fn set_in_readout(d: Device, readout: &mut [u8], s: Setting, v: Value) -> Do
     ensures { λ r. ⌜ Written (setIn d Readout (now (readout .entry)) s v) (doneOutcome r)
         (withValue d Readout (now (readout .entry)) s v) (now (readout .entry)) (now (readout .exit)) ⌝ }
 {
-    internal::set(d, Layout::Readout, readout, s, v)
+    by_name::set(d, Layout::Readout, readout, s, v)
 }

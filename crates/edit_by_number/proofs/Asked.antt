@@ -18,28 +18,28 @@ use Rattle.part.proofs.Targets.{says}
 use Rattle.settings.specs.Settings.{hasSetting}
 use Rattle.settings.specs.Order.{countOf, settingOf}
 use Rattle.settings.specs.declared.Setting.{Setting}
-use Rattle.settings.proofs.Numbers.{number-again}
+use Rattle.settings.proofs.Numbering.{number-inverse}
 use Rattle.setting_places.specs.Places.{bitsOf}
 use Rattle.setting_bits.specs.declared.Layout.{Layout}
 use Rattle.setting_bits.specs.SettingBits.{bytesOf, patternAt, withPattern}
 use Rattle.setting_bits.proofs.Steps.{bytes-between}
-use Rattle.edit.specs.Edit.{strayIn}
+use Rattle.edit.specs.Edit.{aboveIn}
 use Rattle.edit_by_number.specs.ByNumber.{readPattern, setPattern, withNumbered}
 
 pub below : (d : Device) (x count : ℕ) → count ≡ countOf d → x < count → x < countOf d
 below d x count e l = omega arith
 
 pub there : (d : Device) (x count : ℕ) (s : Setting) → count ≡ countOf d → x < count → s ≡ settingOf d x → hasSetting d s ≡ true
-there d x count s e l f = rw f (number-again d x (below d x count e l) .0)
+there d x count s e l f = rw f (number-inverse d x (below d x count e l) .0)
 
 module _ (d : Device) (layout : Layout) (bytes : List ℕ) (size : ℕ) (e : size ≡ bytesOf d layout) (n : length bytes ≡ size) where
   pub its-size : length bytes ≡ bytesOf d layout
   its-size = n ∙ e
 
-  pub stray-fits : (stray : ℕ) → known d ≡ true → stray < length bytes → Fits w32 stray
-  stray-fits stray k l = record { fits = omega (arith, its-size, bytes-between d layout k) }
+  pub above-fits : (above : ℕ) → known d ≡ true → above < length bytes → Fits w32 above
+  above-fits above k l = record { fits = omega (arith, its-size, bytes-between d layout k) }
 
--- what setting must give: the outcome's answer, and the bytes that go with it
+-- What setting must give: the outcome's answer, and the bytes that go with it.
 abbrev pub PatternGives : Device → Layout → List ℕ → (x pattern : ℕ) → Outcome (Unit {0}) → List ℕ → Type 0
 PatternGives d layout bytes x pattern answer after =
     Written (setPattern d layout bytes x pattern) answer (withNumbered d layout bytes x pattern) bytes after
@@ -49,24 +49,24 @@ pub refusal : (d : Device) (layout : Layout) (bytes : List ℕ) (x pattern n v :
 refusal d layout bytes x pattern n v e =
     says (setPattern d layout bytes x pattern) (refused n v) (withNumbered d layout bytes x pattern) bytes e
 
--- for a device, a length and a number that there are
+-- For a device, a length and a number that there are.
 module _ (d : Device) (layout : Layout) (bytes : List ℕ) (x : ℕ) (k : known d ≡ true)
     (n : length bytes ≡ bytesOf d layout) (l : x < countOf d)
     (s : Setting) (g : s ≡ settingOf d x) where
-  module _ (stray : ℕ) (q : strayIn d layout bytes s ≡ stray) where
-    pub reads-stray : stray < length bytes → refused 6 stray ≡ readPattern d layout bytes x
+  module _ (above : ℕ) (q : aboveIn d layout bytes s ≡ above) where
+    pub reads-above : above < length bytes → refused 6 above ≡ readPattern d layout bytes x
     unfolding readPattern
-    reads-stray m =
+    reads-above m =
         rw (
           k,
           eq-eqb (length bytes) (bytesOf d layout) n,
           lt-ltb x (countOf d) l,
           ← g,
           q,
-          lt-ltb stray (bytesOf d layout) (omega (arith, n)),
+          lt-ltb above (bytesOf d layout) (omega (arith, n)),
         )
 
-    pub reads-clean : (p : ℕ) → length bytes ≤ stray → p ≡ patternAt d layout bytes s → accepted p ≡ readPattern d layout bytes x
+    pub reads-clean : (p : ℕ) → length bytes ≤ above → p ≡ patternAt d layout bytes s → accepted p ≡ readPattern d layout bytes x
     unfolding readPattern
     reads-clean p m w =
         rw (
@@ -75,7 +75,7 @@ module _ (d : Device) (layout : Layout) (bytes : List ℕ) (x : ℕ) (k : known 
           lt-ltb x (countOf d) l,
           ← g,
           q,
-          le-ltb stray (bytesOf d layout) (omega (arith, n)),
+          le-ltb above (bytesOf d layout) (omega (arith, n)),
           w,
         )
 
@@ -86,11 +86,11 @@ module _ (d : Device) (layout : Layout) (bytes : List ℕ) (x : ℕ) (k : known 
         refusal d layout bytes x pattern 5 0
         (rw (k, eq-eqb (length bytes) (bytesOf d layout) n, lt-ltb x (countOf d) l, ← g, t))
 
-    module _ (t : ltb pattern (2 ^ bitsOf s) ≡ true) (stray : ℕ) (q : strayIn d layout bytes s ≡ stray) where
-      pub sets-stray : stray < length bytes → PatternGives d layout bytes x pattern (refused 6 stray) bytes
+    module _ (t : ltb pattern (2 ^ bitsOf s) ≡ true) (above : ℕ) (q : aboveIn d layout bytes s ≡ above) where
+      pub sets-above : above < length bytes → PatternGives d layout bytes x pattern (refused 6 above) bytes
       unfolding setPattern
-      sets-stray m =
-          refusal d layout bytes x pattern 6 stray
+      sets-above m =
+          refusal d layout bytes x pattern 6 above
           (rw (
             k,
             eq-eqb (length bytes) (bytesOf d layout) n,
@@ -98,10 +98,10 @@ module _ (d : Device) (layout : Layout) (bytes : List ℕ) (x : ℕ) (k : known 
             ← g,
             t,
             q,
-            lt-ltb stray (bytesOf d layout) (omega (arith, n)),
+            lt-ltb above (bytesOf d layout) (omega (arith, n)),
           ))
 
-      pub sets-clean : (after : List ℕ) → length bytes ≤ stray → after ≡ withPattern d layout bytes s pattern
+      pub sets-clean : (after : List ℕ) → length bytes ≤ above → after ≡ withPattern d layout bytes s pattern
           → PatternGives d layout bytes x pattern (accepted tt) after
       unfolding setPattern withNumbered
       sets-clean after m z =
@@ -113,6 +113,6 @@ module _ (d : Device) (layout : Layout) (bytes : List ℕ) (x : ℕ) (k : known 
             ← g,
             t,
             q,
-            le-ltb stray (bytesOf d layout) (omega (arith, n)),
+            le-ltb above (bytesOf d layout) (omega (arith, n)),
           ) in
           record { answers = same; holds = rw (← same, ← g) z }

@@ -15,7 +15,7 @@ use Rattle.part.specs.declared.Device.{Device}
 use Rattle.settings.specs.Settings.{hasSetting}
 use Rattle.settings.specs.Order.{countOf, settingOf}
 use Rattle.settings.specs.declared.Setting.{Setting}
-use Rattle.settings.proofs.Numbers.{number-again}
+use Rattle.settings.proofs.Numbering.{number-inverse}
 use Rattle.setting_places.specs.Places.{bitsOf}
 use Rattle.values.specs.Patterns.{patternIn}
 use Rattle.values.proofs.Laws as values
@@ -23,10 +23,10 @@ use Rattle.setting_values.specs.Kinds.{kindOf, valueOf}
 use Rattle.setting_values.proofs.Widths.{kind-bits}
 use Rattle.setting_bits.specs.declared.Layout.{Layout}
 use Rattle.setting_bits.specs.SettingBits.{bytesOf}
-use Rattle.edit.specs.Edit.{withValue, strayIn, readIn, setIn}
+use Rattle.edit.specs.Edit.{withValue, aboveIn, readIn, setIn}
 use Rattle.edit_by_number.specs.ByNumber.{readPattern, setPattern, withNumbered}
 
--- an outcome with its result turned into another
+-- An outcome with its result turned into another.
 abbrev pub mapped : {A B : Type 0} → (A → B) → Outcome A → Outcome B
 mapped f (accepted x) = accepted (f x)
 mapped f (refused number value) = refused number value
@@ -41,7 +41,7 @@ module _ (d : Device) (k : known d ≡ true) (layout : Layout) (bytes : List ℕ
 
   there : hasSetting d s ≡ true
   unfolding s
-  there = number-again d number below .0
+  there = number-inverse d number below .0
 
   pub reads-numbered : readIn d layout bytes (settingOf d number)
       ≡ mapped (valueOf d (settingOf d number)) (readPattern d layout bytes number)
@@ -53,7 +53,7 @@ module _ (d : Device) (k : known d ≡ true) (layout : Layout) (bytes : List ℕ
         there,
         mapped-cond value (known d) _ _,
         mapped-cond value (eqb (length bytes) (bytesOf d layout)) _ _,
-        mapped-cond value (ltb (strayIn d layout bytes (settingOf d number)) (bytesOf d layout)) _ _,
+        mapped-cond value (ltb (aboveIn d layout bytes (settingOf d number)) (bytesOf d layout)) _ _,
       )
 
   pub sets-numbered : (pattern : ℕ) → pattern < 2 ^ bitsOf (settingOf d number)

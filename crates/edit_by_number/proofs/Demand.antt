@@ -14,7 +14,7 @@ use Rattle.readout.specs.Readout.{readoutOf}
 use Rattle.settings.specs.Settings.{hasSetting}
 use Rattle.settings.specs.Order.{countOf, numberOf, settingOf}
 use Rattle.settings.specs.declared.Setting.{Setting}
-use Rattle.settings.proofs.Numbers.{number-again}
+use Rattle.settings.proofs.Numbering.{number-inverse}
 use Rattle.values.specs.declared.Value.{Value}
 use Rattle.setting_values.specs.Kinds.{valueOf}
 use Rattle.setting_bits.specs.declared.Layout.{Layout}
@@ -31,19 +31,19 @@ use Rattle.edit_by_number.specs.Demand.{NumberTaken, callsByNumber, Dema
 use Rattle.edit_by_number.proofs.Asked.{reads-clean}
 use Rattle.edit_by_number.proofs.ByName.{sets-numbered}
 
--- what a number reads as in bytes of the right length without a bit above a width ..
+-- What a number reads as in bytes of the right length without a bit above a width.
 reads : (d : Device) (layout : Layout) (bytes : List ℕ) (x : ℕ) → known d ≡ true → length bytes ≡ bytesOf d layout → x < countOf d
     → Clean d layout bytes (settingOf d x) → readPattern d layout bytes x ≡ accepted (patternAt d layout bytes (settingOf d x))
 reads d layout bytes x k n l clean = sym (reads-clean d layout bytes x k n l _ refl _ clean _ (omega (arith, n)) refl)
 
--- .. in an image and in its readout
+-- What it reads as in an image and in its readout.
 module _ (d : Device) (k : known d ≡ true) (image : List ℕ) (e : length image ≡ imageBytes d) (x : ℕ) (l : x < countOf d) where
   in-image : readPattern d Image image x ≡ accepted (patternAt d Image image (settingOf d x))
   in-image = reads d Image image x k e l (image-clean d image _)
 
   in-readout : readPattern d Readout (readoutOf d image) x ≡ accepted (patternAt d Image image (settingOf d x))
   in-readout =
-      let there = number-again d x l .0 in
+      let there = number-inverse d x l .0 in
       reads d Readout (readoutOf d image) x k (its-length d image) l (readout-clean d (readoutOf d image) _ (its-bits d image _ k there))
       ∙ ap accepted (same-pattern d image k (settingOf d x) there)
 
@@ -56,7 +56,7 @@ module _ (d : Device) (image : List ℕ) (x pattern : ℕ) (taken : NumberTaken 
 
   there : hasSetting d s ≡ true
   unfolding s
-  there = number-again d x (taken .setting) .0
+  there = number-inverse d x (taken .setting) .0
 
   named : Taken d image s v pattern
   unfolding s v
@@ -69,7 +69,7 @@ module _ (d : Device) (image : List ℕ) (x pattern : ℕ) (taken : NumberTaken 
     value = refl;
   }
 
-  -- the changed image, and the changed readout, which is its readout
+  -- The changed image, and the changed readout, which is its readout.
   after : List ℕ
   after = withNumbered d Image image x pattern
 
@@ -99,8 +99,8 @@ module _ (d : Device) (image : List ℕ) (x pattern : ℕ) (taken : NumberTaken 
   as-before : (u : ℕ) → u < countOf d → u ≢ x → patternAt d Image after (settingOf d u) ≡ patternAt d Image image (settingOf d u)
   unfolding after withNumbered s
   as-before u l ne =
-      set-others-read d (taken .device) Image image (taken .size) s there pattern (settingOf d u) (number-again d u l .0)
-      (λ e. ne (sym (number-again d u l .1) ∙ ap (numberOf d) e ∙ number-again d x (taken .setting) .1))
+      set-others-read d (taken .device) Image image (taken .size) s there pattern (settingOf d u) (number-inverse d u l .0)
+      (λ e. ne (sym (number-inverse d u l .1) ∙ ap (numberOf d) e ∙ number-inverse d x (taken .setting) .1))
 
   others : (u : ℕ) → u < countOf d → u ≢ x
       → (readPattern d Image after u ≡ readPattern d Image image u)
@@ -118,18 +118,18 @@ module _ (d : Device) (image : List ℕ) (x pattern : ℕ) (taken : NumberTaken 
   holds-by-number other =
       let k = taken .device in
       let by-name = holds d image s v pattern named s in
-      let in-its-image = after-by-name Image image in
-      let in-its-readout = after-by-name Readout (readoutOf d image) in
+      let in-as-image = after-by-name Image image in
+      let in-as-readout = after-by-name Readout (readoutOf d image) in
       record {
         not-refused = (sets Image image ∙ by-name .not-refused .0, sets Readout (readoutOf d image) ∙ by-name .not-refused .1);
         same-readout = same;
-        same-image = rw (in-its-image, in-its-readout) (by-name .same-image);
+        same-image = rw (in-as-image, in-as-readout) (by-name .same-image);
         reads-as-set = (
           in-image d k after its-size x (taken .setting) ∙ ap accepted as-set,
           rw same (in-readout d k after its-size x (taken .setting) ∙ ap accepted as-set),
         );
         others-as-before = (λ l ne. rw same (others other l ne), λ u l ne. rw same (others u l ne));
-        listed-fuses = rw (in-its-image, in-its-readout) (by-name .listed-fuses);
-        other-fuses = rw (in-its-image, in-its-readout) (by-name .other-fuses);
-        conversions-accepted = rw (in-its-image, in-its-readout) (by-name .conversions-accepted);
+        listed-fuses = rw (in-as-image, in-as-readout) (by-name .listed-fuses);
+        other-fuses = rw (in-as-image, in-as-readout) (by-name .other-fuses);
+        conversions-accepted = rw (in-as-image, in-as-readout) (by-name .conversions-accepted);
       }

@@ -21,26 +21,26 @@ use Rattle.settings.specs.Settings.{hasSetting}
 use Rattle.settings.specs.Order.{start, countOf, settingOf}
 use Rattle.settings.specs.Order.Group.{literals, wireAnds}
 use Rattle.settings.specs.declared.Setting.{Setting}
-use Rattle.settings.proofs.Numbers.{ends, in-its-group, number-again}
+use Rattle.settings.proofs.Numbering.{ends, in-its-group, number-inverse}
 use Rattle.setting_places.specs.Places.{placeOf, bitsOf, fuseOf}
-use Rattle.setting_places.proofs.Places.{has-place}
+use Rattle.setting_places.proofs.OnePlaceEach.{has-place}
 use Rattle.setting_bits.specs.declared.Layout.{Layout}
 use Rattle.setting_bits.specs.declared.Layout.the-variants.{Image, Readout}
 use Rattle.setting_bits.specs.SettingBits.{isReadout, bytesOf, byteOf, bitIn, patternAt, withBits, withPattern}
 use Rattle.setting_bits.proofs.Edits.{inside, fuse-below}
 use Rattle.setting_bits.proofs.Steps.{bytes-between, bit-small}
-use Rattle.setting_bits.proofs.Strays.{one-stray}
-use Rattle.edit.specs.Edit.{strayIn}
+use Rattle.setting_bits.proofs.AboveWidth.{single-above}
+use Rattle.edit.specs.Edit.{aboveIn}
 use Rattle.edit_by_number.specs.ByNumber.{readPattern}
-use Rattle.edit_by_number.proofs.Asked.{PatternGives, reads-stray, reads-clean, sets-none, sets-stray, sets-clean}
+use Rattle.edit_by_number.proofs.Asked.{PatternGives, reads-above, reads-clean, sets-none, sets-above, sets-clean}
 
--- a bit above the width of the byte of a setting of one bit, in a readout
-stray-of-one : (d : Device) (layout : Layout) (bytes : List ℕ) (s : Setting) → known d ≡ true → hasSetting d s ≡ true → bitsOf s ≡ 1
+-- A bit above the width of the byte of a setting of one bit, in a readout.
+above-of-one : (d : Device) (layout : Layout) (bytes : List ℕ) (s : Setting) → known d ≡ true → hasSetting d s ≡ true → bitsOf s ≡ 1
     → (p : Place) → p ≡ placeOf s 0 → (index w above : ℕ) → index ≡ byteOf d layout (fuseOf d s 0) → w ≡ widthOf (p .byte)
-    → above ≡ getD bytes index 0 / 2 ^ w → strayIn d layout bytes s ≡ cond (isReadout layout && not (eqb above 0)) index (bytesOf d layout)
-unfolding strayIn
-stray-of-one d Image bytes s k h one p e index w above i v a = refl
-stray-of-one d Readout bytes s k h one p e index w above i v a = one-stray d k s h one bytes p e index w above i v a
+    → above ≡ getD bytes index 0 / 2 ^ w → aboveIn d layout bytes s ≡ cond (isReadout layout && not (eqb above 0)) index (bytesOf d layout)
+unfolding aboveIn
+above-of-one d Image bytes s k h one p e index w above i v a = refl
+above-of-one d Readout bytes s k h one p e index w above i v a = single-above d k s h one bytes p e index w above i v a
 
 module _ (d : Device) (x : ℕ) (l : x < start d wireAnds) where
   number-there : x < countOf d
@@ -51,7 +51,7 @@ module _ (d : Device) (x : ℕ) (l : x < start d wireAnds) where
   one-bit = let at : 0 + x ≡ x = omega arith in ap (λ (y : ℕ). bitsOf (settingOf d y)) (sym at) ∙ ap bitsOf (in-its-group d literals x l)
 
   its : hasSetting d (settingOf d x) ≡ true
-  its = number-again d x number-there .0
+  its = number-inverse d x number-there .0
 
   bit-0 : 0 < bitsOf (settingOf d x)
   bit-0 = omega (arith, one-bit)
@@ -81,18 +81,18 @@ module _ (d : Device) (x : ℕ) (l : x < start d wireAnds) where
       unfolding fuseOf
       at-bit = rw (← e) j
 
-      pub spot-in : index < length bytes
-      spot-in = index-in k layout bytes n index at-index
+      pub location-in : index < length bytes
+      location-in = index-in k layout bytes n index at-index
 
       pub found : (w above : ℕ) (t : Bool) → w ≡ widthOf (p .byte) → above ≡ getD bytes index 0 / 2 ^ w → t ≡ isReadout layout
-          → strayIn d layout bytes (settingOf d x) ≡ cond (t && not (eqb above 0)) index (bytesOf d layout)
-      found w above t v a r = rw r (stray-of-one d layout bytes (settingOf d x) k its one-bit p e index w above at-index v a)
+          → aboveIn d layout bytes (settingOf d x) ≡ cond (t && not (eqb above 0)) index (bytesOf d layout)
+      found w above t v a r = rw r (above-of-one d layout bytes (settingOf d x) k its one-bit p e index w above at-index v a)
 
 module _ (d : Device) (x : ℕ) (l : x < start d wireAnds) (k : known d ≡ true) (layout : Layout) (bytes : List ℕ)
     (n : length bytes ≡ bytesOf d layout)
     (index bit : ℕ) (t : Bool) (i : index ≡ byteOf d layout (fuseOf d (settingOf d x) 0))
     (j : bit ≡ bitIn d layout (fuseOf d (settingOf d x) 0))
-    (q : strayIn d layout bytes (settingOf d x) ≡ cond t index (bytesOf d layout)) where
+    (q : aboveIn d layout bytes (settingOf d x) ≡ cond t index (bytesOf d layout)) where
   pub bit-in : bit < 8
   bit-in = rw j (bit-small d k (settingOf d x) (its d x l) 0 (bit-0 d x l) layout)
 
@@ -111,31 +111,31 @@ module _ (d : Device) (x : ℕ) (l : x < start d wireAnds) (k : known d ≡ true
   unfolding withPattern withBits
   its-bytes pattern after low g = let own : pattern / 2 ^ 0 % 2 ≡ pattern = omega arith in rw (one-bit d x l, ← i, ← j, own) g
 
-  stray-if : (b : Bool) → t ≡ b → strayIn d layout bytes (settingOf d x) ≡ cond b index (bytesOf d layout)
-  stray-if b s = q ∙ ap (λ (c : Bool). cond c index (bytesOf d layout)) s
+  above-if : (b : Bool) → t ≡ b → aboveIn d layout bytes (settingOf d x) ≡ cond b index (bytesOf d layout)
+  above-if b s = q ∙ ap (λ (c : Bool). cond c index (bytesOf d layout)) s
 
-  pub read-stray : t ≡ true → refused 6 index ≡ readPattern d layout bytes x
-  read-stray s = reads-stray d layout bytes x k n (number-there d x l) (settingOf d x) refl index (stray-if true s) there
+  pub read-above : t ≡ true → refused 6 index ≡ readPattern d layout bytes x
+  read-above s = reads-above d layout bytes x k n (number-there d x l) (settingOf d x) refl index (above-if true s) there
 
   pub read-state : (state : ℕ) → t ≡ false → state ≡ bitAt bytes index bit → accepted state ≡ readPattern d layout bytes x
   read-state state s g =
-      reads-clean d layout bytes x k n (number-there d x l) (settingOf d x) refl (bytesOf d layout) (stray-if false s)
+      reads-clean d layout bytes x k n (number-there d x l) (settingOf d x) refl (bytesOf d layout) (above-if false s)
       state (omega (arith, n)) (its-pattern state g)
 
   module _ (pattern : ℕ) (low : pattern ≤ 1) where
     fits : ltb pattern (2 ^ bitsOf (settingOf d x)) ≡ true
     fits = rw (one-bit d x l) (lt-ltb pattern 2 (omega arith))
 
-    pub set-stray : t ≡ true → PatternGives d layout bytes x pattern (refused 6 index) bytes
-    set-stray s = sets-stray d layout bytes x k n (number-there d x l) (settingOf d x) refl pattern fits index (stray-if true s) there
+    pub set-above : t ≡ true → PatternGives d layout bytes x pattern (refused 6 index) bytes
+    set-above s = sets-above d layout bytes x k n (number-there d x l) (settingOf d x) refl pattern fits index (above-if true s) there
 
     pub set-state : (after : List ℕ) → t ≡ false → after ≡ withBit bytes index bit pattern
         → PatternGives d layout bytes x pattern (accepted tt) after
     set-state after s g =
-        sets-clean d layout bytes x k n (number-there d x l) (settingOf d x) refl pattern fits (bytesOf d layout) (stray-if false s)
+        sets-clean d layout bytes x k n (number-there d x l) (settingOf d x) refl pattern fits (bytesOf d layout) (above-if false s)
         after (omega (arith, n)) (its-bytes pattern after low g)
 
--- what the operations ask first
+-- What the operations ask first.
 pub its-literal : (d : Device) (layout : Layout) (size x : ℕ) (t : Bool)
     → t ≡ (known d && eqb size (bytesOf d layout) && ltb x (start d wireAnds)) → t ≡ true
     → (known d ≡ true) × (size ≡ bytesOf d layout) × (x < start d wireAnds)

@@ -14,14 +14,14 @@ use Rattle.settings.specs.Fields.{foes, globalFields, globalIndex}
 use Rattle.settings.specs.Settings.{hasSetting}
 use Rattle.settings.specs.Order.{countOf, numberOf, settingOf}
 use Rattle.settings.specs.declared.GlobalField.the-variants as field
-use Rattle.settings.proofs.Numbers.{setting-again}
+use Rattle.settings.proofs.Numbering.{setting-inverse}
 use Rattle.setting_places.specs.Places.{bitsOf}
 use Rattle.setting_bits.specs.declared.Layout.{Layout}
 use Rattle.setting_bits.specs.declared.Layout.the-variants.{Image, Readout}
 use Rattle.setting_bits.specs.SettingBits.{bytesOf, patternAt, withPattern}
-use Rattle.setting_bits.proofs.Strays.{of-global, none-stray}
+use Rattle.setting_bits.proofs.AboveWidth.{of-global, none-above}
 use Rattle.setting_bits.proofs.Usercode.{usercode}
-use Rattle.edit.specs.Edit.{strayIn}
+use Rattle.edit.specs.Edit.{aboveIn}
 use Rattle.edit_by_number.specs.ByNumber.{readPattern}
 use Rattle.edit_by_number.proofs.Asked.{PatternGives, reads-clean, sets-clean}
 
@@ -30,17 +30,17 @@ unfolding hasSetting
 has-usercode d = lt-ltb (globalIndex (foes d) field.Usercode) (globalFields (foes d)) (omega arith)
 
 clean : (d : Device) (layout : Layout) (bytes : List ℕ) → known d ≡ true → length bytes ≡ bytesOf d layout
-    → ((i : ℕ) → getD bytes i 0 < 2 ^ 8) → strayIn d layout bytes usercode ≡ bytesOf d layout
-unfolding strayIn
+    → ((i : ℕ) → getD bytes i 0 < 2 ^ 8) → aboveIn d layout bytes usercode ≡ bytesOf d layout
+unfolding aboveIn
 clean d Image bytes k n small = refl
 clean d Readout bytes k n small =
-    sym (none-stray d k usercode (has-usercode d) bytes small n (of-global d k usercode (has-usercode d) field.Usercode refl)) ∙ n
+    sym (none-above d k usercode (has-usercode d) bytes small n (of-global d k usercode (has-usercode d) field.Usercode refl)) ∙ n
 
 module _ (d : Device) (layout : Layout) (bytes : List ℕ) (x count size last : ℕ) (k : known d ≡ true) (e : size ≡ bytesOf d layout)
     (m : length bytes ≡ size)
     (f : count ≡ countOf d) (l : x < count) (g : last ≡ numberOf d usercode) (q : x ≡ last) (small : (i : ℕ) → getD bytes i 0 < 2 ^ 8) where
   its : usercode ≡ settingOf d x
-  its = sym (ap (settingOf d) (q ∙ g) ∙ setting-again d usercode (has-usercode d))
+  its = sym (ap (settingOf d) (q ∙ g) ∙ setting-inverse d usercode (has-usercode d))
 
   pub reads-code : (p : ℕ) → p ≡ patternAt d layout bytes usercode → accepted p ≡ readPattern d layout bytes x
   reads-code p w =

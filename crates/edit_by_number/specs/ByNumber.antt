@@ -16,7 +16,7 @@ use Rattle.setting_bits.specs.declared.Layout.{Layout}
 use Rattle.setting_bits.specs.SettingBits.{bytesOf, patternAt, withPattern}
 use Rattle.edit.specs.Edit.{ifClean}
 
--- refusals 1, 2, 4, in that order
+-- Refusals 1, 2, 4, in that order.
 abbrev pub ifNumber : {A : Type 0} → Device → Layout → List ℕ → ℕ → (Setting → Outcome A) → Outcome A
 ifNumber d layout bytes number answer =
     ifKnown d

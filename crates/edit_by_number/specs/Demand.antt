@@ -12,7 +12,7 @@ use Rattle.setting_places.specs.Places.{bitsOf, fuseOf}
 use Rattle.edit.specs.Demand.{Calls, callsBy, Demand3}
 use Rattle.edit_by_number.specs.ByNumber.{readPattern, setPattern, withNumbered}
 
--- any known device, any image of it, the number of any setting of that device and any pattern of its bits
+-- Any known device, any image of it, the number of any setting of that device and any pattern of its bits.
 pub record NumberTaken (d : Device) (image : List ℕ) (number pattern : ℕ) : Type 0 where
   pub device : known d ≡ true
   pub size : length image ≡ imageBytes d
@@ -20,7 +20,7 @@ pub record NumberTaken (d : Device) (image : List ℕ) (number pattern : ℕ) : 
   pub setting : number < countOf d
   pub fits : pattern < 2 ^ bitsOf (settingOf d number)
 
--- what the definitions give, and the demand of it; `other` is the number of another setting that is read
+-- What the definitions give, and the demand of it; `other` is the number of another setting that is read.
 abbrev pub callsByNumber : Device → (image : List ℕ) → (number pattern other : ℕ) → Calls ℕ
 callsByNumber d image number pattern other =
     callsBy d (λ layout bytes. setPattern d layout bytes number pattern)

@@ -11,16 +11,16 @@ use part::NumberAnswer;
 use setting_bits::Layout;
 use settings::SettingNumber;
 
-mod internal;
+mod by_number;
 
 // The pattern of a setting in an image, by its number. Refused: 1, 2, 4.
 pub fn read_pattern_in_image(d: Device, image: &[u8], number: SettingNumber) -> NumberAnswer
     ensures { λ r. ⌜ numberOutcome r ≡ readPattern d Image (now (image .entry)) (number .0) ⌝ }
 {
-    if internal::is_literal(d, Layout::Image, image.len(), number) {
-        return internal::read_literal(d, Layout::Image, image, number);
+    if by_number::is_literal(d, Layout::Image, image.len(), number) {
+        return by_number::read_literal(d, Layout::Image, image, number);
     }
-    internal::read_numbered(d, Layout::Image, image, number)
+    by_number::read_numbered(d, Layout::Image, image, number)
 }
 
 // A setting set to a pattern in an image, by its number. Refused: 1, 2, 4, 5.
@@ -33,20 +33,20 @@ pub fn set_pattern_in_image(
     ensures { λ r. ⌜ Written (setPattern d Image (now (image .entry)) (number .0) pattern) (doneOutcome r)
         (withNumbered d Image (now (image .entry)) (number .0) pattern) (now (image .entry)) (now (image .exit)) ⌝ }
 {
-    if internal::is_literal(d, Layout::Image, image.len(), number) {
-        return internal::set_literal(d, Layout::Image, image, number, pattern);
+    if by_number::is_literal(d, Layout::Image, image.len(), number) {
+        return by_number::set_literal(d, Layout::Image, image, number, pattern);
     }
-    internal::set_numbered(d, Layout::Image, image, number, pattern)
+    by_number::set_numbered(d, Layout::Image, image, number, pattern)
 }
 
 // The pattern of a setting in a readout, by its number. Refused: 1, 2, 4, 6.
 pub fn read_pattern_in_readout(d: Device, readout: &[u8], number: SettingNumber) -> NumberAnswer
     ensures { λ r. ⌜ numberOutcome r ≡ readPattern d Readout (now (readout .entry)) (number .0) ⌝ }
 {
-    if internal::is_literal(d, Layout::Readout, readout.len(), number) {
-        return internal::read_literal(d, Layout::Readout, readout, number);
+    if by_number::is_literal(d, Layout::Readout, readout.len(), number) {
+        return by_number::read_literal(d, Layout::Readout, readout, number);
     }
-    internal::read_numbered(d, Layout::Readout, readout, number)
+    by_number::read_numbered(d, Layout::Readout, readout, number)
 }
 
 // A setting set to a pattern in a readout, by its number. Refused: 1, 2, 4, 5, 6.
@@ -60,8 +60,8 @@ pub fn set_pattern_in_readout(
         (withNumbered d Readout (now (readout .entry)) (number .0) pattern) (now (readout .entry))
         (now (readout .exit)) ⌝ }
 {
-    if internal::is_literal(d, Layout::Readout, readout.len(), number) {
-        return internal::set_literal(d, Layout::Readout, readout, number, pattern);
+    if by_number::is_literal(d, Layout::Readout, readout.len(), number) {
+        return by_number::set_literal(d, Layout::Readout, readout, number, pattern);
     }
-    internal::set_numbered(d, Layout::Readout, readout, number, pattern)
+    by_number::set_numbered(d, Layout::Readout, readout, number, pattern)
 }

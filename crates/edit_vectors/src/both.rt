@@ -120,8 +120,8 @@ fn turn(
     image: &mut [u8],
     readout: &mut [u8],
     kept: &mut [u8],
-    its_readout: &mut [u8],
-    its_image: &mut [u8],
+    as_readout: &mut [u8],
+    as_image: &mut [u8],
     k: u32,
     digest: u64,
 ) -> u64 {
@@ -129,7 +129,7 @@ fn turn(
     let s = setting_of(d, number(count, k));
     let t = setting_of(d, other_number(count, k));
     let v = value_of(d, s, pattern(k));
-    let r = demand::both_ways(d, image, readout, kept, its_readout, its_image, s, v, t);
+    let r = demand::both_ways(d, image, readout, kept, as_readout, as_image, s, v, t);
     with_answers(digest, d, s, t, r)
 }
 
@@ -138,24 +138,24 @@ fn answers(
     image: &mut [u8],
     readout: &mut [u8],
     kept: &mut [u8],
-    its_readout: &mut [u8],
-    its_image: &mut [u8],
+    as_readout: &mut [u8],
+    as_image: &mut [u8],
 ) -> u64 {
     let mut digest: u64 = 0;
     let mut k: u32 = 0;
     while k < TURNS {
-        digest = turn(d, image, readout, kept, its_readout, its_image, k, digest);
+        digest = turn(d, image, readout, kept, as_readout, as_image, k, digest);
         k += 1;
     }
     digest
 }
 
-fn put_all(image: &[u8], readout: &[u8], kept: &[u8], its_readout: &[u8], its_image: &[u8]) {
+fn put_all(image: &[u8], readout: &[u8], kept: &[u8], as_readout: &[u8], as_image: &[u8]) {
     vectors::put(b" image", vectors::digest_of(image));
     vectors::put(b" readout", vectors::digest_of(readout));
     vectors::put(b" before", vectors::digest_of(kept));
-    vectors::put(b" its readout", vectors::digest_of(its_readout));
-    vectors::put(b" its image", vectors::digest_of(its_image));
+    vectors::put(b" its readout", vectors::digest_of(as_readout));
+    vectors::put(b" its image", vectors::digest_of(as_image));
     vectors::end_line();
 }
 
@@ -163,14 +163,14 @@ fn fill_all(
     image: &mut [u8],
     readout: &mut [u8],
     kept: &mut [u8],
-    its_readout: &mut [u8],
-    its_image: &mut [u8],
+    as_readout: &mut [u8],
+    as_image: &mut [u8],
 ) {
     vectors::fill(image, 3);
     vectors::fill(readout, 4);
     vectors::fill(kept, 5);
-    vectors::fill(its_readout, 6);
-    vectors::fill(its_image, 7);
+    vectors::fill(as_readout, 6);
+    vectors::fill(as_image, 7);
 }
 
 fn on_slices(
@@ -178,16 +178,16 @@ fn on_slices(
     image: &mut [u8],
     readout: &mut [u8],
     kept: &mut [u8],
-    its_readout: &mut [u8],
-    its_image: &mut [u8],
+    as_readout: &mut [u8],
+    as_image: &mut [u8],
 ) {
     vectors::put_device(d);
-    fill_all(image, readout, kept, its_readout, its_image);
+    fill_all(image, readout, kept, as_readout, as_image);
     vectors::put(
         b" both ways",
-        answers(d, image, readout, kept, its_readout, its_image),
+        answers(d, image, readout, kept, as_readout, as_image),
     );
-    put_all(image, readout, kept, its_readout, its_image);
+    put_all(image, readout, kept, as_readout, as_image);
 }
 
 // Lengths k of three, as for the other edits; the kept readout is as long as the readout for the right lengths alone.
@@ -196,23 +196,23 @@ fn with_lengths(
     image: &mut [u8],
     readout: &mut [u8],
     kept: &mut [u8],
-    its_readout: &mut [u8],
-    its_image: &mut [u8],
+    as_readout: &mut [u8],
+    as_image: &mut [u8],
     k: u32,
 ) {
     let sizes = vectors::sizes(d);
     let i = near(sizes.image_bytes, k % 3, image.len());
     let r = near(sizes.readout_bytes, 2 - k % 3, readout.len());
     let b = near(sizes.readout_bytes, k % 3, kept.len());
-    let ir = near(sizes.readout_bytes, k % 3, its_readout.len());
-    let ii = near(sizes.image_bytes, 2 - k % 3, its_image.len());
+    let ir = near(sizes.readout_bytes, k % 3, as_readout.len());
+    let ii = near(sizes.image_bytes, 2 - k % 3, as_image.len());
     on_slices(
         d,
         &mut image[..i],
         &mut readout[..r],
         &mut kept[..b],
-        &mut its_readout[..ir],
-        &mut its_image[..ii],
+        &mut as_readout[..ir],
+        &mut as_image[..ii],
     );
 }
 
@@ -221,13 +221,13 @@ pub fn each_device(
     image: &mut [u8],
     readout: &mut [u8],
     kept: &mut [u8],
-    its_readout: &mut [u8],
-    its_image: &mut [u8],
+    as_readout: &mut [u8],
+    as_image: &mut [u8],
 ) {
     let mut k: u32 = 0;
     while k < 3 * vectors::DEVICES {
         let d = vectors::device(k / 3);
-        with_lengths(d, image, readout, kept, its_readout, its_image, k % 3);
+        with_lengths(d, image, readout, kept, as_readout, as_image, k % 3);
         k += 1;
     }
 }

@@ -93,7 +93,7 @@ fn edits(in_readout: bool, d: Device, bytes: &mut [u8], turn: u32) {
     vectors::put(b" bytes", vectors::digest_of(&bytes[..]));
 }
 
-// On bytes that look random: most bytes of such a readout that can have a stray bit have one.
+// On bytes that look random: most bytes of such a readout that can have a bit above a width have one.
 fn on_any_bytes(d: Device, image: &mut [u8], readout: &mut [u8]) {
     vectors::fill(image, 1);
     vectors::put(b" image", image.len() as u64);
@@ -103,8 +103,8 @@ fn on_any_bytes(d: Device, image: &mut [u8], readout: &mut [u8]) {
     edits(true, d, readout, 1);
 }
 
-// On the readout of the image, which has no stray bit.
-fn on_its_readout(d: Device, image: &[u8], readout: &mut [u8]) {
+// On the readout of the image, which has no bit above a width.
+fn on_as_readout(d: Device, image: &[u8], readout: &mut [u8]) {
     let answer = capi::xc9500_image_to_readout(d.blocks, d.class, image, readout);
     vectors::put_answer(answer);
     edits(true, d, readout, 2);
@@ -112,7 +112,7 @@ fn on_its_readout(d: Device, image: &[u8], readout: &mut [u8]) {
 
 fn answers(d: Device, image: &mut [u8], readout: &mut [u8]) {
     on_any_bytes(d, image, readout);
-    on_its_readout(d, &image[..], readout);
+    on_as_readout(d, &image[..], readout);
     vectors::end_line();
 }
 
@@ -250,13 +250,13 @@ fn main() {
     on_the_smallest(&mut image, &mut readout);
     each_device(&mut image, &mut readout);
     let mut kept = io::large_buffer();
-    let mut its_readout = io::large_buffer();
-    let mut its_image = io::large_buffer();
+    let mut as_readout = io::large_buffer();
+    let mut as_image = io::large_buffer();
     both::each_device(
         &mut image,
         &mut readout,
         &mut kept,
-        &mut its_readout,
-        &mut its_image,
+        &mut as_readout,
+        &mut as_image,
     );
 }

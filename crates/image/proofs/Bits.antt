@@ -19,7 +19,7 @@ use lib.Seq.{getD-set-same, getD-set-other, getD-at}
 use Rattle.part.proofs.Facts.{compared}
 use Rattle.image.specs.Bits.{bitOf, bitAt, putBit, withBit, gathered, tabulate}
 
--- a bit below the width is a bit of the low part
+-- A bit below the width is a bit of the low part.
 pub bit-low : (n w b : ℕ) → b < w → bitOf (n % 2 ^ w) b ≡ bitOf n b
 bit-low n w b h =
     let e : w ≡ w - suc b + suc b = omega arith in
@@ -28,11 +28,11 @@ bit-low n w b h =
     ∙ ap (λ (k : ℕ). n % 2 ^ (w - suc b + suc b) % 2 ^ k) (sym f) ∙ mod-mod-pow n (w - suc b) (suc b) ∙ ap (λ (k : ℕ). n % 2 ^ k) f in
     sym (field (n % 2 ^ w) 1 b) ∙ ap (λ (x : ℕ). x / 2 ^ b) inner ∙ field n 1 b
 
--- a bit at or above the width is a bit of the high part
+-- A bit at or above the width is a bit of the high part.
 pub bit-high : (n w k : ℕ) → bitOf n (w + k) ≡ bitOf (n / 2 ^ w) k
 bit-high n w k = ap (λ (x : ℕ). x % 2) (sym (shr-shr n w k))
 
--- a number has no bit at or above its width
+-- A number has no bit at or above its width.
 pub bit-above : (n w b : ℕ) → n < 2 ^ w → w ≤ b → bitOf n b ≡ 0
 bit-above n w b h g = ap (λ (x : ℕ). x % 2) (div-eq-of-lt (lt-of-lt-of-le h (pow-mono g)))
 
@@ -72,7 +72,7 @@ module _ (bytes : List ℕ) (index b s : ℕ) (there : index < length bytes) (bi
   unfolding bitAt withBit
   with-same = rw (getD-set-same bytes index (putBit (getD bytes index 0) b s) 0 there) (put-same (getD bytes index 0) b s bit)
 
-  -- every other bit of every byte stands as before
+  -- Every other bit of every byte stands as before.
   pub with-other : (i j : ℕ) → ((i ≡ index) × (j ≡ b) → ⊥) → bitAt (withBit bytes index b s) i j ≡ bitAt bytes i j
   unfolding bitAt withBit
   with-other i j ne = same-or (ℕ-discrete i index)
@@ -87,7 +87,7 @@ module _ (bytes : List ℕ) (index b s : ℕ) (there : index < length bytes) (bi
   unfolding withBit
   with-length = length-set bytes index _
 
--- the number gathered from bits
+-- The number gathered from bits.
 module _ (bits : ℕ → ℕ) (small : (i : ℕ) → bits i < 2) where
   pub gathered-small : (w : ℕ) → gathered bits w < 2 ^ w
   unfolding gathered
@@ -108,14 +108,14 @@ module _ (bits : ℕ → ℕ) (small : (i : ℕ) → bits i < 2) where
       let f : b ≡ w = omega arith in
       rw (f, high (bits w) w (gathered-small w)) (mod-eq-of-lt (small w))))
 
--- only the bits below the width are read
+-- Only the bits below the width are read.
 pub gathered-same : (f g : ℕ → ℕ) (w : ℕ) → ((b : ℕ) → b < w → f b ≡ g b) → gathered f w ≡ gathered g w
 unfolding gathered
 gathered-same f g zero e = refl
 gathered-same f g (suc w) e =
     ap₂ (λ (x y : ℕ). x + y * 2 ^ w) (gathered-same f g w (λ b h. e b (omega arith))) (e w (omega arith))
 
--- a number is gathered from its own bits
+-- A number is gathered from its own bits.
 pub gathered-own : (x w : ℕ) → gathered (bitOf x) w ≡ x % 2 ^ w
 unfolding gathered
 gathered-own x zero = sym (mod-one x)

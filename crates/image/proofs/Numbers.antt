@@ -12,7 +12,7 @@ use Rattle.image.specs.Bits.{bitOf, bitAt}
 use Rattle.image.specs.Image.{state}
 use Rattle.image.proofs.Bits.{bit-low, bit-high}
 
--- an index of a list of widths: the width there, and the bits before it
+-- An index of a list of widths: the width there, and the bits before it.
 abbrev pub At : List ℕ → (index width before : ℕ) → Type 0
 At ws index width before = (getD ws index 0 ≡ width) × (total (take index ws) ≡ before)
 
@@ -24,7 +24,7 @@ at-replicate (suc n) a (suc i) h =
     let r = at-replicate n a i (le-of-suc-le-suc h) in
     (r .0, ap (λ (x : ℕ). a + x) (r .1) ∙ add-comm a (i * a) ∙ sym (suc-mul i a))
 
--- a bit of a cell is a bit of the number that the cells join to
+-- A bit of a cell is a bit of the number that the cells join to.
 pub joined-bit : (ws cells : List ℕ) (k w before b : ℕ) → k < length ws → At ws k w before → b < w
     → bitOf (join ws cells) (before + b) ≡ bitOf (getD cells k 0) b
 joined-bit ws cells k w before b h at hb =
@@ -32,7 +32,7 @@ joined-bit ws cells k w before b h at hb =
     let cell : x / 2 ^ before % 2 ^ w ≡ getD cells k 0 % 2 ^ w = rw (at .0, at .1) at (sym (cut-at ws x k h) ∙ cut-join ws cells k h) in
     bit-high x before b ∙ sym (bit-low (x / 2 ^ before) w b hb) ∙ ap (λ (y : ℕ). bitOf y b) cell ∙ bit-low (getD cells k 0) w b hb
 
--- the state of a fuse is a bit of the image's number
+-- The state of a fuse is a bit of the image's number.
 pub number-bit : (image : List ℕ) (fuse : ℕ) → fuse < length image * 8 → bitOf (number image) fuse ≡ state image fuse
 unfolding number state bitAt
 number-bit image fuse h =

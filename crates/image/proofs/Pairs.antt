@@ -11,14 +11,14 @@ use lib.Seq.{getD-set-same, set-set}
 use Rattle.image.specs.Bits.{bitOf, putBit, withBit}
 use Rattle.image.proofs.Bits.{put-small}
 
--- the bit above another is the lowest of what is left without that one
+-- The bit above another is the lowest of what is left without that one.
 pub next-bit : (x b : ℕ) → x / 2 ^ (b + 1) ≡ x / 2 ^ b / 2
 next-bit x b = sym (shr-shr x b 1)
 
 pub pair-bits : (x b : ℕ) → x / 2 ^ b % 4 ≡ bitOf x b + 2 * bitOf x (b + 1)
 pair-bits x b = rw (next-bit x b) (omega arith)
 
--- a number with two neighbouring bits put in place: the bits above them, their states, the bits below them
+-- A number with two neighbouring bits put in place: the bits above them, their states, the bits below them.
 abbrev pub putPair : ℕ → (bit states : ℕ) → ℕ
 putPair x bit states = (x / 2 ^ bit / 4 * 4 + states) * 2 ^ bit + x % 2 ^ bit
 
@@ -54,7 +54,7 @@ module _ (x b states : ℕ) (two : states < 4) where
       (put-small (putBit x b (states % 2)) (b + 1) (states / 2) (omega arith) 8
       (put-small x b (states % 2) (omega arith) 8 h (omega arith)) (omega arith))
 
--- a list with two neighbouring bits of one byte put in place
+-- A list with two neighbouring bits of one byte put in place.
 pub with-pair : (bytes : List ℕ) (index b states : ℕ) → index < length bytes → states < 4
     → withBit (withBit bytes index b (states % 2)) index (b + 1) (states / 2) ≡ set bytes index (putPair (getD bytes index 0) b states)
 unfolding withBit

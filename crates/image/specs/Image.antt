@@ -10,19 +10,19 @@ use Rattle.part.specs.Convert.{ifKnown, ifLength}
 use Rattle.part.specs.declared.Device.{Device}
 use Rattle.image.specs.Bits.{bitAt, withBit, gathered, tabulate}
 
--- the state of a fuse
+-- The state of a fuse.
 unfoldable pub state : List ℕ → ℕ → ℕ
 state image fuse = bitAt image (fuse / 8) (fuse % 8)
 
--- the image with the state of one fuse changed
+-- The image with the state of one fuse changed.
 abbrev pub withFuse : List ℕ → (fuse s : ℕ) → List ℕ
 withFuse image fuse s = withBit image (fuse / 8) (fuse % 8) s
 
--- the image in which each fuse has the state given
+-- The image in which each fuse has the state given.
 unfoldable pub imageFrom : Device → (ℕ → ℕ) → List ℕ
 imageFrom d states = tabulate (imageBytes d) (λ index. gathered (λ bit. states (index * 8 + bit)) 8)
 
--- image bytes are summed as unsigned bytes and only the low 16 bits kept
+-- Image bytes are summed as unsigned bytes and only the low 16 bits kept.
 unfoldable pub byteSum : List ℕ → ℕ
 byteSum [] = 0
 byteSum (b ∷ bytes) = b + byteSum bytes
@@ -30,7 +30,7 @@ byteSum (b ∷ bytes) = b + byteSum bytes
 unfoldable pub sum16 : List ℕ → ℕ
 sum16 bytes = byteSum bytes % 2 ^ 16
 
--- the zero count is the number of fuses at 0
+-- The zero count is the number of fuses at 0.
 unfoldable pub zerosBelow : List ℕ → ℕ → ℕ
 zerosBelow image zero = 0
 zerosBelow image (suc fuse) = zerosBelow image fuse + (1 - state image fuse)

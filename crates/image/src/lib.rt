@@ -1,5 +1,5 @@
 // The fuse image: the fuse sum and the zero count over it. The state of a fuse and the change of one stand in
-// `internal`. The definitions stand in specs/Image.antt.
+// `bytes`. The definitions stand in specs/Image.antt.
 ghost use mathlib.Core.Path.{_≡_};
 ghost use Rattle.part.specs.Answer.{numberOutcome};
 ghost use Rattle.image.specs.Image.{fuseSum, zeroCount};
@@ -7,7 +7,7 @@ use part::Device;
 use part::NumberAnswer;
 use part::Refusal;
 
-pub mod internal;
+pub mod bytes;
 
 // The sum of the image's bytes, of which the low 16 bits are kept. Refused: 1, 2.
 pub fn fuse_sum(d: Device, image: &[u8]) -> NumberAnswer
@@ -16,10 +16,10 @@ pub fn fuse_sum(d: Device, image: &[u8]) -> NumberAnswer
     if !part::is_known(d) {
         return NumberAnswer::Refused(Refusal::UnknownDevice);
     }
-    if image.len() != part::internal::image_bytes(d) as usize {
+    if image.len() != part::geometry::image_bytes(d) as usize {
         return NumberAnswer::Refused(Refusal::WrongLength);
     }
-    NumberAnswer::Number(internal::sum_of(image) as u32)
+    NumberAnswer::Number(bytes::sum_of(image) as u32)
 }
 
 // How many fuses of the image are at 0. Refused: 1, 2.
@@ -29,11 +29,11 @@ pub fn zero_count(d: Device, image: &[u8]) -> NumberAnswer
     if !part::is_known(d) {
         return NumberAnswer::Refused(Refusal::UnknownDevice);
     }
-    if image.len() != part::internal::image_bytes(d) as usize {
+    if image.len() != part::geometry::image_bytes(d) as usize {
         return NumberAnswer::Refused(Refusal::WrongLength);
     }
-    let fuses = part::internal::fuse_count(d);
-    let ones = internal::ones_of(image) as u32;
+    let fuses = part::geometry::fuse_count(d);
+    let ones = bytes::ones_of(image) as u32;
     let zeros = fuses - ones;
     NumberAnswer::Number(zeros)
 }

@@ -57,7 +57,7 @@ pub written-text : WrittenText
 unfolding textWith upToEtx linesText columnsText statesText digitsOf sum16 byteSum state bitAt total
 written-text = refl
 
--- the longest text that is read
+-- The longest text that is read.
 pub too-long : (fuses : ℕ) (text : List ℕ) → 1048576 < length text → meaning fuses text ≡ refused 7 1048576
 unfolding meaning
 too-long fuses text h = rw (lt-ltb 1048576 (length text) h)

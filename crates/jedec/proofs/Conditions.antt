@@ -24,14 +24,14 @@ use Rattle.jedec.specs.Meaning.{longest, unless, wrongSum, wrongTransmis
 use Rattle.jedec.specs.Meaning.{meaning}
 use Rattle.jedec.specs.Form.{Counted, Concluded, GoodForm, Accepted}
 
--- an answer is no refusal of this number; an accepted text is none
+-- An answer is no refusal of this number; an accepted text is none.
 abbrev pub Not : (number : ℕ) → Outcome (List ℕ) → Type 0
 Not number answer = (at : ℕ) → refused number at ≡ answer → ⊥
 
 pub not-refused : (number : ℕ) (image : List ℕ) → Not number (accepted image)
 not-refused number image at e = let z : _≡_ {A = ℕ} 0 1 = cc in omega arith
 
--- what is not refused for a test passed it
+-- What is not refused for a test passed it.
 passed : (t : Bool) (n v : ℕ) (other answer : Outcome (List ℕ)) → Not n answer → cond t (refused n v) other ≡ answer
     → (t ≡ false) × (other ≡ answer)
 passed true n v other answer never e = absurd (never v e)
@@ -47,7 +47,7 @@ pub no-place : (n : ℕ) (o : Option ℕ) (other answer : Outcome (List ℕ)) �
 no-place n none other answer never e = (refl, e)
 no-place n (some at) other answer never e = absurd (never at e)
 
--- each rule, from its place to what it says, and back
+-- Each rule, from its place to what it says, and back.
 pub the-count : (fuses etx : ℕ) (k : Known) → wrongCount fuses etx (k .count) ≡ none → Counted fuses k
 the-count fuses etx k e = given-as (k .count) refl e
   where
@@ -90,7 +90,7 @@ transmission-none text etx sum (inr s) = go (eqb sum 0)
     go true = refl
     go false = rw (eq-eqb sum (sum16 (take (etx + 1) text)) s)
 
--- what the end answers
+-- What the end answers.
 module _ (fuses : ℕ) (text image : List ℕ) (etx sum : ℕ) (k : Known) where
   conclusion : concluded fuses text etx sum k ≡ accepted image → Concluded fuses text image etx sum k
   unfolding concluded
@@ -103,7 +103,7 @@ module _ (fuses : ℕ) (text image : List ℕ) (etx sum : ℕ) (k : Known) where
       record {
         counted = the-count fuses etx k (eight .0);
         in-place = nine .0;
-        its-image = same;
+        as-image = same;
         right-sum = λ c f. the-sum (finished fuses k) (k .sum) (ten .0) c f ∙ ap sum16 (sym same);
         right-transmission = the-transmission text etx sum (eleven .0);
       }
@@ -112,11 +112,11 @@ module _ (fuses : ℕ) (text image : List ℕ) (etx sum : ℕ) (k : Known) where
   unfolding concluded
   concluding c =
       let sums : wrongSum (finished fuses k) (k .sum) ≡ none =
-      sum-none (finished fuses k) (k .sum) (λ x f. c .right-sum x f ∙ ap sum16 (c .its-image)) in
+      sum-none (finished fuses k) (k .sum) (λ x f. c .right-sum x f ∙ ap sum16 (c .as-image)) in
       rw (count-none fuses etx k (c .counted), c .in-place, sums, transmission-none text etx sum (c .right-transmission))
-      (ap accepted (sym (c .its-image)))
+      (ap accepted (sym (c .as-image)))
 
--- a text that is not refused 7 is of good form, and means what its end answers
+-- A text that is not refused 7 is of good form, and means what its end answers.
 pub record Formed (fuses : ℕ) (text : List ℕ) (answer : Outcome (List ℕ)) : Type 0 where
   pub gives : Known
   pub end : ℕ
@@ -125,7 +125,7 @@ pub record Formed (fuses : ℕ) (text : List ℕ) (answer : Outcome (List ℕ)) 
   pub its-answer : concluded fuses text end sum gives ≡ answer
 
 module _ (fuses : ℕ) (text : List ℕ) (answer : Outcome (List ℕ)) (not-7 : Not 7 answer) where
-  -- the form, step by step
+  -- The form, step by step.
   record Ended (k : Known) (end : Option ℕ) : Type 0 where
     at : ℕ
     has : end ≡ some at

@@ -15,7 +15,7 @@ use Rattle.jedec.specs.Characters.{etx, star, isBlank}
 use Rattle.jedec.specs.Cut.{onFirst, pieces, blanksBefore, Cut, startsWith, orEnd, fieldsFrom}
 use Rattle.jedec.specs.Form.{all, notStar, Part, starts, RightPart, RightParts, partsText, next, fieldsOf, partsEnd}
 
--- bytes without a `*` stay together
+-- Bytes without a `*` stay together.
 piece-byte : (b : ℕ) → notStar b ≡ true → (bytes : List ℕ) → pieces (b ∷ bytes) ≡ onFirst b (pieces bytes .ended) (pieces bytes .rest)
 unfolding pieces
 piece-byte b h bytes = rw (not-true (eqb b star) h)
@@ -27,7 +27,7 @@ no-star-pieces (b ∷ bytes) h =
     let both = and-iff (notStar b) (all notStar bytes) .0 h in
     piece-byte b (both .0) bytes ∙ rw (no-star-pieces bytes (both .1))
 
--- .. up to the next `*`
+-- The bytes up to the next `*`.
 pub star-pieces : (bytes rest : List ℕ) → all notStar bytes ≡ true
     → pieces (bytes ++ star ∷ rest) ≡ record { ended = bytes ∷ pieces rest .ended; rest = pieces rest .rest }
 unfolding all pieces
@@ -36,7 +36,7 @@ star-pieces (b ∷ bytes) rest h =
     let both = and-iff (notStar b) (all notStar bytes) .0 h in
     piece-byte b (both .0) (bytes ++ star ∷ rest) ∙ rw (star-pieces bytes rest (both .1))
 
--- blanks before a field
+-- Blanks before a field.
 pub blanks-before : (blanks bytes : List ℕ) → all isBlank blanks ≡ true → blanksBefore bytes ≡ 0
     → blanksBefore (blanks ++ bytes) ≡ length blanks
 unfolding all blanksBefore
@@ -45,7 +45,7 @@ blanks-before (b ∷ blanks) bytes h none =
     let both = and-iff (isBlank b) (all isBlank blanks) .0 h in
     rw (both .0) (ap suc (blanks-before blanks bytes (both .1) none))
 
--- a field starts with no blank and no ETX
+-- A field starts with no blank and no ETX.
 record Starting (bytes : List ℕ) : Type 0 where
   no-blank : blanksBefore bytes ≡ 0
   no-etx : startsWith etx bytes ≡ false
@@ -57,7 +57,7 @@ starting (b ∷ bytes) h =
     let both = and-iff (not (isBlank b)) (not (eqb b etx)) .0 h in
     record { no-blank = rw (not-true (isBlank b) (both .0)); no-etx = not-true (eqb b etx) (both .1) }
 
--- bytes that all pass a test, one after the other
+-- Bytes that all pass a test, one after the other.
 pub all-append : (test : ℕ → Bool) (xs ys : List ℕ) → all test xs ≡ true → all test ys ≡ true → all test (xs ++ ys) ≡ true
 unfolding all
 all-append test [] ys h k = k
@@ -70,7 +70,7 @@ unfolding all
 all-behind test [] ys h = h
 all-behind test (b ∷ xs) ys h = all-behind test xs ys (and-iff (test b) (all test (xs ++ ys)) .0 h .1)
 
--- no blank is a `*`
+-- No blank is a `*`.
 pub blank-no-star : (bytes : List ℕ) → all isBlank bytes ≡ true → all notStar bytes ≡ true
 unfolding all
 blank-no-star [] h = refl
@@ -81,7 +81,7 @@ blank-no-star (b ∷ bytes) h =
     one : (b : ℕ) → isBlank b ≡ true → notStar b ≡ true
     one b h = rw (ne-eqb b star (λ e. true≢false (sym (rw e at h))))
 
--- a piece with a field is no end, and the one with ETX after blanks is
+-- A piece with a field is no end, and the one with ETX after blanks is.
 pub no-end : (at : ℕ) (p : Part) → all isBlank (p .blanks) ≡ true → starts (p .bytes) ≡ true → (other : Cut)
     → orEnd at (p .blanks ++ p .bytes) other ≡ other
 no-end at p blank begins other =
@@ -93,7 +93,7 @@ pub at-end : (at : ℕ) (gap tail : List ℕ) → all isBlank gap ≡ true → (
 unfolding blanksBefore
 at-end at gap tail blank other = rw (blanks-before gap (etx ∷ tail) blank refl, drop-append-seam gap (etx ∷ tail))
 
--- one field, and the rest of the pieces
+-- One field, and the rest of the pieces.
 pub one-field : (at : ℕ) (p : Part) → RightPart p → (ended : List (List ℕ)) (rest : List ℕ)
     → fieldsFrom at ((p .blanks ++ p .bytes) ∷ ended) rest
     ≡ record {
@@ -106,7 +106,7 @@ one-field at p right ended rest =
     no-end at p (right .blank) (right .begins) _
     ∙ rw (blanks-before (p .blanks) (p .bytes) (right .blank) (s .no-blank), drop-append-seam (p .blanks) (p .bytes))
 
--- the parts before blanks and ETX
+-- The parts before blanks and ETX.
 module _ (gap tail : List ℕ) (blank : all isBlank gap ≡ true) (no-star : all notStar tail ≡ true) where
   last : List ℕ
   last = gap ++ etx ∷ tail
@@ -142,7 +142,7 @@ module _ (gap tail : List ℕ) (blank : all isBlank gap ≡ true) (no-star : all
   unfolding last cutFrom
   parts-cut at parts right = parts-last at parts right
 
--- where the parts end
+-- Where the parts end.
 pub end-of : (at : ℕ) (parts : List Part) → partsEnd at parts ≡ at + length (partsText parts)
 unfolding partsEnd partsText
 end-of at [] = omega arith

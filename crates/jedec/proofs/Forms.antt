@@ -24,7 +24,7 @@ use Rattle.jedec.specs.Form.{GoodForm}
 use Rattle.jedec.proofs.Conditions.{accepted-iff}
 use Rattle.jedec.proofs.Cutting.{star-pieces, all-append, blank-no-star, parts-cut, end-of}
 
--- hex digits are read as the tail's, and none is a `*`
+-- Hex digits are read as the tail's, and none is a `*`.
 hex-tail : (digits : List ℕ) (at acc sum : ℕ) (rest : List ℕ) → digitsRead 16 hexValue acc digits ≡ some sum
     → tailFrom at (length digits) acc (digits ++ rest) ≡ tailFrom (at + length digits) 0 sum rest
 unfolding digitsRead tailFrom
@@ -57,7 +57,7 @@ blank-tail (b ∷ blanks) at sum h =
     let both = and-iff (isBlank b) (all isBlank blanks) .0 h in
     rw (both .0) (blank-tail blanks (at + 1) sum (both .1))
 
--- four of them
+-- Four of them.
 four : (digits : List ℕ) (sum : ℕ) → sumIn digits ≡ some sum → (length digits ≡ 4) × (digitsRead 16 hexValue 0 digits ≡ some sum)
 unfolding sumIn
 four digits sum e = go (eqb (length digits) 4) refl e
@@ -73,7 +73,7 @@ tail-read digits blanks at sum h blank =
     let f = four digits sum h in
     rw (f .0) at (hex-tail digits at 0 sum blanks (f .1)) ∙ blank-tail blanks (at + 4) sum blank
 
--- where the text after ETX begins
+-- Where the text after ETX begins.
 pub head-length : (design : List ℕ) (parts : List Part) (gap : List ℕ) → length (headOf design parts gap) ≡ etxAt design parts gap + 1
 head-length design parts gap =
     omega (

@@ -27,11 +27,11 @@ use Rattle.jedec.specs.Form.{all, notStar}
 use Rattle.jedec.proofs.Numbers.{digits-length, seven-back, count-back, sum-back}
 use Rattle.jedec.proofs.Cutting.{all-append}
 
--- a byte that is no control character and no `*`
+-- A byte that is no control character and no `*`.
 abbrev pub plain : ℕ → Bool
 plain b = leb 32 b && notStar b
 
--- what holds of every byte that passes one test, and another of which the first is a special case
+-- What holds of every byte that passes one test, and another of which the first is a special case.
 pub all-weaker : (p q : ℕ → Bool) → ((b : ℕ) → p b ≡ true → q b ≡ true) → (bytes : List ℕ) → all p bytes ≡ true → all q bytes ≡ true
 unfolding all
 all-weaker p q so [] h = refl
@@ -54,7 +54,7 @@ plain-no-mark (b ∷ bytes) h =
     let both = and-iff (plain b) (all plain bytes) .0 h in
     rw (no-mark b (both .0)) (plain-no-mark bytes (both .1))
 
--- every digit passes a test
+-- Every digit passes a test.
 all-digits : (test : ℕ → Bool) (base : ℕ) → 0 < base → (digit : ℕ → ℕ) → ((y : ℕ) → y < base → test (digit y) ≡ true)
     → (places x : ℕ) → all test (digitsOf base digit places x) ≡ true
 unfolding all digitsOf
@@ -85,7 +85,7 @@ decimal-digits-plain = all-digits plain 10 (omega arith) decimalDigit decimal-pl
 pub hex-digits-plain : (places x : ℕ) → all plain (digitsOf 16 hexDigit places x) ≡ true
 hex-digits-plain = all-digits plain 16 (omega arith) hexDigit hex-plain
 
--- the states of so many fuses, from a fuse on
+-- The states of so many fuses, from a fuse on.
 unfoldable pub statesOf : (image : List ℕ) → (fuse width : ℕ) → List ℕ
 statesOf image fuse zero = []
 statesOf image fuse (suc width) = state image fuse ∷ statesOf image (fuse + 1) width
@@ -100,7 +100,7 @@ states-append image fuse (suc v) w =
     let there : fuse + suc v ≡ fuse + 1 + v = omega arith in
     rw (more, there) (ap (λ (l : List ℕ). state image fuse ∷ l) (states-append image (fuse + 1) v w))
 
--- a state's digit
+-- A state's digit.
 state-digit : (s : ℕ) → s < 2
     → (plain (decimalDigit s) ≡ true) × (isBlank (decimalDigit s) ≡ false) × ((eqb (decimalDigit s) 48 || eqb (decimalDigit s) 49) ≡ true)
 state-digit =
@@ -119,7 +119,7 @@ columns-plain image fuse (w ∷ widths) =
     all-append plain (statesText image fuse w) (columnsText image (fuse + w) widths) (states-plain image fuse w)
     (columns-plain image (fuse + w) widths)
 
--- the states are read back
+-- The states are read back.
 states-read : (image : List ℕ) (fuse width : ℕ) (rest : List ℕ) (states : List ℕ) → statesIn rest ≡ some states
     → statesIn (statesText image fuse width ++ rest) ≡ some (statesOf image fuse width ++ states)
 unfolding statesIn statesText statesOf
@@ -138,7 +138,7 @@ columns-read image fuse (w ∷ widths) =
     (columns-read image (fuse + w) widths)
     ∙ ap some (sym (states-append image fuse w (total widths)))
 
--- the digits end at the first blank
+-- The digits end at the first blank.
 run-ends : (digits rest : List ℕ) → all (λ b. not (isBlank b)) digits ≡ true → unbroken rest ≡ 0 → unbroken (digits ++ rest) ≡ length digits
 unfolding all unbroken
 run-ends [] rest h none-there = none-there
@@ -151,7 +151,7 @@ unfolding unbroken columnsText
 columns-blank image fuse [] = refl
 columns-blank image fuse (w ∷ widths) = refl
 
--- a field of plain bytes is judged by its letters
+-- A field of plain bytes is judged by its letters.
 plain-judged : (bytes : List ℕ) (j : Judged) → all plain bytes ≡ true → byLetters bytes ≡ j → judge bytes ≡ j
 unfolding judge
 plain-judged bytes j h e = rw (plain-no-mark bytes h) e
@@ -170,7 +170,7 @@ pub sum-judged : (x : ℕ) → x < 2 ^ 16 → judge (letterC ∷ fourHex x) ≡ 
 unfolding all
 sum-judged x h = plain-judged (letterC ∷ fourHex x) (sum x) (hex-digits-plain 4 x) (rw (sum-back x h))
 
--- a line
+-- A line.
 abbrev pub lineBytes : (image : List ℕ) → (fuse : ℕ) → (widths : List ℕ) → List ℕ
 lineBytes image fuse widths = letterL ∷ sevenDigits fuse ++ columnsText image fuse widths
 

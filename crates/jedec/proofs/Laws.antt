@@ -1,5 +1,5 @@
 -- What holds of texts, each law once, for every fuse count and every line pattern:
---   accepted-texts, refused-texts   texts of document 01's bench section and of points that it leaves room for
+--   accepted-texts, refused-texts   texts of document 01's bench section and of points that it leaves open
 --                                   (specs/Cases.antt) mean what stands there
 --   written-text        what is written of eight fuses, byte by byte
 --   too-long, no-start  a text of more than 1,048,576 bytes, and one that does not start with STX, are refused 7

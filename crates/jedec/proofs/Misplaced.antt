@@ -16,7 +16,7 @@ use Rattle.jedec.specs.Form.{Counted, InPlace, lastEnd, OutOfPlace, Firs
 use Rattle.jedec.proofs.Conditions.{Not, not-refused, no-place, the-count, count-none, formed, form-means}
 
 module _ (fuses : ℕ) where
-  -- one out of place is named
+  -- One out of place is named.
   named : (end : ℕ) (l : Listed) (lists : List Listed) → OutOfPlace fuses end l → misplaced fuses end (l ∷ lists) ≡ some (l .at)
   unfolding misplaced
   named end l lists (inl early) = rw (lt-ltb (l .first) end early)
@@ -24,7 +24,7 @@ module _ (fuses : ℕ) where
       compared (l .first) end (λ early. rw (lt-ltb (l .first) end early))
       (λ late. rw (le-ltb (l .first) end late, lt-ltb fuses (endOf l) past))
 
-  -- the first of several is out of place, or it is in place and the first out of place is one of the others
+  -- The first of several is out of place, or it is in place and the first out of place is one of the others.
   here : (end : ℕ) (l : Listed) (lists : List Listed) (at : ℕ) → misplaced fuses end (l ∷ lists) ≡ some at → OutOfPlace fuses end l
       → FirstMisplaced fuses end (l ∷ lists) at
   unfolding lastEnd
@@ -71,7 +71,7 @@ module _ (fuses : ℕ) where
     λ f. rw (f .its-place, ← f .its-start) (of-first end (f .before) (f .it) (f .behind) (f .before-in-place) (f .out-of-place)),
   )
 
--- an answer 9 is no refusal of another number, and comes from its rule where the rules after it are of others
+-- An answer 9 is no refusal of another number, and comes from its rule where the rules after it are of others.
 other-number : (n at : ℕ) → (n ≡ 9 → ⊥) → Not n (refused 9 at)
 other-number n at other v e = let same : n ≡ 9 = cc in other same
 

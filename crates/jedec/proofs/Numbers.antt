@@ -15,7 +15,7 @@ use Rattle.part.proofs.Tables.{each-below}
 use Rattle.jedec.specs.Characters.{andThen, decimalValue, hexValue, decimalDigit, hexDigit, digitsRead, numberIn, sumIn, digitsOf}
 use Rattle.jedec.specs.Characters.{countDigits, sevenDigits, fourHex}
 
--- digits after digits
+-- Digits after digits.
 read-append : (base : ℕ) (value : ℕ → Option ℕ) (x : ℕ) (xs ys : List ℕ)
     → digitsRead base value x (xs ++ ys) ≡ andThen (digitsRead base value x xs) (λ y. digitsRead base value y ys)
 unfolding digitsRead
@@ -46,7 +46,7 @@ module _ (base : ℕ) (positive : 0 < base) (value : ℕ → Option ℕ) (digit 
       read-append base value 0 (digitsOf base digit count (x / base)) (digit (x % base) ∷ [])
       ∙ rw (digits-back back count (x / base) higher, back (x % base) (mod-lt x positive)) (ap some (div-add-mod' x base))
 
--- digits of the two kinds
+-- Digits of the two kinds.
 decimal-digit : (y : ℕ) → y < 10 → decimalValue (decimalDigit y) ≡ some y
 decimal-digit =
     each-below (λ (y : ℕ). decimalValue (decimalDigit y) ≡ some y) 10
@@ -57,7 +57,7 @@ hex-digit =
     each-below (λ (y : ℕ). hexValue (hexDigit y) ≡ some y) 16
     (refl, (refl, (refl, (refl, (refl, (refl, (refl, (refl, (refl, (refl, (refl, (refl, (refl, (refl, (refl, (refl, tt))))))))))))))))
 
--- 1 to 7 digits
+-- 1 to 7 digits.
 pub number-back : (count x : ℕ) → 1 ≤ count → count ≤ 7 → x < 10 ^ count → numberIn (digitsOf 10 decimalDigit count x) ≡ some x
 unfolding numberIn
 number-back count x some-digits few h =
@@ -67,7 +67,7 @@ number-back count x some-digits few h =
 pub seven-back : (x : ℕ) → x < 10 ^ 7 → numberIn (sevenDigits x) ≡ some x
 seven-back x h = number-back 7 x (omega arith) (omega arith) h
 
--- a plain count has as many digits as it needs
+-- A plain count has as many digits as it needs.
 record Enough (x count : ℕ) : Type 0 where
   some-digits : 1 ≤ count
   few : count ≤ 7
@@ -88,7 +88,7 @@ enough-digits x h =
 pub count-back : (x : ℕ) → x < 10 ^ 7 → numberIn (countDigits x) ≡ some x
 count-back x h = let e = enough-digits x h in number-back (decimalDigits x) x (e .some-digits) (e .few) (e .enough)
 
--- four hex digits
+-- Four hex digits.
 pub sum-back : (x : ℕ) → x < 2 ^ 16 → sumIn (fourHex x) ≡ some x
 unfolding sumIn
 sum-back x h = rw (digits-length 16 (omega arith) hexValue hexDigit 4 x) (digits-back 16 (omega arith) hexValue hexDigit hex-digit 4 x h)

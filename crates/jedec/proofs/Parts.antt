@@ -26,7 +26,7 @@ use Rattle.jedec.proofs.Conditions.{accepted-iff}
 use Rattle.jedec.proofs.Cutting.{all-behind, no-end, at-end, one-field}
 use Rattle.jedec.proofs.Forms.{head-length, assembled-form}
 
--- pieces put together again, each with its `*`
+-- Pieces put together again, each with its `*`.
 joined : List (List ℕ) → List ℕ → List ℕ
 joined [] rest = rest
 joined (p ∷ ps) rest = p ++ star ∷ joined ps rest
@@ -35,7 +35,7 @@ abbrev NoStars : List (List ℕ) → Type 0
 NoStars [] = Unit {0}
 NoStars (p ∷ ps) = (all notStar p ≡ true) × NoStars ps
 
--- they are the text, and hold no other `*`
+-- They are the text, and hold no other `*`.
 record Whole (bytes : List ℕ) (p : Pieces) : Type 0 where
   its-bytes : joined (p .ended) (p .rest) ≡ bytes
   no-stars : NoStars (p .ended)
@@ -52,7 +52,7 @@ whole (b ∷ bytes) = go (eqb b star) refl (pieces bytes .ended) (pieces bytes .
     go false w (p ∷ ps) rest h =
         record { its-bytes = ap (λ (r : List ℕ). b ∷ r) (h .its-bytes); no-stars = (rw w (h .no-stars .0), h .no-stars .1) }
 
--- a piece is blanks and then a field, or blanks and then ETX and others
+-- A piece is blanks and then a field, or blanks and then ETX and others.
 data Piece : List ℕ → Type 0 where
   field : (p : Part) → all isBlank (p .blanks) ≡ true → starts (p .bytes) ≡ true → Piece (p .blanks ++ p .bytes)
   last : (gap tail : List ℕ) → all isBlank gap ≡ true → Piece (gap ++ etx ∷ tail)
@@ -72,7 +72,7 @@ piece (b ∷ bytes) = go (isBlank b) refl (eqb b etx) refl (piece bytes)
     go false blank true w others = rw (eqb-true b etx w) (last [] bytes refl)
     go false blank false w others = field (record { blanks = []; bytes = b ∷ bytes }) refl (rw (blank, w))
 
--- bytes are parts, then blanks, then ETX and what follows it, and the cut gives these parts' fields and this ETX
+-- Bytes are parts, then blanks, then ETX and what follows it, and the cut gives these parts' fields and this ETX.
 record Parted (at : ℕ) (bytes : List ℕ) (cut : Cut) (end : ℕ) : Type 0 where
   parts : List Part
   gap : List ℕ
@@ -83,7 +83,7 @@ record Parted (at : ℕ) (bytes : List ℕ) (cut : Cut) (end : ℕ) : Type 0 whe
   its-fields : cut .fields ≡ fieldsOf at parts
   its-end : end ≡ partsEnd at parts + length gap
 
--- the piece with ETX, whatever stands behind it
+-- The piece with ETX, whatever stands behind it.
 last-part : (at : ℕ) (gap tail : List ℕ) → all isBlank gap ≡ true → (other : Cut) (end : ℕ)
     → orEnd at (gap ++ etx ∷ tail) other .end ≡ some end
     → (bytes behind : List ℕ) → bytes ≡ gap ++ etx ∷ behind → Parted at bytes (orEnd at (gap ++ etx ∷ tail) other) end
@@ -101,7 +101,7 @@ last-part at gap tail blank other end e bytes behind is =
       its-end = cc;
     }
 
--- a piece with a field
+-- A piece with a field.
 one-part : (at : ℕ) (p : Part) → RightPart p → (ended : List (List ℕ)) (rest : List ℕ) (end : ℕ)
     → Parted (next at p) (joined ended rest) (fieldsFrom (next at p) ended rest) end
     → Parted at (joined ((p .blanks ++ p .bytes) ∷ ended) rest) (fieldsFrom at ((p .blanks ++ p .bytes) ∷ ended) rest) end
@@ -118,7 +118,7 @@ one-part at p right ended rest end q =
       its-end = q .its-end;
     }
 
--- all pieces up to the one with ETX
+-- All pieces up to the one with ETX.
 parted : (ended : List (List ℕ)) (at : ℕ) (rest : List ℕ) (end : ℕ) → NoStars ended → fieldsFrom at ended rest .end ≡ some end
     → Parted at (joined ended rest) (fieldsFrom at ended rest) end
 unfolding fieldsFrom joined
@@ -143,7 +143,7 @@ parted (p ∷ ps) at rest end no-star e = go p (piece p) (no-star .0) (parted ps
         let behind = star ∷ joined ps rest in
         last-part at gap tail blank _ end e (gap ++ etx ∷ tail ++ behind) (tail ++ behind) (append-assoc gap (etx ∷ tail) behind)
 
--- what follows ETX is so many hex digits, which give the sum, and blanks
+-- What follows ETX is so many hex digits, which give the sum, and blanks.
 only-blanks : (bytes : List ℕ) (at read sum : ℕ) → tailFrom at 0 read bytes ≡ given sum → (read ≡ sum) × (all isBlank bytes ≡ true)
 unfolding tailFrom all
 only-blanks [] at read sum e = (cc, refl)
@@ -186,7 +186,7 @@ digits-then (suc count) (b ∷ bytes) at read sum e = go (hexValue b) refl e (λ
           blank = d .blank;
         }
 
--- a text whose bytes after the design text are parted so
+-- A text whose bytes after the design text are parted so.
 module _ (text design others : List ℕ) (cut : Cut) (end : ℕ) (is : text ≡ (stx ∷ design) ++ star ∷ others)
     (p : Parted (firstAt design) others cut end) where
   by-parts : text ≡ headOf design (p .parts) (p .gap) ++ p .tail
@@ -222,7 +222,7 @@ module _ (text design others : List ℕ) (cut : Cut) (end : ℕ) (is : text ≡ 
         its-end = p .its-end;
       }
 
--- the first piece is STX and the design text
+-- The first piece is STX and the design text.
 from-pieces : (text first : List ℕ) (ended : List (List ℕ)) (rest : List ℕ) (k : Known) (end sum : ℕ) → length text ≤ longest
     → startsWith stx text ≡ true → text ≡ first ++ star ∷ joined ended rest → NoStars (first ∷ ended) → holdsMark (drop 1 first) ≡ false
     → allFields nothingKnown (fieldsFrom (length first + 1) ended rest .fields) ≡ known k

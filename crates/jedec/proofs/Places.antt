@@ -24,7 +24,7 @@ use Rattle.jedec.specs.Rules.{finished}
 use Rattle.jedec.specs.Rules.Fields.{known, badAt}
 use Rattle.jedec.specs.Meaning.{longest, unless, wrongSum, concluded, withTail, withEnd, withFields, ofCut, ofPieces, meaning}
 
--- what holds of both holds of the choice
+-- What holds of both holds of the choice.
 pub chosen : {A : Type 0} (P : A → Type 0) (t : Bool) {a b : A} → P a → P b → P (cond t a b)
 chosen P true x y = x
 chosen P false x y = y
@@ -40,7 +40,7 @@ data PlaceSmall : Option ℕ → Type 0 where
 seven : (at : ℕ) → at ≤ longest → Small (refused 7 at)
 seven at h = refusal {number = 7} (omega arith) (omega arith) h
 
--- what the fields gave
+-- What the fields gave.
 abbrev AtSmall : Option At → Type 0
 AtSmall none = Unit {0}
 AtSmall (some a) = a .at ≤ longest
@@ -82,7 +82,7 @@ fields-small (f ∷ fields) k s h =
     (fields-small fields (after k (f .start) (judge (f .bytes))) (after-small k (f .start) (judge (f .bytes)) s (h .0)) (h .1))
     (h .0)
 
--- the places of 8 to 11
+-- The places of 8 to 11.
 unless-small : {number : ℕ} {o : Option ℕ} {answer : Outcome (List ℕ)} → 7 ≤ number → number ≤ 11 → PlaceSmall o → Small answer
     → Small (unless number o answer)
 unless-small low high nowhere s = s
@@ -111,7 +111,7 @@ concluded-small fuses text end x k h s =
     (unless-small {number = 11} (omega arith) (omega arith)
     (chosen PlaceSmall (eqb x 0 || eqb x (sum16 (take (end + 1) text))) nowhere (place h)) described)))
 
--- after ETX
+-- After ETX.
 abbrev TailSmall : Tail → Type 0
 TailSmall (given x) = Unit {0}
 TailSmall (wrong at) = at ≤ longest
@@ -128,7 +128,7 @@ tail-small (b ∷ bytes) at (suc digits) x h = go (hexValue b) (λ y. tail-small
     go none others = omega arith
     go (some y) others = others y
 
--- the fields lie in the text
+-- The fields lie in the text.
 size : List (List ℕ) → ℕ
 size [] = 0
 size (p ∷ ps) = length p + 1 + size ps

@@ -34,7 +34,7 @@ use Rattle.jedec.proofs.Forms.{head-length, assembled-accepted}
 use Rattle.jedec.proofs.Judging.{plain, plain-no-star, decimal-digits-plain, hex-digits-plain, statesOf, count-judged, start-judged}
 use Rattle.jedec.proofs.Judging.{sum-judged, lineBytes, line-plain, line-judged}
 
--- the parts of the writer's text: each field stands after the LF of the line before
+-- The parts of the writer's text: each field stands after the LF of the line before.
 part : List ℕ → Part
 part bytes = record { blanks = lf ∷ []; bytes = bytes }
 
@@ -48,7 +48,7 @@ writtenParts fuses pattern image =
     ∷ part (letterF ∷ decimalDigit 0 ∷ [])
     ∷ (lineParts image 0 pattern ++ (part (letterC ∷ fourHex (sum16 image)) ∷ []))
 
--- the text is put together from them
+-- The text is put together from them.
 parts-append : (ps qs : List Part) → partsText (ps ++ qs) ≡ partsText ps ++ partsText qs
 unfolding partsText
 parts-append [] qs = refl
@@ -67,7 +67,7 @@ lines-shifted image fuse (widths ∷ pattern) rest =
     regrouped
     ∙ rw (lines-shifted image (fuse + total widths) pattern rest) (sym (append-assoc (lf ∷ line) (star ∷ parts) (lf ∷ rest)))
 
--- over any lists: the digits of the count, the lines as text and as parts, the digits of the sum
+-- Over any lists: the digits of the count, the lines as text and as parts, the digits of the sum.
 text-shifted : (d l c p : List ℕ) → lf ∷ (l ++ (letterC ∷ c ++ lineEnd ++ etx ∷ [])) ≡ p ++ (lf ∷ (letterC ∷ c ++ lineEnd ++ etx ∷ []))
     → (stx ∷ lineEnd ++ letterQ ∷ letterF ∷ d ++ lineEnd ++ letterF ∷ decimalDigit 0 ∷ lineEnd) ++ l ++ (letterC ∷ c ++ lineEnd ++ etx ∷ [])
     ≡ (stx ∷ [])
@@ -98,7 +98,7 @@ upto-assembled fuses pattern image =
     (text-shifted (countDigits fuses) (linesText image 0 pattern) (fourHex (sum16 image)) (partsText (lineParts image 0 pattern))
     (lines-shifted image 0 pattern (footText (sum16 image))))
 
--- each part is right
+-- Each part is right.
 part-right : (b : ℕ) (bytes : List ℕ) → all plain (b ∷ bytes) ≡ true → form.starts (b ∷ bytes) ≡ true → RightPart (part (b ∷ bytes))
 unfolding part all
 part-right b bytes h s = record { blank = refl; no-star = plain-no-star (b ∷ bytes) h; begins = s }
@@ -117,7 +117,7 @@ parts-right fuses pattern image = (
   (part-right _ _ refl refl, lines-right image 0 pattern _ (part-right _ _ (hex-digits-plain 4 (sum16 image)) refl, tt)),
 )
 
--- the fields are read one after the other
+-- The fields are read one after the other.
 read-one : (k : Known) (at : ℕ) (bytes : List ℕ) (fields : List Field) (j : Judged) → judge bytes ≡ j → inOrder k j ≡ true
     → allFields k (record { start = at; bytes = bytes } ∷ fields) ≡ allFields (after k at j) fields
 unfolding allFields
@@ -129,7 +129,7 @@ listsOf at image fuse (widths ∷ pattern) =
     record { at = at + 1; first = fuse; states = statesOf image fuse (total widths) }
     ∷ listsOf (next at (part (lineBytes image fuse widths))) image (fuse + total widths) pattern
 
--- what is known after the count, the start state and some lines
+-- What is known after the count, the start state and some lines.
 knownWith : At → List Listed → Known
 knownWith q lists = record { count = some q; start = some 0; lists = lists; sum = none }
 
@@ -167,7 +167,7 @@ states-at image fuse zero i h = absurd (omega arith)
 states-at image fuse (suc width) zero h = ap (state image) (omega arith)
 states-at image fuse (suc width) (suc i) h = states-at image (fuse + 1) width i (omega arith) ∙ ap (state image) (omega arith)
 
--- no line is out of place, and the lines give every fuse its state
+-- No line is out of place, and the lines give every fuse its state.
 lines-in-place : (fuses end at : ℕ) (image : List ℕ) (fuse : ℕ) (pattern : List (List ℕ)) → end ≤ fuse → fuse + patternFuses pattern ≤ fuses
     → misplaced fuses end (listsOf at image fuse pattern) ≡ none
 unfolding misplaced listsOf patternFuses
@@ -197,7 +197,7 @@ lines-give at image fuse (widths ∷ pattern) g low high =
     rw (le-leb fuse g low, states-length image fuse (total widths), le-ltb g (fuse + total widths) past)
     (lines-give _ image (fuse + total widths) pattern g past (omega arith)))
 
--- an image is what its states give
+-- An image is what its states give.
 byte-state : (image : List ℕ) (i b : ℕ) → b < 8 → state image (i * 8 + b) ≡ bitOf (getD image i 0) b
 unfolding state bitAt
 byte-state image i b l = let q : (i * 8 + b) / 8 ≡ i = omega arith in let r : (i * 8 + b) % 8 ≡ b = omega arith in rw (q, r)
@@ -219,7 +219,7 @@ image-given fuses image its states same =
         (λ less. rw (lt-ltb (i * 8 + b) fuses less) (same (i * 8 + b) less ∙ byte-state image i b l))
         (λ more. rw (le-ltb (i * 8 + b) fuses more) (sym (its .no-more (i * 8 + b) more) ∙ byte-state image i b l))
 
--- the whole
+-- The whole.
 module _ (fuses : ℕ) (pattern : List (List ℕ)) (image : List ℕ) (few : fuses < 10 ^ 7) (its : Image fuses image)
     (every-fuse : patternFuses pattern ≡ fuses) (none-empty : NoneEmpty pattern) where
   parts : List Part
@@ -246,7 +246,7 @@ module _ (fuses : ℕ) (pattern : List (List ℕ)) (image : List ℕ) (few : fus
       ap (λ (h : List ℕ). h ++ fourHex its-sum) (upto-assembled fuses pattern image)
       ∙ ap (λ (d : List ℕ). headOf [] parts (lf ∷ []) ++ d) (sym (append-nil (fourHex its-sum)))
 
-  -- what its fields give
+  -- What its fields give.
   count-part : Part
   count-part = part (letterQ ∷ letterF ∷ countDigits fuses)
 
@@ -290,7 +290,7 @@ module _ (fuses : ℕ) (pattern : List (List ℕ)) (image : List ℕ) (few : fus
       record {
         counted = record { count-field = q; has-count = refl; right-count = refl };
         in-place = lines-in-place fuses 0 lines-at image 0 pattern (omega arith) (omega (arith, every-fuse));
-        its-image =
+        as-image =
             sym
             (image-given fuses image its (stateGiven 0 lists)
             (λ f l. lines-give lines-at image 0 pattern f (omega arith) (omega (arith, every-fuse))));

@@ -28,7 +28,7 @@ use Rattle.jedec.proofs.Places.{chosen}
 use Rattle.jedec.proofs.ReadBack.{image-given}
 
 module _ (fuses : ℕ) where
-  -- the first of several L fields in their places
+  -- The first of several L fields in their places.
   pub placed : (end : ℕ) (l : Listed) (lists : List Listed) → misplaced fuses end (l ∷ lists) ≡ none
       → (end ≤ l .first) × (endOf l ≤ fuses) × (misplaced fuses (endOf l) lists ≡ none)
   unfolding misplaced
@@ -54,7 +54,7 @@ module _ (fuses : ℕ) where
   pub in-place-iff : (end : ℕ) (lists : List Listed) → (misplaced fuses end lists ≡ none) ↔ InPlace fuses end lists
   in-place-iff end lists = (all-placed end lists, none-misplaced end lists)
 
--- the states that fields give are 0 or 1
+-- The states that fields give are 0 or 1.
 abbrev Bits : List ℕ → Type 0
 Bits states = (i : ℕ) → getD states i 0 < 2
 
@@ -153,7 +153,7 @@ fields-bits (f ∷ fields) k bits =
     (fields-bits fields _ (after-bits k (f .start) (judge (f .bytes)) bits (judged-bits (f .bytes))))
     tt
 
--- the state that the fields give a fuse
+-- The state that the fields give a fuse.
 module _ (from : ℕ) where
   given-bit : (lists : List Listed) → from < 2 → Each (λ l. Bits (l .states)) lists → (fuse : ℕ) → stateGiven from lists fuse < 2
   unfolding stateGiven
@@ -182,7 +182,7 @@ module _ (from : ℕ) where
   given-outside fuse (l ∷ lists) (inl m, o) = given-before l lists fuse m ∙ given-outside fuse lists o
   given-outside fuse (l ∷ lists) (inr m, o) = given-after l lists fuse m ∙ given-outside fuse lists o
 
-  -- and an image in which each fuse has it
+  -- And an image in which each fuse has it.
   module _ (fuses : ℕ) (stateOf : ℕ → ℕ) where
     each-gives : (end : ℕ) (lists : List Listed) → InPlace fuses end lists
         → ((fuse : ℕ) → end ≤ fuse → fuse < fuses → stateOf fuse ≡ stateGiven from lists fuse) → Each (Gives stateOf) lists
@@ -208,7 +208,7 @@ module _ (from : ℕ) where
         given-inside l lists fuse g m ∙ sym (gives .0 (fuse - l .first) (omega arith)) ∙ ap stateOf own)
         (λ m. given-after l lists fuse m ∙ gives-each fuse lists (gives .1) (λ o. other (inr m, o))))
 
--- the image with given states: its length, its bytes
+-- The image with given states: its length, its bytes.
 module _ (fuses : ℕ) (states : ℕ → ℕ) where
   pub image-length : length (imageWith fuses states) ≡ (fuses + 7) / 8
   unfolding imageWith
@@ -221,7 +221,7 @@ module _ (fuses : ℕ) (states : ℕ → ℕ) where
   pub within-small : ((fuse : ℕ) → states fuse < 2) → (fuse : ℕ) → within fuses states fuse < 2
   within-small bits fuse = chosen (λ x. x < 2) (ltb fuse fuses) (bits fuse) (omega arith)
 
--- it has these states, and no more
+-- It has these states, and no more.
 module _ (fuses : ℕ) (states : ℕ → ℕ) (bits : (fuse : ℕ) → states fuse < 2) where
   no-byte : (i : ℕ) → (fuses + 7) / 8 ≤ i → getD (imageWith fuses states) i 0 ≡ 0
   no-byte i g = List·getD-eq-default (imageWith fuses states) 0 (rw (image-length fuses states) g)

@@ -12,7 +12,7 @@ use Rattle.jedec.specs.Meaning.{meaning}
 use Rattle.jedec.specs.WrittenText.{textWith}
 use Rattle.jedec.specs.Quoted.{chars}
 
--- a text, and what it means
+-- A text, and what it means.
 pub record Case : Type 0 where
   pub text : List ℕ
   pub answer : Outcome (List ℕ)
@@ -23,11 +23,11 @@ is text answer = record { text = text; answer = answer }
 abbrev pub AllHold : List Case → Type 0
 AllHold cases = map (λ (c : Case). meaning 18144 (c .text)) cases ≡ map (λ (c : Case). c .answer) cases
 
--- design text and fields between STX and ETX, and what stands after ETX
+-- Design text and fields between STX and ETX, and what stands after ETX.
 abbrev pub file : String → String → List ℕ
 file fields after = stx ∷ chars fields ++ etx ∷ chars after
 
--- every fuse at 1, at 0; fuse 0 alone at 1, at 0; the last fuse alone at 1
+-- Every fuse at 1, at 0; fuse 0 alone at 1, at 0; the last fuse alone at 1.
 abbrev pub allOnes : List ℕ
 allOnes = replicate 2268 255
 
@@ -45,170 +45,170 @@ onlyLast = replicate 2267 0 ++ 128 ∷ []
 
 abbrev pub acceptedTexts : List Case
 acceptedTexts =
-    -- the text of the bench section
+    -- The text of the bench section.
     is (file "*QF18144*F1*CD324*" "03DD") (accepted allOnes)
-    -- 0000 for the transmission sum is not compared
+    -- 0000 for the transmission sum is not compared.
     ∷ is (file "*QF18144*F1*CD324*" "0000") (accepted allOnes)
-    -- hex digits in lower case
+    -- Hex digits in lower case.
     ∷ is (file "*QF18144*F1*Cd324*" "03fd") (accepted allOnes)
-    -- F after C: the sum is that of the finished image
+    -- F after C: the sum is that of the finished image.
     ∷ is (file "*QF18144*CD324*F1*" "0000") (accepted allOnes)
-    -- skipped fields, anywhere and again
+    -- Skipped fields, anywhere and again.
     ∷ is (file "*N*QF18144*J1*QPa*QV*F1*X*CD324*N *" "0000") (accepted allOnes)
-    -- an L with blanks of every kind
+    -- An L with blanks of every kind.
     ∷ is (stx ∷ chars "*QF18144*L0 " ++ 9 ∷ 13 ∷ 10 ∷ chars "1 * " ++ etx ∷ chars "0000 " ++ 10 ∷ [])
     (accepted onlyFirst)
-    -- L fields that touch, and a gap
+    -- L fields that touch, and a gap.
     ∷ is (file "*QF18144*L0 1*L1 0*L5 0*" "0000") (accepted onlyFirst)
-    -- F0
+    -- F0.
     ∷ is (file "*QF18144*F0*" "0000") (accepted allZeros)
-    -- no F is as F0
+    -- No F is as F0.
     ∷ is (file "*QF18144*" "0000") (accepted allZeros)
-    -- an L over F1
+    -- An L over F1.
     ∷ is (file "*QF18144*F1*L0 0*" "0000") (accepted allButFirst)
-    -- an L of the last fuse
+    -- An L of the last fuse.
     ∷ is (file "*QF18144*L18143 1*" "0000") (accepted onlyLast)
     ∷ []
 
 abbrev pub refusedTexts : List Case
 refusedTexts =
-    -- another transmission sum
+    -- Another transmission sum.
     is (file "*QF18144*F1*CD324*" "03DC") (refused 11 19)
-    -- another fuse sum
+    -- Another fuse sum.
     ∷ is (file "*QF18144*F1*CD325*" "0000") (refused 10 13)
-    -- C before any state is given, compared with the finished image
+    -- C before any state is given, compared with the finished image.
     ∷ is (file "*QF18144*C0000*F1*" "0000") (refused 10 10)
-    -- nothing
+    -- Nothing.
     ∷ is ([]) (refused 7 0)
-    -- a blank before STX
+    -- A blank before STX.
     ∷ is (chars " " ++ stx ∷ chars "*QF18144*" ++ etx ∷ chars "0000") (refused 7 0)
-    -- a design text without its star
+    -- A design text without its star.
     ∷ is (file "" "0000") (refused 7 6)
-    -- ETX in the design text
+    -- ETX in the design text.
     ∷ is (stx ∷ etx ∷ chars "*" ++ etx ∷ chars "0000") (refused 7 1)
-    -- the design text is no field
+    -- The design text is no field.
     ∷ is (file "QF18144*" "0000") (refused 8 9)
-    -- no field
+    -- No field.
     ∷ is (file "*" "0000") (refused 8 2)
-    -- a field without its star
+    -- A field without its star.
     ∷ is (file "*QF18144*F1" "0000") (refused 7 17)
-    -- a text that ends early
+    -- A text that ends early.
     ∷ is (stx ∷ chars "*QF18144*ZZ") (refused 7 12)
-    -- ETX inside a field
+    -- ETX inside a field.
     ∷ is (stx ∷ chars "*QF18144*Nx" ++ etx ∷ chars "0000*" ++ etx ∷ chars "0000") (refused 7 10)
-    -- STX where a field could start
+    -- STX where a field could start.
     ∷ is (stx ∷ chars "*QF18144*" ++ stx ∷ chars "*" ++ etx ∷ chars "0000") (refused 7 10)
-    -- an empty field
+    -- An empty field.
     ∷ is (file "*QF18144* *" "0000") (refused 7 11)
-    -- an F before any QF, and the text ends early
+    -- An F before any QF, and the text ends early.
     ∷ is (stx ∷ chars "*F0*QF1") (refused 7 2)
-    -- an F before the QF
+    -- An F before the QF.
     ∷ is (file "*F0*QF18144*" "0000") (refused 7 2)
-    -- an F, an L or a C, and no QF
+    -- An F, an L or a C, and no QF.
     ∷ is (file "*F0*" "0000") (refused 7 2)
     ∷ is (file "*L0 1*" "0000") (refused 7 2)
     ∷ is (file "*C0000*" "0000") (refused 7 2)
-    -- a second QF
+    -- A second QF.
     ∷ is (file "*QF18144*QF18144*" "0000") (refused 7 10)
-    -- QF with eight digits
+    -- QF with eight digits.
     ∷ is (file "*QF00018144*" "0000") (refused 7 2)
-    -- a blank before the star of QF
+    -- A blank before the star of QF.
     ∷ is (file "*QF18144 *" "0000") (refused 7 2)
-    -- a blank before the star of F
+    -- A blank before the star of F.
     ∷ is (file "*QF18144*F1 *" "0000") (refused 7 10)
-    -- a blank before the star of C
+    -- A blank before the star of C.
     ∷ is (file "*QF18144*CD324 *" "0000") (refused 7 10)
-    -- another count
+    -- Another count.
     ∷ is (file "*QF0018145*" "0000") (refused 8 2)
-    -- a count of 0
+    -- A count of 0.
     ∷ is (file "*QF0*" "0000") (refused 8 2)
-    -- an L without a number
+    -- An L without a number.
     ∷ is (file "*QF18144*L 0 1*" "0000") (refused 7 10)
-    -- an L without states
+    -- An L without states.
     ∷ is (file "*QF18144*L18145 *" "0000") (refused 7 10)
-    -- an L after C
+    -- An L after C.
     ∷ is (file "*QF18144*C0000*L0 1*" "0000") (refused 7 16)
-    -- an F after L
+    -- An F after L.
     ∷ is (file "*QF18144*L0 1*F0*" "0000") (refused 7 15)
-    -- a second C
+    -- A second C.
     ∷ is (file "*QF18144*C0000*C0000*" "0000") (refused 7 16)
-    -- an L over the one before it
+    -- An L over the one before it.
     ∷ is (file "*QF18144*L5 11*L6 1*" "0000") (refused 9 16)
-    -- an L wholly below the one before it
+    -- An L wholly below the one before it.
     ∷ is (file "*QF18144*L5 11*L0 1*" "0000") (refused 9 16)
-    -- an L past the count
+    -- An L past the count.
     ∷ is (file "*QF18144*L18143 11*" "0000") (refused 9 10)
-    -- letters that no field has
+    -- Letters that no field has.
     ∷ is (file "*QF18144*V1*" "0000") (refused 7 10)
-    -- a Q alone
+    -- A Q alone.
     ∷ is (file "*QF18144*Q*" "0000") (refused 7 10)
-    -- a Q with another letter
+    -- A Q with another letter.
     ∷ is (file "*QF18144*QX*" "0000") (refused 7 10)
-    -- a letter in lower case
+    -- A letter in lower case.
     ∷ is (file "*QF18144*f1*" "0000") (refused 7 10)
-    -- two digits after ETX and a blank
+    -- Two digits after ETX and a blank.
     ∷ is (stx ∷ chars "*QF18144*" ++ etx ∷ chars "00" ++ 10 ∷ []) (refused 7 13)
-    -- two digits after ETX
+    -- Two digits after ETX.
     ∷ is (file "*QF18144*" "00") (refused 7 13)
-    -- a fifth digit after ETX
+    -- A fifth digit after ETX.
     ∷ is (file "*QF18144*" "00000") (refused 7 15)
-    -- the form comes before the count
+    -- The form comes before the count.
     ∷ is (file "*QF1*" "0000x") (refused 7 11)
-    -- a second F
+    -- A second F.
     ∷ is (file "*QF18144*F0*F0*" "0000") (refused 7 13)
-    -- an L before the QF
+    -- An L before the QF.
     ∷ is (file "*L0 1*QF18144*" "0000") (refused 7 2)
-    -- a C before the QF
+    -- A C before the QF.
     ∷ is (file "*C0000*QF18144*" "0000") (refused 7 2)
-    -- QF without digits
+    -- QF without digits.
     ∷ is (file "*QF*" "0000") (refused 7 2)
-    -- the character before 0 for a digit
+    -- The character before 0 for a digit.
     ∷ is (file "*QF1814/*" "0000") (refused 7 2)
-    -- the character after 9 for a digit
+    -- The character after 9 for a digit.
     ∷ is (file "*QF1814:*" "0000") (refused 7 2)
-    -- F2
+    -- F2.
     ∷ is (file "*QF18144*F2*" "0000") (refused 7 10)
-    -- F01
+    -- F01.
     ∷ is (file "*QF18144*F01*" "0000") (refused 7 10)
-    -- F without a digit
+    -- F without a digit.
     ∷ is (file "*QF18144*F*" "0000") (refused 7 10)
-    -- C with three digits
+    -- C with three digits.
     ∷ is (file "*QF18144*C000*" "0000") (refused 7 10)
-    -- C with five digits
+    -- C with five digits.
     ∷ is (file "*QF18144*C00000*" "0000") (refused 7 10)
-    -- C with a G
+    -- C with a G.
     ∷ is (file "*QF18144*C000G*" "0000") (refused 7 10)
-    -- an L without a blank
+    -- An L without a blank.
     ∷ is (file "*QF18144*L01*" "0000") (refused 7 10)
-    -- an L with a 2
+    -- An L with a 2.
     ∷ is (file "*QF18144*L0 012*" "0000") (refused 7 10)
-    -- an L of eight digits
+    -- An L of eight digits.
     ∷ is (file "*QF18144*L00000000 1*" "0000") (refused 7 10)
-    -- STX in the design text
+    -- STX in the design text.
     ∷ is (stx ∷ chars "a" ++ stx ∷ chars "*QF18144*" ++ etx ∷ chars "0000") (refused 7 1)
-    -- STX inside a field
+    -- STX inside a field.
     ∷ is (stx ∷ chars "*QF18144*N" ++ stx ∷ chars "*" ++ etx ∷ chars "0000") (refused 7 10)
-    -- the character after f for a hex digit
+    -- The character after f for a hex digit.
     ∷ is (file "*QF18144*" "000g") (refused 7 14)
-    -- the character before A for a hex digit
+    -- The character before A for a hex digit.
     ∷ is (file "*QF18144*" "000@") (refused 7 14)
-    -- the character after F for a hex digit
+    -- The character after F for a hex digit.
     ∷ is (file "*QF18144*" "000G") (refused 7 14)
-    -- the character before a for a hex digit
+    -- The character before a for a hex digit.
     ∷ is (file "*QF18144*" "000`") (refused 7 14)
-    -- a vertical tab is no blank
+    -- A vertical tab is no blank.
     ∷ is (stx ∷ chars "*QF18144*" ++ etx ∷ chars "0000" ++ 11 ∷ []) (refused 7 15)
-    -- the lowest of 8, 9, 10 and 11
+    -- The lowest of 8, 9, 10 and 11.
     ∷ is (file "*QF18145*L5 11*L0 1*C0000*" "0001") (refused 8 2)
-    -- the lowest of 9, 10 and 11; the first of two L fields
+    -- The lowest of 9, 10 and 11; the first of two L fields.
     ∷ is (file "*QF18144*L5 11*L0 1*L0 1*C0000*" "0001") (refused 9 16)
-    -- the lowest of 10 and 11
+    -- The lowest of 10 and 11.
     ∷ is (file "*QF18144*F1*CD325*" "0001") (refused 10 13)
-    -- the lowest of 8 and 11: no QF
+    -- The lowest of 8 and 11: no QF.
     ∷ is (file "*" "0001") (refused 8 2)
     ∷ []
 
--- what is written of eight fuses, 1 0 1 0 0 1 0 1, in one line of two columns
+-- What is written of eight fuses, 1 0 1 0 0 1 0 1, in one line of two columns.
 abbrev pub WrittenText : Type 0
 WrittenText =
     textWith 8 ((4 ∷ 4 ∷ []) ∷ []) (165 ∷ [])

@@ -9,7 +9,7 @@ use lib.Dec.{eqb, leb}
 use lib.ListN.{length}
 use Rattle.part.specs.Device.{decimalDigits}
 
--- STX (2), ETX (3), LF, space, `*`
+-- STX (2), ETX (3), LF, space, `*`.
 abbrev pub stx : ℕ
 stx = 2
 
@@ -25,7 +25,7 @@ space = 32
 abbrev pub star : ℕ
 star = 42
 
--- the letters that fields start with
+-- The letters that fields start with.
 abbrev pub letterC : ℕ
 letterC = 67
 
@@ -53,15 +53,15 @@ letterV = 86
 abbrev pub letterX : ℕ
 letterX = 88
 
--- blanks: space, tab, CR, LF
+-- Blanks: space, tab, CR, LF.
 abbrev pub isBlank : ℕ → Bool
 isBlank b = eqb b space || eqb b 9 || eqb b 13 || eqb b lf
 
--- whether a byte is STX or ETX, which neither the design text nor a field holds
+-- Whether a byte is STX or ETX, which neither the design text nor a field holds.
 abbrev pub isMark : ℕ → Bool
 isMark b = eqb b stx || eqb b etx
 
--- what a decimal digit and a hex digit stand for, if the byte is one
+-- What a decimal digit and a hex digit stand for, if the byte is one.
 abbrev pub between : (low high base : ℕ) → ℕ → Option ℕ → Option ℕ
 between low high base b other = cond (leb low b && leb b high) (some (b - low + base)) other
 
@@ -71,36 +71,36 @@ decimalValue b = between 48 57 0 b none
 abbrev pub hexValue : ℕ → Option ℕ
 hexValue b = between 48 57 0 b (between 65 70 10 b (between 97 102 10 b none))
 
--- the digit of a number below ten, and of one below sixteen
+-- The digit of a number below ten, and of one below sixteen.
 abbrev pub decimalDigit : ℕ → ℕ
 decimalDigit x = 48 + x
 
 abbrev pub hexDigit : ℕ → ℕ
 hexDigit x = cond (leb x 9) (48 + x) (55 + x)
 
--- what follows where something was found
+-- What follows where something was found.
 abbrev pub andThen : {A B : Type 0} → Option A → (A → Option B) → Option B
 andThen none f = none
 andThen (some x) f = f x
 
--- the number that digits write, after a number that the digits before them wrote
+-- The number that digits write, after a number that the digits before them wrote.
 unfoldable pub digitsRead : (base : ℕ) → (ℕ → Option ℕ) → ℕ → List ℕ → Option ℕ
 digitsRead base digit x [] = some x
 digitsRead base digit x (b ∷ bytes) = andThen (digit b) (λ y. digitsRead base digit (x * base + y) bytes)
 
--- 1 to 7 decimal digits, and four hex digits, with nothing else
+-- 1 to 7 decimal digits, and four hex digits, with nothing else.
 unfoldable pub numberIn : List ℕ → Option ℕ
 numberIn bytes = cond (leb 1 (length bytes) && leb (length bytes) 7) (digitsRead 10 decimalValue 0 bytes) none
 
 unfoldable pub sumIn : List ℕ → Option ℕ
 sumIn bytes = cond (eqb (length bytes) 4) (digitsRead 16 hexValue 0 bytes) none
 
--- a number written in so many digits
+-- A number written in so many digits.
 unfoldable pub digitsOf : (base : ℕ) → (ℕ → ℕ) → (count : ℕ) → ℕ → List ℕ
 digitsOf base digit zero x = []
 digitsOf base digit (suc count) x = digitsOf base digit count (x / base) ++ (digit (x % base) ∷ [])
 
--- the plain count, seven digits, four upper-case hex digits
+-- The plain count, seven digits, four upper-case hex digits.
 abbrev pub countDigits : ℕ → List ℕ
 countDigits x = digitsOf 10 decimalDigit (decimalDigits x) x
 

@@ -9,12 +9,12 @@ use lib.Dec.{eqb}
 use lib.ListN.{length, drop}
 use Rattle.jedec.specs.Characters.{etx, star, isBlank, isMark, hexValue}
 
--- a text cut at each `*`: the pieces that end with one, and what stands after the last
+-- A text cut at each `*`: the pieces that end with one, and what stands after the last.
 pub record Pieces : Type 0 where
   pub ended : List (List ℕ)
   pub rest : List ℕ
 
--- a byte put before the first piece
+-- A byte put before the first piece.
 abbrev pub onFirst : ℕ → List (List ℕ) → List ℕ → Pieces
 onFirst b [] rest = record { ended = []; rest = b ∷ rest }
 onFirst b (p ∷ ps) rest = record { ended = (b ∷ p) ∷ ps; rest = rest }
@@ -26,17 +26,17 @@ pieces (b ∷ bytes) =
     cond (eqb b star) (record { ended = [] ∷ after .ended; rest = after .rest })
     (onFirst b (after .ended) (after .rest))
 
--- how many blanks stand before the first other byte
+-- How many blanks stand before the first other byte.
 unfoldable pub blanksBefore : List ℕ → ℕ
 blanksBefore [] = 0
 blanksBefore (b ∷ bytes) = cond (isBlank b) (suc (blanksBefore bytes)) 0
 
--- a field starts at its first non-blank byte
+-- A field starts at its first non-blank byte.
 pub record Field : Type 0 where
   pub start : ℕ
   pub bytes : List ℕ
 
--- the fields, and where the ETX after the last of them stands; none if the text ends before it
+-- The fields, and where the ETX after the last of them stands; none if the text ends before it.
 pub record Cut : Type 0 where
   pub fields : List Field
   pub end : Option ℕ
@@ -45,7 +45,7 @@ abbrev pub startsWith : ℕ → List ℕ → Bool
 startsWith b [] = false
 startsWith b (c ∷ bytes) = eqb c b
 
--- the piece at an offset of the text: the ETX after the fields, or else
+-- The piece at an offset of the text: the ETX after the fields, or else.
 abbrev pub orEnd : ℕ → List ℕ → Cut → Cut
 orEnd at piece other =
     cond (startsWith etx (drop (blanksBefore piece) piece))
@@ -58,18 +58,18 @@ withField at piece others =
       end = others .end;
     }
 
--- the fields among the pieces, of which the first stands at an offset of the text
+-- The fields among the pieces, of which the first stands at an offset of the text.
 unfoldable pub fieldsFrom : ℕ → (ended : List (List ℕ)) → (rest : List ℕ) → Cut
 fieldsFrom at [] rest = orEnd at rest (record { fields = []; end = none })
 fieldsFrom at (p ∷ ps) rest = orEnd at p (withField at p (fieldsFrom (at + length p + 1) ps rest))
 
--- whether some bytes hold STX or ETX
+-- Whether some bytes hold STX or ETX.
 unfoldable pub holdsMark : List ℕ → Bool
 holdsMark [] = false
 holdsMark (b ∷ bytes) = isMark b || holdsMark bytes
 
--- after ETX: four hex digits and then only blanks give a sum; else the first wrong byte, or
--- the end of a text that ends early
+-- After ETX: four hex digits and then only blanks give a sum; else the first wrong byte, or
+-- the end of a text that ends early.
 pub data Tail : Type 0 where
   given : (sum : ℕ) → Tail
   wrong : (at : ℕ) → Tail

@@ -16,7 +16,7 @@ use Rattle.jedec.specs.Rules.{At, Listed, Known, nothingKnown, allFields
 use Rattle.jedec.specs.Rules.Fields.{known}
 use Rattle.jedec.specs.Meaning.{longest}
 
--- every byte passes a test
+-- Every byte passes a test.
 unfoldable pub all : (ℕ → Bool) → List ℕ → Bool
 all test [] = true
 all test (b ∷ bytes) = test b && all test bytes
@@ -24,12 +24,12 @@ all test (b ∷ bytes) = test b && all test bytes
 abbrev pub notStar : ℕ → Bool
 notStar b = not (eqb b star)
 
--- blanks, and a field after them
+-- Blanks, and a field after them.
 pub record Part : Type 0 where
   pub blanks : List ℕ
   pub bytes : List ℕ
 
--- a field starts with neither a blank nor ETX
+-- A field starts with neither a blank nor ETX.
 abbrev pub starts : List ℕ → Bool
 starts [] = true
 starts (b ∷ bytes) = not (isBlank b) && not (eqb b etx)
@@ -43,7 +43,7 @@ abbrev pub RightParts : List Part → Type 0
 RightParts [] = Unit {0}
 RightParts (p ∷ parts) = RightPart p × RightParts parts
 
--- the parts one after the other, each up to its `*`; their fields with their offsets; the offset after the last
+-- The parts one after the other, each up to its `*`; their fields with their offsets; the offset after the last.
 unfoldable pub partsText : List Part → List ℕ
 partsText [] = []
 partsText (p ∷ parts) = p .blanks ++ p .bytes ++ star ∷ partsText parts
@@ -59,14 +59,14 @@ unfoldable pub partsEnd : ℕ → List Part → ℕ
 partsEnd at [] = at
 partsEnd at (p ∷ parts) = partsEnd (next at p) parts
 
--- from STX to ETX: STX, design text, `*`, fields, blanks, ETX; then four hex digits and blanks
+-- From STX to ETX: STX, design text, `*`, fields, blanks, ETX; then four hex digits and blanks.
 abbrev pub headOf : (design : List ℕ) → List Part → (gap : List ℕ) → List ℕ
 headOf design parts gap = (stx ∷ design) ++ (star ∷ (partsText parts ++ gap)) ++ (etx ∷ [])
 
 abbrev pub assembled : (design : List ℕ) → List Part → (gap digits blanks : List ℕ) → List ℕ
 assembled design parts gap digits blanks = headOf design parts gap ++ (digits ++ blanks)
 
--- what each of these may hold
+-- What each of these may hold.
 pub record RightForm (design : List ℕ) (parts : List Part) (gap digits blanks : List ℕ) (sum : ℕ) : Type 0 where
   pub design-no-star : all notStar design ≡ true
   pub design-no-mark : holdsMark design ≡ false
@@ -75,31 +75,31 @@ pub record RightForm (design : List ℕ) (parts : List Part) (gap digits blanks 
   pub hex-digits : sumIn digits ≡ some sum
   pub blank-end : all isBlank blanks ≡ true
 
--- where its fields start, and where its ETX stands
+-- Where its fields start, and where its ETX stands.
 abbrev pub firstAt : (design : List ℕ) → ℕ
 firstAt design = length (stx ∷ design) + 1
 
 abbrev pub etxAt : (design : List ℕ) → List Part → (gap : List ℕ) → ℕ
 etxAt design parts gap = partsEnd (firstAt design) parts + length gap
 
--- QF gives the count
+-- QF gives the count.
 pub record Counted (fuses : ℕ) (k : Known) : Type 0 where
   pub count-field : At
   pub has-count : k .count ≡ some count-field
   pub right-count : count-field .value ≡ fuses
 
--- what a text of good form needs to be accepted with an image: QF gives the count, no L is out of place, C gives the
+-- What a text of good form needs to be accepted with an image: QF gives the count, no L is out of place, C gives the
 -- fuse sum of the image, and the transmission sum is 0000 or the sum of the bytes from STX to ETX; `in-place` and
--- `its-image` in plain terms are `InPlace` and `Described` below
+-- `as-image` in plain terms are `InPlace` and `Described` below.
 pub record Concluded (fuses : ℕ) (text image : List ℕ) (end sum : ℕ) (k : Known) : Type 0 where
   pub counted : Counted fuses k
   pub in-place : misplaced fuses 0 (k .lists) ≡ none
-  pub its-image : image ≡ finished fuses k
+  pub as-image : image ≡ finished fuses k
   pub right-sum : (c : At) → k .sum ≡ some c → c .value ≡ sum16 image
   pub right-transmission : (sum ≡ 0) ⊎ (sum ≡ sum16 (take (end + 1) text))
 
--- a text of good form, with what its fields give, where its ETX stands, and its transmission sum: it is not too long;
--- STX, a design text without STX and ETX, good fields in order, ETX, four hex digits and blanks
+-- A text of good form, with what its fields give, where its ETX stands, and its transmission sum: it is not too long;
+-- STX, a design text without STX and ETX, good fields in order, ETX, four hex digits and blanks.
 pub record GoodForm (text : List ℕ) (gives : Known) (end sum : ℕ) : Type 0 where
   pub not-long : length text ≤ longest
   pub begins : startsWith stx text ≡ true
@@ -112,7 +112,7 @@ pub record GoodForm (text : List ℕ) (gives : Known) (end sum : ℕ) : Type 0 w
   pub has-end : fieldsFrom (length design + 1) ended (pieces text .rest) .end ≡ some end
   pub good-tail : tailFrom (end + 1) 4 0 (drop (end + 1) text) ≡ given sum
 
--- a text that is accepted, and its image: it is of good form, and its counts and sums are right
+-- A text that is accepted, and its image: it is of good form, and its counts and sums are right.
 pub record Accepted (fuses : ℕ) (text image : List ℕ) : Type 0 where
   pub gives : Known
   pub end : ℕ
@@ -120,8 +120,8 @@ pub record Accepted (fuses : ℕ) (text image : List ℕ) : Type 0 where
   pub form : GoodForm text gives end sum
   pub concluded : Concluded fuses text image end sum gives
 
--- a text put together from its parts, with what its fields give, where its ETX stands, and its transmission sum: it is
--- not too long, its parts hold what they may, and its fields are good and in order
+-- A text put together from its parts, with what its fields give, where its ETX stands, and its transmission sum: it is
+-- not too long, its parts hold what they may, and its fields are good and in order.
 pub record Assembled (text : List ℕ) (gives : Known) (end sum : ℕ) : Type 0 where
   pub not-long : length text ≤ longest
   pub design : List ℕ
@@ -134,29 +134,29 @@ pub record Assembled (text : List ℕ) (gives : Known) (end sum : ℕ) : Type 0 
   pub good-fields : allFields nothingKnown (fieldsOf (firstAt design) parts) ≡ known gives
   pub its-end : end ≡ etxAt design parts gap
 
--- an image of so many fuses: its bytes, and nothing past the last fuse
+-- An image of so many fuses: its bytes, and nothing past the last fuse.
 pub record Image (fuses : ℕ) (image : List ℕ) : Type 0 where
   pub size : length image ≡ (fuses + 7) / 8
   pub bytes : (i : ℕ) → getD image i 0 < 2 ^ 8
   pub no-more : (fuse : ℕ) → fuses ≤ fuse → state image fuse ≡ 0
 
--- each L starts at or after the end of the L before it, the first at or after `end`, and ends at or before the count
+-- Each L starts at or after the end of the L before it, the first at or after `end`, and ends at or before the count.
 abbrev pub InPlace : (fuses end : ℕ) → List Listed → Type 0
 InPlace fuses end [] = Unit {0}
 InPlace fuses end (l ∷ lists) =
     (end ≤ l .first) × (l .first + length (l .states) ≤ fuses) × InPlace fuses (l .first + length (l .states)) lists
 
--- where the last L ends; `end` if there is none
+-- Where the last L ends; `end` if there is none.
 unfoldable pub lastEnd : (end : ℕ) → List Listed → ℕ
 lastEnd end [] = end
 lastEnd end (l ∷ lists) = lastEnd (l .first + length (l .states)) lists
 
--- an L starts before an end, or ends past the count
+-- An L starts before an end, or ends past the count.
 abbrev pub OutOfPlace : (fuses end : ℕ) → Listed → Type 0
 OutOfPlace fuses end l = (l .first < end) ⊎ (fuses < l .first + length (l .states))
 
--- the first L that is out of place, and where its field starts: every L before it is in place, and it starts before the
--- end of the L before it (if there is none before it, before `end`) or ends past the count
+-- The first L that is out of place, and where its field starts: every L before it is in place, and it starts before the
+-- end of the L before it (if there is none before it, before `end`) or ends past the count.
 pub record FirstMisplaced (fuses end : ℕ) (lists : List Listed) (at : ℕ) : Type 0 where
   pub before : List Listed
   pub it : Listed
@@ -166,8 +166,8 @@ pub record FirstMisplaced (fuses end : ℕ) (lists : List Listed) (at : ℕ) : T
   pub out-of-place : OutOfPlace fuses (lastEnd end before) it
   pub its-start : it .at ≡ at
 
--- a text that is refused 9, and the refusal's value: it is of good form, QF gives the count, and the first L
--- that is out of place starts there
+-- A text that is refused 9, and the refusal's value: it is of good form, QF gives the count, and the first L
+-- that is out of place starts there.
 pub record Refused9 (fuses : ℕ) (text : List ℕ) (at : ℕ) : Type 0 where
   pub gives : Known
   pub end : ℕ
@@ -176,20 +176,20 @@ pub record Refused9 (fuses : ℕ) (text : List ℕ) (at : ℕ) : Type 0 where
   pub counted : Counted fuses gives
   pub first-misplaced : FirstMisplaced fuses 0 (gives .lists) at
 
--- something holds of each L
+-- Something holds of each L.
 abbrev pub Each : (Listed → Type 0) → List Listed → Type 0
 Each P [] = Unit {0}
 Each P (l ∷ lists) = P l × Each P lists
 
--- a fuse is before the first or after the last of an L
+-- A fuse is before the first or after the last of an L.
 abbrev pub Outside : (fuse : ℕ) → Listed → Type 0
 Outside fuse l = (fuse < l .first) ⊎ (l .first + length (l .states) ≤ fuse)
 
--- the fuses from the first of an L on have its states, one after the other
+-- The fuses from the first of an L on have its states, one after the other.
 abbrev pub Gives : (stateOf : ℕ → ℕ) → Listed → Type 0
 Gives stateOf l = (i : ℕ) → i < length (l .states) → stateOf (l .first + i) ≡ getD (l .states) i 0
 
--- the image that fields describe: each L gives its fuses their states, and every other fuse has the start state
+-- The image that fields describe: each L gives its fuses their states, and every other fuse has the start state.
 pub record Described (fuses : ℕ) (k : Known) (image : List ℕ) : Type 0 where
   pub its : Image fuses image
   pub listed : Each (Gives (state image)) (k .lists)

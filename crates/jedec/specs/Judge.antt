@@ -12,41 +12,41 @@ use Rattle.jedec.specs.Characters.{letterX, isBlank, andThen, numberIn, 
 use Rattle.jedec.specs.Cut.{holdsMark}
 
 pub data Judged : Type 0 where
-  -- QF: the fuse count
+  -- QF: the fuse count.
   count : ℕ → Judged
-  -- F: the start state of all fuses
+  -- F: the start state of all fuses.
   start : ℕ → Judged
-  -- L: the first fuse, and the states from there on
+  -- L: the first fuse, and the states from there on.
   list : (first : ℕ) → (states : List ℕ) → Judged
-  -- C: the fuse sum
+  -- C: the fuse sum.
   sum : ℕ → Judged
-  -- N, J, X, QP, QV
+  -- N, J, X, QP, QV.
   skipped : Judged
-  -- any other
+  -- Any other.
   bad : Judged
 
--- a field of the number found, bad where none was
+-- A field of the number found, bad where none was.
 abbrev pub orBad : Option ℕ → (ℕ → Judged) → Judged
 orBad none f = bad
 orBad (some x) f = f x
 
--- "`F0` or `F1`": what follows the F
+-- "`F0` or `F1`": what follows the F.
 abbrev pub startIn : List ℕ → Judged
 startIn [] = bad
 startIn (b ∷ []) = cond (eqb b 48) (start 0) (cond (eqb b 49) (start 1) bad)
 startIn (b ∷ c ∷ bytes) = bad
 
 -- "`L`, 1 to 7 digits, a blank, then at least one 0 or 1 with blanks allowed": what follows the L, up to
--- the first blank and from there on
+-- the first blank and from there on.
 unfoldable pub unbroken : List ℕ → ℕ
 unbroken [] = 0
 unbroken (b ∷ bytes) = cond (isBlank b) 0 (suc (unbroken bytes))
 
--- a state before others
+-- A state before others.
 abbrev pub withFirst : ℕ → List ℕ → Option (List ℕ)
 withFirst state states = some (state ∷ states)
 
--- the states that 0 and 1 write, blanks left out; none if there is any other byte
+-- The states that 0 and 1 write, blanks left out; none if there is any other byte.
 unfoldable pub statesIn : List ℕ → Option (List ℕ)
 statesIn [] = some []
 statesIn (b ∷ bytes) =
@@ -64,7 +64,7 @@ statesFrom (some states) first = listFrom first states
 unfoldable pub listIn : List ℕ → Judged
 listIn bytes = orBad (numberIn (take (unbroken bytes) bytes)) (statesFrom (statesIn (drop (unbroken bytes) bytes)))
 
--- "`QF` and 1 to 7 digits"; QP and QV are skipped: what follows the Q
+-- "`QF` and 1 to 7 digits"; QP and QV are skipped: what follows the Q.
 abbrev pub afterQ : List ℕ → Judged
 afterQ [] = bad
 afterQ (b ∷ bytes) =

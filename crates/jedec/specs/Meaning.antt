@@ -16,25 +16,25 @@ use Rattle.jedec.specs.Cut.Tail.{given, wrong}
 use Rattle.jedec.specs.Rules.{At, Known, nothingKnown, Fields, allFields, wrongCount, misplaced, finished}
 use Rattle.jedec.specs.Rules.Fields.{known, badAt}
 
--- "text over 1,048,576 bytes"
+-- "text over 1,048,576 bytes".
 abbrev pub longest : ℕ
 longest = 1048576
 
--- a refusal where there is a place for it
+-- A refusal where there is a place for it.
 abbrev pub unless : (number : ℕ) → Option ℕ → Outcome (List ℕ) → Outcome (List ℕ)
 unless number none answer = answer
 unless number (some at) answer = refused number at
 
--- 10: "C differs": its field. The sum is that of the finished image
+-- 10: "C differs": its field. The sum is that of the finished image.
 abbrev pub wrongSum : (image : List ℕ) → Option At → Option ℕ
 wrongSum image none = none
 wrongSum image (some c) = cond (eqb (c .value) (sum16 image)) none (some (c .at))
 
--- 11: "transmission sum differs and is not 0000": ETX. The sum is "over STX to ETX inclusive"
+-- 11: "transmission sum differs and is not 0000": ETX. The sum is "over STX to ETX inclusive".
 abbrev pub wrongTransmission : (text : List ℕ) → (etx sum : ℕ) → Option ℕ
 wrongTransmission text etx sum = cond (eqb sum 0 || eqb sum (sum16 (take (etx + 1) text))) none (some etx)
 
--- a text of good form, by what its fields gave: 8, 9, 10, 11, or its image
+-- A text of good form, by what its fields gave: 8, 9, 10, 11, or its image.
 unfoldable pub concluded : (fuses : ℕ) → (text : List ℕ) → (etx sum : ℕ) → Known → Outcome (List ℕ)
 concluded fuses text etx sum k =
     unless 8 (wrongCount fuses etx (k .count))
@@ -42,7 +42,8 @@ concluded fuses text etx sum k =
     (unless 10 (wrongSum (finished fuses k) (k .sum))
     (unless 11 (wrongTransmission text etx sum) (accepted (finished fuses k)))))
 
--- 7: after ETX the first wrong byte; for a text that ends early its length; the offset where the first bad field starts
+-- 7: after ETX the first wrong byte; for a text that ends early its length; the offset at which the first bad field
+-- starts.
 abbrev pub withTail : (fuses : ℕ) → (text : List ℕ) → (etx : ℕ) → Known → Tail → Outcome (List ℕ)
 withTail fuses text etx k (given sum) = concluded fuses text etx sum k
 withTail fuses text etx k (wrong at) = refused 7 at
@@ -58,13 +59,13 @@ withFields fuses text end (known k) = withEnd fuses text k end
 abbrev pub ofCut : (fuses : ℕ) → (text : List ℕ) → Cut → Outcome (List ℕ)
 ofCut fuses text cut = withFields fuses text (cut .end) (allFields nothingKnown (cut .fields))
 
--- the design text starts at 1, after STX, and is no field
+-- The design text starts at 1, after STX, and is no field.
 abbrev pub ofPieces : (fuses : ℕ) → (text : List ℕ) → (ended : List (List ℕ)) → (rest : List ℕ) → Outcome (List ℕ)
 ofPieces fuses text [] rest = refused 7 (length text)
 ofPieces fuses text (design ∷ ended) rest =
     cond (holdsMark (drop 1 design)) (refused 7 1) (ofCut fuses text (fieldsFrom (length design + 1) ended rest))
 
--- "text over 1,048,576 bytes (first), or bad form"; "for no STX 0"
+-- "text over 1,048,576 bytes (first), or bad form"; "for no STX 0".
 unfoldable pub meaning : (fuses : ℕ) → (text : List ℕ) → Outcome (List ℕ)
 meaning fuses text =
     cond (ltb longest (length text))

@@ -12,18 +12,18 @@ use Rattle.jedec.specs.Cut.{Field}
 use Rattle.jedec.specs.Judge.{Judged, judge}
 use Rattle.jedec.specs.Judge.Judged.{count, start, list, sum, skipped, bad}
 
--- a number, and where the field that gives it starts
+-- A number, and where the field that gives it starts.
 pub record At : Type 0 where
   pub at : ℕ
   pub value : ℕ
 
--- an L field: where it starts, its first fuse, the states from there on
+-- An L field: where it starts, its first fuse, the states from there on.
 pub record Listed : Type 0 where
   pub at : ℕ
   pub first : ℕ
   pub states : List ℕ
 
--- what the fields so far gave: QF, F, the L fields in order, C
+-- What the fields so far gave: QF, F, the L fields in order, C.
 pub record Known : Type 0 where
   pub count : Option At
   pub start : Option ℕ
@@ -51,7 +51,7 @@ inOrder k (sum x) = has (k .count) && not (has (k .sum))
 inOrder k skipped = true
 inOrder k bad = false
 
--- what is known after a field that starts at an offset
+-- What is known after a field that starts at an offset.
 abbrev pub after : Known → ℕ → Judged → Known
 after k at (count n) =
     record { count = some (record { at = at; value = n }); start = k .start; lists = k .lists; sum = k .sum }
@@ -68,7 +68,7 @@ after k at (sum x) =
 after k at skipped = k
 after k at bad = k
 
--- all fields in order, or where the first bad one starts
+-- All fields in order, or where the first bad one starts.
 pub data Fields : Type 0 where
   known : Known → Fields
   badAt : ℕ → Fields
@@ -78,12 +78,12 @@ allFields k [] = known k
 allFields k (f ∷ fields) =
     cond (inOrder k (judge (f .bytes))) (allFields (after k (f .start) (judge (f .bytes))) fields) (badAt (f .start))
 
--- 8: "QF is not the device's count, or absent": its field; if absent, ETX
+-- 8: "QF is not the device's count, or absent": its field; if absent, ETX.
 abbrev pub wrongCount : (fuses etx : ℕ) → Option At → Option ℕ
 wrongCount fuses etx none = some etx
 wrongCount fuses etx (some q) = cond (eqb (q .value) fuses) none (some (q .at))
 
--- 9: "an L starts before the end of the L before it, or runs past the count": its field
+-- 9: "an L starts before the end of the L before it, or runs past the count": its field.
 abbrev pub endOf : Listed → ℕ
 endOf l = l .first + length (l .states)
 
@@ -92,18 +92,18 @@ misplaced fuses end [] = none
 misplaced fuses end (l ∷ lists) =
     cond (ltb (l .first) end || ltb fuses (endOf l)) (some (l .at)) (misplaced fuses (endOf l) lists)
 
--- "the start state of all fuses; without it they start at 0"
+-- "the start state of all fuses; without it they start at 0".
 abbrev pub startState : Option ℕ → ℕ
 startState none = 0
 startState (some s) = s
 
--- the state of a fuse: the one that an L gives it, or the start state
+-- The state of a fuse: the one that an L gives it, or the start state.
 unfoldable pub stateGiven : (from : ℕ) → List Listed → ℕ → ℕ
 stateGiven from [] fuse = from
 stateGiven from (l ∷ lists) fuse =
     cond (leb (l .first) fuse && ltb fuse (endOf l)) (getD (l .states) (fuse - l .first) 0) (stateGiven from lists fuse)
 
--- the image of so many fuses: one bit a fuse, fuse f is bit f mod 8 of byte f div 8, bits past the last fuse 0
+-- The image of so many fuses: one bit a fuse, fuse f is bit f mod 8 of byte f div 8, bits past the last fuse 0.
 abbrev pub within : (fuses : ℕ) → (ℕ → ℕ) → ℕ → ℕ
 within fuses states fuse = cond (ltb fuse fuses) (states fuse) 0
 

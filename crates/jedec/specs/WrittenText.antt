@@ -8,21 +8,21 @@ use Rattle.image.specs.Image.{state, sum16}
 use Rattle.jedec.specs.Characters.{stx, etx, lf, space, star, letterC, letterF, letterL, letterQ, decimalDigit}
 use Rattle.jedec.specs.Characters.{countDigits, sevenDigits, fourHex}
 
--- `*`, LF
+-- `*`, LF.
 abbrev pub lineEnd : List ℕ
 lineEnd = star ∷ lf ∷ []
 
--- the states of so many fuses, from a fuse on
+-- The states of so many fuses, from a fuse on.
 unfoldable pub statesText : (image : List ℕ) → (fuse width : ℕ) → List ℕ
 statesText image fuse zero = []
 statesText image fuse (suc width) = decimalDigit (state image fuse) ∷ statesText image (fuse + 1) width
 
--- "a space before each column's bits"
+-- "a space before each column's bits".
 unfoldable pub columnsText : (image : List ℕ) → (fuse : ℕ) → (widths : List ℕ) → List ℕ
 columnsText image fuse [] = []
 columnsText image fuse (w ∷ widths) = space ∷ statesText image fuse w ++ columnsText image (fuse + w) widths
 
--- "L, seven digits, a space before each column's bits, `*`, LF"
+-- "L, seven digits, a space before each column's bits, `*`, LF".
 abbrev pub lineText : (image : List ℕ) → (fuse : ℕ) → (widths : List ℕ) → List ℕ
 lineText image fuse widths = letterL ∷ sevenDigits fuse ++ columnsText image fuse widths ++ lineEnd
 
@@ -30,7 +30,7 @@ unfoldable pub linesText : (image : List ℕ) → (fuse : ℕ) → (pattern : Li
 linesText image fuse [] = []
 linesText image fuse (widths ∷ pattern) = lineText image fuse widths ++ linesText image (fuse + total widths) pattern
 
--- the fuses that a pattern has lines for, and that no line is empty
+-- The fuses that a pattern has lines for, and that no line is empty.
 unfoldable pub patternFuses : (pattern : List (List ℕ)) → ℕ
 patternFuses [] = 0
 patternFuses (widths ∷ pattern) = total widths + patternFuses pattern
@@ -39,7 +39,7 @@ abbrev pub NoneEmpty : (pattern : List (List ℕ)) → Type 0
 NoneEmpty [] = Unit {0}
 NoneEmpty (widths ∷ pattern) = (0 < total widths) × NoneEmpty pattern
 
--- what stands before the lines, and after them up to ETX
+-- What stands before the lines, and after them up to ETX.
 abbrev pub headText : (fuses : ℕ) → List ℕ
 headText fuses = stx ∷ lineEnd ++ letterQ ∷ letterF ∷ countDigits fuses ++ lineEnd ++ letterF ∷ decimalDigit 0 ∷ lineEnd
 

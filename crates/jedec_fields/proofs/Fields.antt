@@ -21,11 +21,11 @@ use Rattle.jedec_fields.specs.Fields.{Says, untilStar, fieldsAt, cutOf, 
 use Rattle.jedec_fields.specs.declared.FieldSays.{FieldSays}
 use Rattle.jedec_fields.specs.declared.NextSays.the-variants.{Field, End, Early}
 
--- what a slice from an offset on holds
+-- What a slice from an offset on holds.
 pub rest-whole : (k : ℕ) (l : List ℕ) → take (length l - k) (drop k l) ≡ drop k l
 rest-whole k l = take-all (length l - k) (drop k l) (rw (length-drop k l) (le-refl (length l - k)))
 
--- the first `*`
+-- The first `*`.
 pub record Cuts (bytes : List ℕ) (u : ℕ) : Type 0 where
   pub ended : pieces bytes .ended ≡ take u bytes ∷ pieces (drop (suc u) bytes) .ended
   pub rest : pieces bytes .rest ≡ pieces (drop (suc u) bytes) .rest
@@ -59,7 +59,7 @@ pieces-none (b ∷ bytes) h = go (eqb b star) refl (pieces-none bytes)
         let ih : Uncut bytes = shorter (omega arith) in
         record { ended = rw (e, ih .ended); rest = rw (e, ih .ended, ih .rest) }
 
--- neither a blank nor ETX is a `*`
+-- Neither a blank nor ETX is a `*`.
 solid : (b k : ℕ) → isBlank k ≡ false → isBlank b ≡ true → b ≡ k → ⊥
 solid b k n h e = true≢false (sym h ∙ ap isBlank e ∙ n)
 
@@ -91,7 +91,7 @@ blanks-skipped at (b ∷ bytes) = go (isBlank b) refl (blanks-skipped (at + 1) b
         rw (e, f) (blank-skipped at b bytes e ∙ shorter)
     go false e shorter = rw (e, add-zero at)
 
--- what the blanks stop at is no blank
+-- What the blanks stop at is no blank.
 after-blanks : (bytes : List ℕ) (b : ℕ) (rest : List ℕ) → drop (blanksBefore bytes) bytes ≡ b ∷ rest → isBlank b ≡ false
 unfolding blanksBefore
 after-blanks [] b rest e = let z : _≡_ {A = ℕ} 0 1 = cc in absurd (omega arith)
@@ -101,7 +101,7 @@ after-blanks (a ∷ bytes) b rest e = go (isBlank a) refl (after-blanks bytes b 
     go true f shorter = shorter (rw f at e)
     go false f shorter = let g : a ∷ bytes ≡ b ∷ rest = rw f at e in let h : a ≡ b = cc in rw (← h) f
 
--- a piece whose first byte is neither a blank nor ETX
+-- A piece whose first byte is neither a blank nor ETX.
 abbrev Plain : List ℕ → Type 0
 Plain p = (blanksBefore p ≡ 0) × (startsWith etx p ≡ false)
 
@@ -147,13 +147,13 @@ module _ (at b : ℕ) (bytes : List ℕ) (h : isBlank b ≡ false) (n : b ≡ 3 
       let s : u + 1 ≡ suc u = omega arith in
       rw (s, c .ended, c .rest, p .0, p .1, k, add-zero at)
 
--- what stands next, from the first byte on that is no blank
+-- What stands next, from the first byte on that is no blank.
 nothing : (at : ℕ) → fieldsAt at [] ≡ record { fields = []; end = none }
 unfolding fieldsAt pieces fieldsFrom blanksBefore
 nothing at = refl
 
 module _ (text : List ℕ) (at start : ℕ) (e : start ≡ at + blanksBefore (drop at text)) where
-  -- the fields from the first byte on that is no blank
+  -- The fields from the first byte on that is no blank.
   from-start : fieldsAt at (drop at text) ≡ fieldsAt start (drop start text)
   from-start = blanks-skipped at (drop at text) ∙ rw (drop-drop (blanksBefore (drop at text)) at text, ← e)
 

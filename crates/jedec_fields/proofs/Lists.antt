@@ -33,7 +33,7 @@ use Rattle.jedec_fields.specs.declared.LeadingDigits.{LeadingDigits}
 use Rattle.jedec_fields.specs.declared.StatesRun.{StatesRun}
 use Rattle.jedec_fields.proofs.Fields.{rest-whole}
 
--- a byte that is no digit after digits
+-- A byte that is no digit after digits.
 digits-wrong : (a c : List ℕ) (x v b : ℕ) → digitsRead 10 decimalValue x a ≡ some v → decimalValue b ≡ none
     → digitsRead 10 decimalValue x (a ++ (b ∷ c)) ≡ none
 unfolding digitsRead
@@ -46,7 +46,7 @@ digits-wrong (d ∷ a) c x v b e f = go (decimalValue d) e (λ y h. digits-wrong
     go none h ih = refl
     go (some y) h ih = ih y h
 
--- 1 to 7 digits and nothing else
+-- 1 to 7 digits and nothing else.
 in-number : (bytes : List ℕ) → 0 < length bytes → length bytes ≤ 7 → digitsRead 10 decimalValue 0 bytes ≡ numberIn bytes
 unfolding numberIn
 in-number bytes l m = rw (le-leb 1 (length bytes) (omega arith), le-leb (length bytes) 7 m)
@@ -89,12 +89,12 @@ module _ (bytes : List ℕ) (d : LeadingDigits) (s : DigitsStand bytes d) where
       sym (s .reads) ∙ ap (digitsRead 10 decimalValue 0) (take-all (d .length) bytes (omega arith))
       ∙ in-number bytes (omega arith) (omega (arith, s .few))
 
--- states that a count speaks of
+-- States that a count speaks of.
 some-counted : (o : Option (List ℕ)) (n : ℕ) → some n ≡ statesCount o → (o ≡ some (orEmpty o)) × (length (orEmpty o) ≡ n)
 some-counted none n e = let z : _≡_ {A = ℕ} 0 1 = cc in absurd (omega arith)
 some-counted (some states) n e = let h : n ≡ length states = cc in (refl, sym h)
 
--- states counted over the first bytes
+-- States counted over the first bytes.
 pub record Counts (bytes : List ℕ) (n i : ℕ) : Type 0 where
   pub upto : i ≤ length bytes
   pub few : n ≤ i
@@ -127,8 +127,8 @@ module _ (bytes : List ℕ) (n i : ℕ) (c : Counts bytes n i) where
     pub counts-inside : i + (count + z) ≤ length bytes
     counts-inside = s .inside
 
-    pub counts-again : Counts bytes (n + count) (i + (count + z))
-    counts-again =
+    pub counts-inverse : Counts bytes (n + count) (i + (count + z))
+    counts-inverse =
         let withFirst = orEmpty (statesIn (take i bytes)) in
         let bits = join (replicate count 1) (drop i bytes) in
         let next = cut (replicate count 1) bits in
@@ -145,7 +145,7 @@ full-list : (states : List ℕ) (first : ℕ) → (length states ≡ 0 → ⊥) 
 full-list [] first e = absurd (e refl)
 full-list (s ∷ states) first e = refl
 
--- bytes that are neither `*` nor STX nor ETX
+-- Bytes that are neither `*` nor STX nor ETX.
 abbrev Plain : ℕ → Type 0
 Plain b = (eqb b 42 ≡ false) × (isMark b ≡ false)
 
@@ -224,13 +224,13 @@ unfolding AllPlain
 all-plain [] c p q = q
 all-plain (b ∷ a) c p q = (p .0, all-plain a c (p .1) q)
 
--- the bytes before a `*` that stands behind some plain bytes
+-- The bytes before a `*` that stands behind some plain bytes.
 plain-field : (a t : List ℕ) → AllPlain a → take (untilStar (a ++ t)) (a ++ t) ≡ a ++ take (untilStar t) t
 unfolding AllPlain untilStar
 plain-field [] t p = refl
 plain-field (b ∷ a) t p = rw (p .0 .0) (ap (λ (l : List ℕ). b ∷ l) (plain-field a t (p .1)))
 
--- no digit is a blank
+-- No digit is a blank.
 unbroken-past : (a t : List ℕ) (x v : ℕ) → digitsRead 10 decimalValue x a ≡ some v → unbroken (a ++ t) ≡ length a + unbroken t
 unfolding digitsRead unbroken
 unbroken-past [] t x v e = sym (zero-add (unbroken t))
@@ -242,7 +242,7 @@ unbroken-past (d ∷ a) t x v e = go (decimalValue d) refl e (λ y f. unbroken-p
     go none f g ih = let z : _≡_ {A = ℕ} 0 1 = cc in absurd (omega arith)
     go (some y) f g ih = rw (digit-solid d y f, suc-add (length a) (unbroken t)) (ap suc (ih y g))
 
--- what a list says, by what stands behind its first digits
+-- What a list says, by what stands behind its first digits.
 module _ (a : List ℕ) (v : ℕ) (e : digitsRead 10 decimalValue 0 a ≡ some v) where
   list-past : (t : List ℕ) → listIn (a ++ t) ≡ orBad (numberIn (a ++ take (unbroken t) t)) (statesFrom (statesIn (drop (unbroken t) t)))
   unfolding listIn
@@ -263,7 +263,7 @@ unfolding listIn unbroken numberIn
 no-number-bad [] t b z h = rw h
 no-number-bad (d ∷ a) t b z h = absurd (omega arith)
 
--- digits that no blank ends, or a blank without digits
+-- Digits that no blank ends, or a blank without digits.
 unended-bad : (a : List ℕ) (v k : ℕ) (t : List ℕ) → digitsRead 10 decimalValue 0 a ≡ some v
     → (length a < 7 → 0 < length t → decimalValue (getD t 0 0) ≡ none)
     → (isBlank (getD t 0 0) ≡ true → length a ≡ 0) → listIn (a ++ take k t) ≡ bad
@@ -282,11 +282,11 @@ solid-first : (t : List ℕ) → oneIfBlank t ≡ 0 → isBlank (getD t 0 0) ≡
 solid-first [] e h = true≢false (sym h)
 solid-first (b ∷ t) e h = let z : _≡_ {A = ℕ} 1 0 = rw h at e in omega arith
 
--- a byte that is neither a state nor a blank, whatever follows
+-- A byte that is neither a state nor a blank, whatever follows.
 wrong-then : (w t : List ℕ) (b : ℕ) → statesIn (w ++ (b ∷ [])) ≡ none → statesIn (w ++ (b ∷ t)) ≡ none
 wrong-then w t b e = none-first (length w + 1) (w ++ (b ∷ t)) (rw (take-append-add w (b ∷ t) 1) e)
 
--- what follows an L
+-- What follows an L.
 module _ (after : List ℕ) (d : LeadingDigits) (s : DigitsStand after d) where
   digits-long : length (take (d .length) after) ≡ d .length
   digits-long = first-long after d s
@@ -354,7 +354,7 @@ module _ (after : List ℕ) (d : LeadingDigits) (s : DigitsStand after d) where
           × (length (orEmpty (statesIn states)) ≡ run .count)
       counted-states = some-counted (statesIn states) (run .count) (sym (runs .writes))
 
-      -- up to where the states end: digits, a blank and states
+      -- Up to where the states end: digits, a blank and states.
       parts : take long after ≡ take (d .length) after ++ (getD after (d .length) 0 ∷ states)
       parts =
           let e : d .length + 1 + run .length ≡ d .length + suc (run .length) = omega arith in
@@ -367,7 +367,7 @@ module _ (after : List ℕ) (d : LeadingDigits) (s : DigitsStand after d) where
           rw parts (all-plain (take (d .length) after) _ (digits-plain (take (d .length) after) 0 (d .value) (s .reads))
           (b-plain, states-plain states _ (counted-states .0)))
 
-      -- what the field says by the bytes behind these
+      -- What the field says by the bytes behind these.
       says-list : (x : List ℕ) → listIn (take long after ++ x) ≡ statesFrom (statesIn (states ++ x)) (d .value)
       says-list x =
           rw (parts, append-assoc (take (d .length) after) (getD after (d .length) 0 ∷ states) x)

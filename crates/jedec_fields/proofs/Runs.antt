@@ -1,5 +1,5 @@
 -- Laws of runs over bytes, each said of the bytes still to come, so that a loop keeps it:
---   marks-again, marks-end               whether bytes hold STX or ETX
+--   marks-inverse, marks-end               whether bytes hold STX or ETX
 --   star-, blanks-                       bytes counted up to the first that stops the count
 --   Reading                              digits read
 --   Leads                                digits read over the first bytes
@@ -24,17 +24,17 @@ use Rattle.jedec.specs.Cut.{holdsMark, blanksBefore, Tail, tailFrom}
 use Rattle.jedec.specs.Cut.Tail.{given, wrong}
 use Rattle.jedec_fields.specs.Fields.{valueOr, DigitsStand, untilStar}
 
--- STX or ETX
-pub marks-again : (bytes : List ℕ) (i : ℕ) (found m all : Bool) → i < length bytes → m ≡ isMark (getD bytes i 0)
+-- STX or ETX.
+pub marks-inverse : (bytes : List ℕ) (i : ℕ) (found m all : Bool) → i < length bytes → m ≡ isMark (getD bytes i 0)
     → (found || holdsMark (drop i bytes)) ≡ all → (found || m || holdsMark (drop (i + 1) bytes)) ≡ all
 unfolding holdsMark
-marks-again bytes i found m all h e f = rw (e, add-one, or-assoc) (rw (drop-cons bytes i 0 h) at f)
+marks-inverse bytes i found m all h e f = rw (e, add-one, or-assoc) (rw (drop-cons bytes i 0 h) at f)
 
 pub marks-end : (bytes : List ℕ) (i : ℕ) (found all : Bool) → length bytes ≤ i → (found || holdsMark (drop i bytes)) ≡ all → found ≡ all
 unfolding holdsMark
 marks-end bytes i found all h f = sym (or-false found) ∙ (rw (drop-of-length-le bytes h) at f)
 
--- bytes counted up to the first that stops the count
+-- Bytes counted up to the first that stops the count.
 record Counts (f : List ℕ → ℕ) (stop : ℕ → Bool) : Type 0 where
   nil : f [] ≡ 0
   here : (b : ℕ) (bytes : List ℕ) → stop b ≡ true → f (b ∷ bytes) ≡ 0
@@ -81,7 +81,7 @@ module _ (text : List ℕ) (i all : ℕ) where
   pub blanks-end : i + blanksBefore (drop i text) ≡ all → length text ≤ i → i ≡ all
   blanks-end h l = ends blanksBefore (λ b. not (isBlank b)) blanks-counts text i all h l
 
--- what a digit stands for is below the base, and 16 says that a byte is none
+-- What a digit stands for is below the base, and 16 says that a byte is none.
 pub record IsDigit (k : ℕ) (o : Option ℕ) : Type 0 where
   pub none-there : valueOr 16 o ≡ 16 → o ≡ none
   pub some-there : (valueOr 16 o ≡ 16 → ⊥) → o ≡ some (valueOr 16 o)
@@ -119,7 +119,7 @@ value-between low high base b o = go (leb low b && leb b high)
     go true = refl
     go false = refl
 
--- digits read so far
+-- Digits read so far.
 pub record Reading (base : ℕ) (digit : ℕ → Option ℕ) (bytes : List ℕ) (x i : ℕ) : Type 0 where
   pub upto : i ≤ length bytes
   pub small : x < base ^ i
@@ -154,7 +154,7 @@ module _ (base : ℕ) (digit : ℕ → Option ℕ) (bytes : List ℕ) where
   pub reading-small : (x i k : ℕ) → Reading base digit bytes x i → 0 < base → i ≤ k → x < base ^ k
   reading-small x i k r p l = lt-of-lt-of-le (r .small) (pow-le-pow-right p l)
 
--- digits read over the first bytes
+-- Digits read over the first bytes.
 digits-snoc : (base : ℕ) (digit : ℕ → Option ℕ) (a : List ℕ) (x b : ℕ)
     → digitsRead base digit x (a ++ (b ∷ [])) ≡ andThen (digitsRead base digit x a) (λ v. andThen (digit b) (λ y. some (v * base + y)))
 unfolding digitsRead
@@ -193,8 +193,8 @@ module _ (bytes : List ℕ) (x i : ℕ) (r : Leads bytes x i) where
     pub leads-falls : 7 - (i + 1) < 7 - i
     leads-falls = omega (arith, here .0)
 
-    pub leads-room : x * 10 < 2 ^ 32
-    leads-room = omega (arith, leads-small)
+    pub leads-space : x * 10 < 2 ^ 32
+    leads-space = omega (arith, leads-small)
 
     module _ (y : ℕ) (e : y ≡ valueOr 16 (decimalValue (getD bytes i 0))) where
       pub leads-sum : (y ≡ 16 → ⊥) → x * 10 + y < 2 ^ 32
@@ -232,7 +232,7 @@ module _ (bytes : List ℕ) (x i : ℕ) (r : Leads bytes x i) where
         stops = λ l m. absurd (true≢false (sym (rw (lt-ltb i 7 m, lt-ltb i (length bytes) l)) ∙ n));
       }
 
--- what follows ETX
+-- What follows ETX.
 module _ (text : List ℕ) (i sum : ℕ) (all : Tail) where
   pub tail-goes : (t : Bool) → t ≡ isBlank (getD text i 0) → not t ≡ false → i < length text → tailFrom i 0 sum (drop i text) ≡ all
       → tailFrom (i + 1) 0 sum (drop (i + 1) text) ≡ all

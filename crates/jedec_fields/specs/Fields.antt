@@ -26,7 +26,7 @@ use Rattle.jedec_fields.specs.declared.NextSays.the-variants as next
 use Rattle.jedec_fields.specs.declared.TailSays.{TailSays}
 use Rattle.jedec_fields.specs.declared.TailSays.the-variants as tail
 
--- a number, or another where there is none
+-- A number, or another where there is none.
 abbrev pub valueOr : ℕ → Option ℕ → ℕ
 valueOr other none = other
 valueOr other (some x) = x
@@ -35,14 +35,14 @@ abbrev pub numberRead : Digits → Option ℕ
 numberRead (digits.Number x) = some x
 numberRead digits.Wrong = none
 
--- the first bytes that are digits write a number, and are at most seven; fewer only before a byte that is no digit
+-- The first bytes that are digits write a number, and are at most seven; fewer only before a byte that is no digit.
 pub record DigitsStand (bytes : List ℕ) (r : LeadingDigits) : Type 0 where
   pub inside : r .length ≤ length bytes
   pub few : r .length ≤ 7
   pub reads : digitsRead 10 decimalValue 0 (take (r .length) bytes) ≡ some (r .value)
   pub stops : r .length < length bytes → r .length < 7 → decimalValue (getD bytes (r .length) 0) ≡ none
 
--- how many states there are, if there are any; the states, or none
+-- How many states there are, if there are any; the states, or none.
 abbrev pub statesCount : Option (List ℕ) → Option ℕ
 statesCount none = none
 statesCount (some states) = some (length states)
@@ -54,15 +54,15 @@ orEmpty (some states) = states
 unfoldable pub statesOf : List ℕ → List ℕ
 statesOf bytes = orEmpty (statesIn bytes)
 
--- the first bytes that are 0, 1 and blanks write so many states; with the byte after them,
--- if there is one, they write none
+-- The first bytes that are 0, 1 and blanks write so many states; with the byte after them,
+-- if there is one, they write none.
 pub record RunStands (bytes : List ℕ) (r : StatesRun) : Type 0 where
   pub inside : r .length ≤ length bytes
   pub few : r .count ≤ r .length
   pub writes : statesCount (statesIn (take (r .length) bytes)) ≡ some (r .count)
   pub stops : r .length < length bytes → statesIn (take (suc (r .length)) bytes) ≡ none
 
--- what an answer about a field says, with what follows the field's first letter
+-- What an answer about a field says, with what follows the field's first letter.
 abbrev pub judgedAfter : (after : List ℕ) → FieldSays → Judged
 judgedAfter after (says.Count n) = count n
 judgedAfter after (says.Start s) = start s
@@ -71,7 +71,7 @@ judgedAfter after (says.Sum x) = sum x
 judgedAfter after says.Skipped = skipped
 judgedAfter after says.Bad = bad
 
--- the states that an answer speaks of are there, and so many
+-- The states that an answer speaks of are there, and so many.
 pub record ListFits (after : List ℕ) (skip number : ℕ) : Type 0 where
   pub inside : skip ≤ length after
   pub found : statesIn (drop skip after) ≡ some (statesOf (drop skip after))
@@ -91,23 +91,23 @@ pub record Says (after : List ℕ) (j : Judged) (r : FieldSays) : Type 0 where
   pub is : judgedAfter after r ≡ j
   pub fits : SaysFits after r
 
--- how many bytes stand before the first `*`, or all
+-- How many bytes stand before the first `*`, or all.
 unfoldable pub untilStar : List ℕ → ℕ
 untilStar [] = 0
 untilStar (b ∷ bytes) = cond (eqb b star) 0 (suc (untilStar bytes))
 
--- the fields of some bytes that stand at an offset of the text
+-- The fields of some bytes that stand at an offset of the text.
 unfoldable pub fieldsAt : (at : ℕ) → List ℕ → Cut
 fieldsAt at bytes = fieldsFrom at (pieces bytes .ended) (pieces bytes .rest)
 
--- a good L field, by what follows the L
+-- A good L field, by what follows the L.
 pub record ListAt (after : List ℕ) (first skip number long : ℕ) : Type 0 where
   pub inside : long < length after
   pub until : untilStar after ≡ long
   pub unmarked : holdsMark (take long after) ≡ false
   pub says : Says (take long after) (listIn (take long after)) (says.List first skip number)
 
--- any other: what stands before the `*`, if there is one, is bad
+-- Any other: what stands before the `*`, if there is one, is bad.
 pub record NoList (after : List ℕ) : Type 0 where
   pub is-bad : untilStar after < length after → listIn (take (untilStar after) after) ≡ bad
 
@@ -115,7 +115,7 @@ abbrev pub ListStands : (after : List ℕ) → ListField → Type 0
 ListStands after (list-field.Good first skip number long) = ListAt after first skip number long
 ListStands after list-field.Other = NoList after
 
--- the fields of a text from an offset on, by what stands next
+-- The fields of a text from an offset on, by what stands next.
 abbrev pub cutOf : (text : List ℕ) → NextSays → Cut
 cutOf text (next.Field from to fs) =
     record {
@@ -127,13 +127,13 @@ cutOf text (next.Field from to fs) =
 cutOf text (next.End etx) = record { fields = []; end = some etx }
 cutOf text next.Early = record { fields = []; end = none }
 
--- the offsets that an answer speaks of are in the text
+-- The offsets that an answer speaks of are in the text.
 abbrev pub Inside : (text : List ℕ) → (at : ℕ) → NextSays → Type 0
 Inside text at (next.Field from to fs) = (at ≤ from) × (from ≤ to) × (to < length text)
 Inside text at (next.End etx) = etx < length text
 Inside text at next.Early = Unit {0}
 
--- what a field says
+-- What a field says.
 abbrev pub SaysThere : (text : List ℕ) → NextSays → Type 0
 SaysThere text (next.Field from to fs) =
     Says (drop 1 (take (to - from) (drop from text))) (judge (take (to - from) (drop from text))) fs
@@ -149,7 +149,7 @@ abbrev pub tailOf : TailSays → Tail
 tailOf (tail.Given x) = given x
 tailOf (tail.Wrong at) = wrong at
 
--- a wrong byte is in the text or right behind it
+-- A wrong byte is in the text or right behind it.
 abbrev pub TailFits : (text : List ℕ) → TailSays → Type 0
 TailFits text (tail.Given x) = Unit {0}
 TailFits text (tail.Wrong at) = at ≤ length text

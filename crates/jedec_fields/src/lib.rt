@@ -12,10 +12,10 @@ ghost use Rattle.jedec.specs.Judge.{orBad, startIn, afterQ, byLetters};
 ghost use Rattle.jedec_fields.specs.Fields.{valueOr, numberRead, DigitsStand, RunStands, Says};
 use jedec::ETX;
 use jedec::STX;
-use jedec_runs::internal::blank_at;
-use jedec_runs::internal::states_at;
+use jedec_runs::states::blank_at;
+use jedec_runs::states::states_at;
 
-pub mod internal;
+pub mod scan;
 
 // A number, or bytes that write none.
 pub enum Digits {

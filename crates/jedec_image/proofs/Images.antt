@@ -25,7 +25,7 @@ use Rattle.jedec.proofs.States.{placed, image-length, image-at, within-small}
 use Rattle.jedec.specs.Form.{lastEnd}
 use Rattle.jedec_image.specs.States.{withStates}
 
--- two images are one where each byte is gathered from like bits
+-- Two images are one where each byte is gathered from like bits.
 image-is : (fuses : ℕ) (f : ℕ → ℕ) (bytes : List ℕ) → length bytes ≡ (fuses + 7) / 8
     → ((i : ℕ) → i < (fuses + 7) / 8 → getD bytes i 0 ≡ gathered (λ bit. within fuses f (i * 8 + bit)) 8) → bytes ≡ imageWith fuses f
 image-is fuses f bytes e h =
@@ -40,7 +40,7 @@ image-same fuses f g e =
     image-is fuses g (imageWith fuses f) (image-length fuses f)
     (λ i l. image-at fuses f i l ∙ gathered-same _ _ 8 (λ b m. within-same fuses f g e (i * 8 + b)))
 
--- a byte of which the lowest bits have a state
+-- A byte of which the lowest bits have a state.
 below-bit : (s r b : ℕ) → b < r → cond (ltb b r) s 0 ≡ s
 below-bit s r b l = rw (lt-ltb b r l)
 
@@ -57,7 +57,7 @@ gathered-below s r (suc w) h =
     rw (below-bit s r w l, lower, z, sums) (sym (mul-add s (2 ^ w - 1) (2 ^ w))))
     (λ m. rw (le-ltb w r m, zero-mul) (add-zero _ ∙ gathered-below s r w m))
 
--- a byte of the image of a start state, which has so many fuses
+-- A byte of the image of a start state, which has so many fuses.
 pub start-byte : (fuses s i r : ℕ) → i < (fuses + 7) / 8 → r ≤ 8 → (i * 8 + 8 ≤ fuses → r ≡ 8) → (fuses < i * 8 + 8 → r ≡ fuses - i * 8)
     → s * (2 ^ r - 1) ≡ getD (imageWith fuses (stateGiven s [])) i 0
 unfolding stateGiven
@@ -72,7 +72,7 @@ start-byte fuses s i r l m e f =
         (λ more. let past : r ≤ b = compared fuses (i * 8 + 8) (λ p. omega (arith, f p)) (λ p. omega arith) in
         rw (le-ltb (i * 8 + b) fuses more, le-ltb b r past))
 
--- a byte gathered from bits, with one of them put in place
+-- A byte gathered from bits, with one of them put in place.
 module _ (h : ℕ → ℕ) (small : (b : ℕ) → h b < 2) (bit s : ℕ) (l : bit < 8) (m : s < 2) where
   gathered-put : putBit (gathered h 8) bit s ≡ gathered (λ b. cond (eqb b bit) s (h b)) 8
   gathered-put =
@@ -87,7 +87,7 @@ module _ (h : ℕ → ℕ) (small : (b : ℕ) → h b < 2) (bit s : ℕ) (l : bi
           either-way (yes e) = rw (eq-eqb b bit e, e) (put-same (gathered h 8) bit s m)
           either-way (no n) = rw (ne-eqb b bit n) (put-other (gathered h 8) bit s m b n ∙ gathered-bit h small 8 b lb)
 
--- the states with one changed, and with a list of states put in place
+-- The states with one changed, and with a list of states put in place.
 abbrev changed : (ℕ → ℕ) → (fuse state : ℕ) → ℕ → ℕ
 changed f fuse s k = cond (eqb k fuse) s (f k)
 
@@ -130,7 +130,7 @@ module _ (fuses : ℕ) (f : ℕ → ℕ) (small : (k : ℕ) → f k < 2) where
           let other : i * 8 + b ≡ fuse → ⊥ = λ z. n (omega arith) in
           rw (ne-eqb (i * 8 + b) fuse other))
 
--- the state of a fuse with a list of states put in place
+-- The state of a fuse with a list of states put in place.
 abbrev pub over : (ℕ → ℕ) → (first : ℕ) → (states : List ℕ) → ℕ → ℕ
 over f first states k = cond (leb first k && ltb k (first + length states)) (getD states (k - first) 0) (f k)
 
@@ -174,7 +174,7 @@ put-states fuses (s ∷ states) f first small bits l =
     ∙ put-states fuses states (changed f first s) (first + 1) (changed-small f first s small (bits 0)) (λ k. bits (suc k)) (omega arith)
     ∙ image-same fuses _ _ (λ k h. over-more f first s states k)
 
--- one L field more, where those before are in place, and where one is not
+-- One L field more, where those before are in place, and where one is not.
 module _ (fuses : ℕ) (l : Listed) where
   pub last-more : (end : ℕ) (lists : List Listed) → lastEnd end (lists ++ (l ∷ [])) ≡ endOf l
   unfolding lastEnd
@@ -238,7 +238,7 @@ over-small f first states small bits k = go (leb first k && ltb k (first + lengt
     go true = bits (k - first)
     go false = small k
 
--- an image that holds what the fields gave
+-- An image that holds what the fields gave.
 pub record Holds (fuses from : ℕ) (lists : List Listed) (image : List ℕ) : Type 0 where
   pub is : image ≡ imageWith fuses (stateGiven from lists)
   pub bits : (k : ℕ) → stateGiven from lists k < 2

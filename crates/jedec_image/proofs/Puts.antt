@@ -29,7 +29,7 @@ use Rattle.jedec_runs.proofs.Words.{states-append, states-none}
 use Rattle.jedec_fields.specs.Fields.{orEmpty, statesOf}
 use Rattle.jedec_image.specs.States.{withStates}
 
--- bytes that write states, all of them
+-- Bytes that write states, all of them.
 abbrev pub WritesStates : List ℕ → Type 0
 WritesStates bytes = statesIn bytes ≡ some (statesOf bytes)
 
@@ -60,7 +60,7 @@ states-solid b bytes w e = go (eqb b 48 || eqb b 49) refl (statesIn bytes) refl 
         (λ q. let v : b ≡ 49 = eqb-true b 49 q in (omega arith, omega arith)) in
         record { low = is .0; bit = is .1; first = rw (e, s, f); rest = rw f }
 
--- an image whose byte has new low bits that are not stored yet
+-- An image whose byte has new low bits that are not stored yet.
 unfoldable pub pending : (image : List ℕ) → (index bit low : ℕ) → List ℕ
 pending image index bit low = set image index (getD image index 0 / 2 ^ bit * 2 ^ bit + low)
 
@@ -73,7 +73,7 @@ pub pending-own : (image : List ℕ) (index bit : ℕ) → pending image index b
 unfolding pending
 pending-own image index bit = ap (set image index) (split (getD image index 0) bit) ∙ set-getD image index 0
 
--- one bit more
+-- One bit more.
 regrouped : (q s m low : ℕ) → (q * 2 + s) * m + low ≡ q * (m * 2) + (low + s * m)
 regrouped q s m low =
     let d : (q * 2 + s) * m ≡ q * 2 * m + s * m = add-mul (q * 2) s m in
@@ -102,12 +102,12 @@ module _ (image : List ℕ) (index bit l s : ℕ) (inside : index < length image
       let p : 2 ^ (bit + 1) ≡ 2 * 2 ^ bit = ap (λ (k : ℕ). 2 ^ k) (add-one bit) ∙ pow-suc 2 bit ∙ mul-comm (2 ^ bit) 2 in
       rw (p, add-comm l (s * 2 ^ bit)) (digits-lt h under)
 
--- a byte whose eight bits are all new
+-- A byte whose eight bits are all new.
 pub put-stored : (image : List ℕ) (index l : ℕ) → getD image index 0 < 2 ^ 8 → pending image index 8 l ≡ set image index l
 unfolding pending
 put-stored image index l h = ap (set image index) (rw (div-eq-of-lt h) (zero-add l))
 
--- so many states more
+-- So many states more.
 more-low : (low x bit : ℕ) → low + x % 2 ^ 1 * 2 ^ bit + x / 2 ^ 1 * 2 ^ (bit + 1) ≡ low + x * 2 ^ bit
 more-low low x bit =
     let p : 2 ^ (bit + 1) ≡ 2 ^ bit * 2 = ap (λ (k : ℕ). 2 ^ k) (add-one bit) ∙ pow-suc 2 bit in
@@ -140,12 +140,12 @@ put-few (suc k) image index bit l x rest h fits under small =
     let s : x % 2 ^ 1 < 2 = omega arith in
     let half : x / 2 ^ 1 < 2 ^ k = shr-lt k 1 (rw (add-one k) small) in
     let next : bit + 1 + k ≤ 8 = omega arith in
-    let room : index * 8 + (bit + 1) + k ≤ length image * 8 = omega arith in
+    let space : index * 8 + (bit + 1) + k ≤ length image * 8 = omega arith in
     ap (λ (p : List ℕ). withStates p (index * 8 + bit + 1) (cut (replicate k 1) (x / 2 ^ 1) ++ rest))
     (put-next image index bit l (x % 2 ^ 1) inside e under)
     ∙ ap (λ (n : ℕ). withStates (pending image index (bit + 1) (l + x % 2 ^ 1 * 2 ^ bit)) n (cut (replicate k 1) (x / 2 ^ 1) ++ rest))
     (omega arith)
-    ∙ put-few k image index (bit + 1) (l + x % 2 ^ 1 * 2 ^ bit) (x / 2 ^ 1) rest next room
+    ∙ put-few k image index (bit + 1) (l + x % 2 ^ 1 * 2 ^ bit) (x / 2 ^ 1) rest next space
     (under-next image index bit l (x % 2 ^ 1) inside e under s) half
     ∙ same-put image index (bit + 1 + k) (bit + suc k) _ (l + x * 2 ^ bit) (index * 8 + (bit + 1) + k) (index * 8 + bit + suc k) rest
     (omega arith) (more-low l x bit) (omega arith)
@@ -153,7 +153,7 @@ put-few (suc k) image index bit l x rest h fits under small =
 pub group-under : (l x bit k : ℕ) → l < 2 ^ bit → x < 2 ^ k → l + x * 2 ^ bit < 2 ^ (bit + k)
 group-under l x bit k h g = rw (add-comm l (x * 2 ^ bit), pow-add 2 bit k, mul-comm (2 ^ bit) (2 ^ k)) (digits-lt g h)
 
--- .. of which some fill the byte, and the others stand in the next
+-- Some of them fill the byte, and the others stand in the next.
 module _ (image : List ℕ) (index bit l x k : ℕ) (rest : List ℕ) (eight : bit < 8) (few : k ≤ 8) (full : 8 ≤ bit + k)
     (fits : index * 8 + bit + k ≤ length image * 8) (under : l < 2 ^ bit) (small : x < 2 ^ k) (octet : getD image index 0 < 2 ^ 8) where
   into : ℕ
@@ -213,16 +213,16 @@ module _ (image : List ℕ) (index bit l x k : ℕ) (rest : List ℕ) (eight : b
       let image′ = set image index stored in
       let second = cut (replicate over 1) (x / 2 ^ into) in
       let upto : bit + into ≤ 8 = omega arith in
-      let room : index * 8 + bit + into ≤ length image * 8 = omega arith in
-      let room′ : (index + 1) * 8 + 0 + over ≤ length image′ * 8 = rw (length-set image index stored) (omega arith) in
+      let space : index * 8 + bit + into ≤ length image * 8 = omega arith in
+      let space′ : (index + 1) * 8 + 0 + over ≤ length image′ * 8 = rw (length-set image index stored) (omega arith) in
       let half : x / 2 ^ into < 2 ^ over = shr-lt over into (rw (← wide) small) in
       ap (λ (ss : List ℕ). withStates (pending image index bit l) (index * 8 + bit) (ss ++ rest)) parts
       ∙ ap (withStates (pending image index bit l) (index * 8 + bit)) (append-assoc (cut (replicate into 1) (x % 2 ^ into)) second rest)
-      ∙ put-few into image index bit l (x % 2 ^ into) (second ++ rest) upto room under (mod-lt x (pow-pos into))
+      ∙ put-few into image index bit l (x % 2 ^ into) (second ++ rest) upto space under (mod-lt x (pow-pos into))
       ∙ ap₂ (λ (p : List ℕ) (n : ℕ). withStates p n (second ++ rest))
       (ap (λ (n : ℕ). pending image index n stored) in-byte ∙ put-stored image index stored octet ∙ sym (pending-none image′ (index + 1)))
       next
-      ∙ put-few over image′ (index + 1) 0 0 (x / 2 ^ into) rest less room′ (omega arith) half
+      ∙ put-few over image′ (index + 1) 0 0 (x / 2 ^ into) rest less space′ (omega arith) half
       ∙ same-put image′ (index + 1) (0 + over) (bit + k - 8) (0 + x / 2 ^ into * 2 ^ 0) ((l + x * 2 ^ bit) / 2 ^ 8)
       ((index + 1) * 8 + 0 + over) ((index + 1) * 8 + (bit + k - 8)) rest
       (zero-add over) (zero-add _ ∙ mul-one (x / 2 ^ into) ∙ sym over-is) (omega arith)
@@ -238,7 +238,7 @@ module _ (image : List ℕ) (index bit l x k : ℕ) (rest : List ℕ) (eight : b
       less : 0 + over ≤ 8
       less = omega arith
 
--- the states of bytes of which some are taken
+-- The states of bytes of which some are taken.
 pub rest-written : (bytes : List ℕ) (i k : ℕ) (states : List ℕ) → WritesStates (drop i bytes)
     → statesIn (take k (drop i bytes)) ≡ some states
     → (statesOf (drop i bytes) ≡ states ++ statesOf (drop (i + k) bytes)) × WritesStates (drop (i + k) bytes)
@@ -266,7 +266,7 @@ pub none-written : statesOf [] ≡ []
 unfolding statesOf statesIn
 none-written = refl
 
--- the states that bytes write are 0 and 1
+-- The states that bytes write are 0 and 1.
 pub written-bits : (bytes : List ℕ) → WritesStates bytes → (k : ℕ) → getD (statesOf bytes) k 0 < 2
 written-bits [] w k = rw none-written (omega arith)
 written-bits (b ∷ bytes) w k = go (isBlank b) refl (written-bits bytes)

@@ -11,9 +11,9 @@ use Rattle.part.specs.Outcome.Outcome.{accepted, refused}
 use Rattle.jedec.specs.Rules.{Known, wrongCount, misplaced, finished}
 use Rattle.jedec.specs.Meaning.{wrongSum, wrongTransmission, concluded}
 use Rattle.jedec_reader.specs.Progress.{notedOf, seenOf, ProgressKnows, TextRead}
-use Rattle.jedec_reader.specs.declared.internal.Seen.{Seen}
-use Rattle.jedec_reader.specs.declared.internal.Seen.the-variants as seen
-use Rattle.jedec_reader.specs.declared.internal.Progress.{Progress}
+use Rattle.jedec_reader.specs.declared.progress.Seen.{Seen}
+use Rattle.jedec_reader.specs.declared.progress.Seen.the-variants as seen
+use Rattle.jedec_reader.specs.declared.progress.Progress.{Progress}
 
 pub refused-reads : (o : Outcome (List ℕ)) (number value : ℕ) (image : List ℕ) → o ≡ refused number value
     → TextRead o (refused number value) image

@@ -1,6 +1,6 @@
 -- Laws of one field more:
 --   in-order       what the reader knows says which field may stand
---   put-fits       what a field puts into the image has room
+--   put-fits       what a field puts into the image fits it
 --   given-after    what is known after a field, and the image it is put into, are what the fields gave
 use mathlib.Core.Path.{_≡_, refl, sym, _∙_}
 use mathlib.Core.Bool.{Bool, true, false, cond, not, _&&_, _||_, or-true}
@@ -25,9 +25,9 @@ use Rattle.jedec_image.proofs.Puts.{written-bits}
 use Rattle.jedec.proofs.States.{image-length}
 use Rattle.jedec_image.proofs.Images.{Holds, start-holds, put-listed, last-more, still-misplaced, now-misplaced}
 use Rattle.jedec_reader.specs.Progress.{seenOf, mayStand, misplacedAfter, afterField, putField, PutFits, ProgressKnows}
-use Rattle.jedec_reader.specs.declared.internal.Seen.{Seen}
-use Rattle.jedec_reader.specs.declared.internal.Seen.the-variants as seen
-use Rattle.jedec_reader.specs.declared.internal.Progress.{Progress}
+use Rattle.jedec_reader.specs.declared.progress.Seen.{Seen}
+use Rattle.jedec_reader.specs.declared.progress.Seen.the-variants as seen
+use Rattle.jedec_reader.specs.declared.progress.Progress.{Progress}
 
 pub in-order : (fuses : ℕ) (p : Progress) (k : Known) (image rest : List ℕ) (s : FieldSays) → ProgressKnows fuses p k image
     → mayStand p s ≡ inOrder k (judgedAfter rest s)
@@ -38,10 +38,10 @@ in-order fuses p k image rest (says.Sum x) g = rw (g .count, g .sum)
 in-order fuses p k image rest says.Skipped g = refl
 in-order fuses p k image rest says.Bad g = refl
 
-list-room : (fuses end at first number : ℕ) (before : Seen) → misplacedAfter fuses before end at first number ≡ seen.Nothing
+list-space : (fuses end at first number : ℕ) (before : Seen) → misplacedAfter fuses before end at first number ≡ seen.Nothing
     → first + number ≤ fuses
-list-room fuses end at first number (seen.Number x) e = let z : _≡_ {A = ℕ} 0 1 = cc in absurd (omega arith)
-list-room fuses end at first number seen.Nothing e =
+list-space fuses end at first number (seen.Number x) e = let z : _≡_ {A = ℕ} 0 1 = cc in absurd (omega arith)
+list-space fuses end at first number seen.Nothing e =
     compared fuses (first + number)
     (λ l. let bad : seen.Number at ≡ seen.Nothing = rw (lt-ltb fuses (first + number) l, or-true) at e in
     let z : _≡_ {A = ℕ} 0 1 = cc in absurd (omega arith))
@@ -52,7 +52,7 @@ pub put-fits : (fuses : ℕ) (p : Progress) (at : ℕ) (rest : List ℕ) (s : Fi
 put-fits fuses p at rest (says.Count n) f = tt
 put-fits fuses p at rest (says.Start x) f = f
 put-fits fuses p at rest (says.List first skip number) f =
-    λ m. record { list = f; room = list-room fuses (p .end) at first number (p .misplaced) m }
+    λ m. record { list = f; fits = list-space fuses (p .end) at first number (p .misplaced) m }
 put-fits fuses p at rest (says.Sum x) f = tt
 put-fits fuses p at rest says.Skipped f = tt
 put-fits fuses p at rest says.Bad f = tt
@@ -69,7 +69,7 @@ nothing-seen : (s : Seen) → seenOf s ≡ none → s ≡ seen.Nothing
 nothing-seen seen.Nothing e = refl
 nothing-seen (seen.Number x) e = let z : _≡_ {A = ℕ} 0 1 = cc in absurd (omega arith)
 
--- one L field more
+-- One L field more.
 module _ (fuses : ℕ) (lists : List Listed) (l : Listed) where
   faulty-after : (s : Seen) (end : ℕ) → end ≡ lastEnd 0 lists → seenOf s ≡ misplaced fuses 0 lists
       → seenOf (misplacedAfter fuses s end (l .at) (l .first) (length (l .states))) ≡ misplaced fuses 0 (lists ++ (l ∷ []))
@@ -161,7 +161,7 @@ module _ (fuses : ℕ) (p : Progress) (k : Known) (image rest : List ℕ) (at : 
   given-after says.Skipped f e = g
   given-after says.Bad f e = g
 
--- the image keeps its length
+-- The image keeps its length.
 put-states-length : (states image : List ℕ) (fuse : ℕ) → length (withStates image fuse states) ≡ length image
 unfolding withStates withBit
 put-states-length [] image fuse = refl

@@ -17,11 +17,11 @@ use Rattle.jedec_fields.specs.declared.FieldSays.the-variants as says
 use Rattle.jedec.specs.Form.{lastEnd}
 use Rattle.jedec_image.specs.States.{withStates}
 use Rattle.jedec_reader.specs.Reader.{verdict, resultOf}
-use Rattle.jedec_reader.specs.declared.internal.Noted.{Noted}
-use Rattle.jedec_reader.specs.declared.internal.Noted.the-variants as noted
-use Rattle.jedec_reader.specs.declared.internal.Seen.{Seen}
-use Rattle.jedec_reader.specs.declared.internal.Seen.the-variants as seen
-use Rattle.jedec_reader.specs.declared.internal.Progress.{Progress}
+use Rattle.jedec_reader.specs.declared.progress.Noted.{Noted}
+use Rattle.jedec_reader.specs.declared.progress.Noted.the-variants as noted
+use Rattle.jedec_reader.specs.declared.progress.Seen.{Seen}
+use Rattle.jedec_reader.specs.declared.progress.Seen.the-variants as seen
+use Rattle.jedec_reader.specs.declared.progress.Progress.{Progress}
 
 abbrev pub notedOf : Noted → Option At
 notedOf noted.Nothing = none
@@ -31,7 +31,7 @@ abbrev pub seenOf : Seen → Option ℕ
 seenOf seen.Nothing = none
 seenOf (seen.Number x) = some x
 
--- which fields may stand where, by what the reader knows
+-- Which fields may stand where, by what the reader knows.
 abbrev pub mayStand : Progress → FieldSays → Bool
 mayStand p (says.Count n) = not (has (notedOf (p .count)))
 mayStand p (says.Start s) = has (notedOf (p .count)) && not (has (seenOf (p .start))) && not (p .listed)
@@ -40,7 +40,7 @@ mayStand p (says.Sum x) = has (notedOf (p .count)) && not (has (notedOf (p .sum)
 mayStand p says.Skipped = true
 mayStand p says.Bad = false
 
--- where the first misplaced L starts, after one more
+-- Where the first misplaced L starts, after one more.
 abbrev pub misplacedAfter : (fuses : ℕ) → Seen → (end at first number : ℕ) → Seen
 misplacedAfter fuses (seen.Number x) end at first number = seen.Number x
 misplacedAfter fuses seen.Nothing end at first number =
@@ -95,7 +95,7 @@ afterField fuses p at (says.Sum x) = withSum p at x
 afterField fuses p at says.Skipped = p
 afterField fuses p at says.Bad = p
 
--- an L field has no more states than a text has bytes
+-- An L field has no more states than a text has bytes.
 abbrev pub Few : FieldSays → Type 0
 Few (says.Count n) = Unit {0}
 Few (says.Start s) = Unit {0}
@@ -104,7 +104,7 @@ Few (says.Sum x) = Unit {0}
 Few says.Skipped = Unit {0}
 Few says.Bad = Unit {0}
 
--- what a field puts into the image
+-- What a field puts into the image.
 abbrev pub putList : (after : List ℕ) → (first skip : ℕ) → Seen → List ℕ → List ℕ
 putList after first skip seen.Nothing image = withStates image first (statesOf (drop skip after))
 putList after first skip (seen.Number x) image = image
@@ -117,10 +117,10 @@ putField fuses after (says.Sum x) m image = image
 putField fuses after says.Skipped m image = image
 putField fuses after says.Bad m image = image
 
--- the states of an L field are there, and the fuses from its first on are below the count
+-- The states of an L field are there, and the fuses from its first on are below the count.
 pub record ListGoes (fuses : ℕ) (after : List ℕ) (first skip number : ℕ) : Type 0 where
   pub list : ListFits after skip number
-  pub room : first + number ≤ fuses
+  pub fits : first + number ≤ fuses
 
 abbrev pub PutFits : (fuses : ℕ) → (after : List ℕ) → FieldSays → Seen → Type 0
 PutFits fuses after (says.Count n) m = Unit {0}
@@ -130,7 +130,7 @@ PutFits fuses after (says.Sum x) m = Unit {0}
 PutFits fuses after says.Skipped m = Unit {0}
 PutFits fuses after says.Bad m = Unit {0}
 
--- what the reader knows is what the fields gave, and unless an L is misplaced the image holds it
+-- What the reader knows is what the fields gave, and unless an L is misplaced the image holds it.
 pub record ProgressKnows (fuses : ℕ) (p : Progress) (k : Known) (image : List ℕ) : Type 0 where
   pub count : notedOf (p .count) ≡ k .count
   pub start : seenOf (p .start) ≡ k .start
@@ -142,12 +142,12 @@ pub record ProgressKnows (fuses : ℕ) (p : Progress) (k : Known) (image : List 
   pub holds : misplaced fuses 0 (k .lists) ≡ none
       → image ≡ imageWith fuses (stateGiven (startState (k .start)) (k .lists))
 
--- the answer to a text that means an outcome, and the image made where it is accepted
+-- The answer to a text that means an outcome, and the image made where it is accepted.
 pub record TextRead (o : Outcome (List ℕ)) (answer : Outcome (Unit {0})) (image : List ℕ) : Type 0 where
   pub answers : answer ≡ verdict o
   pub holds : answer ≡ accepted tt → image ≡ resultOf o
 
--- the same of the caller's image: it holds the image made where the text is accepted, and else what it held
+-- The same of the caller's image: it holds the image made where the text is accepted, and else what it held.
 pub record ReadInto (o : Outcome (List ℕ)) (answer : Outcome (Unit {0})) (before after : List ℕ) : Type 0 where
   pub answers : answer ≡ verdict o
   pub holds : after ≡ written answer (resultOf o) before

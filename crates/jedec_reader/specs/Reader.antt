@@ -10,12 +10,12 @@ use Rattle.part.specs.Convert.{ifKnown, ifLength}
 use Rattle.part.specs.declared.Device.{Device}
 use Rattle.jedec.specs.Meaning.{meaning}
 
--- what is answered, without the image
+-- What is answered, without the image.
 abbrev pub verdict : Outcome (List ℕ) → Outcome (Unit {0})
 verdict (accepted image) = accepted tt
 verdict (refused number value) = refused number value
 
--- the image, where there is one
+-- The image, where there is one.
 abbrev pub resultOf : Outcome (List ℕ) → List ℕ
 resultOf (accepted image) = image
 resultOf (refused number value) = []

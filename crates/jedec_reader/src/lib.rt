@@ -7,10 +7,11 @@ use part::Device;
 use part::DoneAnswer;
 use part::Refusal;
 
-mod internal;
+mod progress;
+mod walk;
 
-// The image that a text describes, put into `image`. Refused: 1, 2, 7 to 11. The image is made in room of its own for
-// the largest, since a refusal changes no byte.
+// The image that a text describes, put into `image`. Refused: 1, 2, 7 to 11. It is made beside the caller's, since a
+// refusal changes no byte of that.
 pub fn text_to_image(d: Device, text: &[u8], image: &mut [u8]) -> DoneAnswer
     ensures { λ r. ⌜ Written (toImageFromText d (now (text .entry)) (now (image .entry))) (doneOutcome r)
         (imageIn d (now (text .entry))) (now (image .entry)) (now (image .exit)) ⌝ }
@@ -18,11 +19,11 @@ pub fn text_to_image(d: Device, text: &[u8], image: &mut [u8]) -> DoneAnswer
     if !part::is_known(d) {
         return DoneAnswer::Refused(Refusal::UnknownDevice);
     }
-    let bytes = part::internal::image_bytes(d) as usize;
+    let bytes = part::geometry::image_bytes(d) as usize;
     if image.len() != bytes {
         return DoneAnswer::Refused(Refusal::WrongLength);
     }
-    let fuses = part::internal::fuse_count(d);
-    let mut made = internal::largest_image();
-    internal::read_beside(fuses, text, &mut made[..bytes], image)
+    let fuses = part::geometry::fuse_count(d);
+    let mut made = walk::largest_image();
+    walk::read_beside(fuses, text, &mut made[..bytes], image)
 }

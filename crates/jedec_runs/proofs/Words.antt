@@ -29,7 +29,7 @@ use mir.Syntax.{w8}
 use mir.Val.{Fits}
 use Rattle.jedec_runs.specs.Runs.{AllStates, oneIfBlank, IsBlankAt, StatesAt}
 
--- the lowest bits of so many bytes, a byte each
+-- The lowest bits of so many bytes, a byte each.
 pub spread : ℕ → List ℕ → ℕ
 spread k bytes = join (replicate k 8) (cut (replicate k 1) (join (replicate k 1) bytes))
 
@@ -53,7 +53,7 @@ module _ (k : ℕ) (bytes : List ℕ) where
       let small : getD bytes 0 0 % 2 ^ 1 % 2 ^ 8 ≡ getD bytes 0 0 % 2 ^ 1 = mod-eq-of-lt (omega arith) in
       ap (join (replicate (suc k) 8)) bits-cut ∙ rw small
 
--- 1 in each byte
+-- 1 in each byte.
 ones : ℕ → ℕ
 ones zero = 0
 ones (suc k) = ones k * 2 ^ 8 + 1
@@ -68,7 +68,7 @@ and-spread (suc k) bytes =
     ∙ ap₂ (λ (x y : ℕ). x * 2 ^ 8 + y) (and-spread k (drop 1 bytes)) first
     ∙ sym (spread-suc k bytes)
 
--- each byte without its lowest bit
+-- Each byte without its lowest bit.
 evens : ℕ → List ℕ → ℕ
 evens zero bytes = 0
 evens (suc k) bytes = evens k (drop 1 bytes) * 2 ^ 8 + getD bytes 0 0 % 2 ^ 8 / 2 * 2
@@ -100,7 +100,7 @@ evens-low (suc k) j bytes =
     let x = evens (k + j) (drop 1 bytes) in
     rw (suc-add k j, e, mod-pow-add (x * 2 ^ 8 + b % 2 ^ 8 / 2 * 2) (k * 8) 8, high x 8 small, low x 8 small, evens-low k j (drop 1 bytes))
 
--- the character 0 in each byte
+-- The character 0 in each byte.
 zeros : ℕ → ℕ
 zeros zero = 0
 zeros (suc k) = zeros k * 2 ^ 8 + 48
@@ -121,7 +121,7 @@ unfolding AllStates
 no-states bytes = tt
 
 module _ (word : ℕ) (bytes : List ℕ) (e : word ≡ join (replicate 8 8) bytes) where
-  -- what differs from the character 0
+  -- What differs from the character 0.
   module _ (others : ℕ) (d : (others + 0x3030303030303030) % 2 ^ 64 ≡ word - bitAnd word 0x0101010101010101) where
     pub eight-states : others ≡ 0 → AllStates 8 bytes
     unfolding zeros
@@ -139,7 +139,7 @@ module _ (word : ℕ) (bytes : List ℕ) (e : word ≡ join (replicate 8 8) byte
       unfolding zeros
       six-states f g = first-states 6 2 refl (omega arith)
 
--- the lowest bits side by side
+-- The lowest bits side by side.
 abbrev apart : ℕ → ℕ
 apart x = join (replicate 8 8) (cut (replicate 8 1) x)
 
@@ -155,7 +155,7 @@ pub together : (x word between r : ℕ) → x < 2 ^ 8 → word ≡ join (replica
 unfolding bits-right
 together x word between r h e f g = g ∙ rw (f, e) (eqb-true _ _ (below-all bits-right 256 bits-all x h))
 
--- the first of eight bits
+-- The first of eight bits.
 bits-low : (k j : ℕ) (bytes : List ℕ) → join (replicate (k + j) 1) bytes % 2 ^ k ≡ join (replicate k 1) bytes
 unfolding join
 bits-low zero j bytes = mod-one _
@@ -172,7 +172,7 @@ bits-low (suc k) j bytes =
       bits-low k j (drop 1 bytes),
     )
 
--- the states that bytes in two parts write
+-- The states that bytes in two parts write.
 pub both : Option (List ℕ) → Option (List ℕ) → Option (List ℕ)
 both none o = none
 both (some xs) none = none
@@ -206,12 +206,12 @@ module _ (a c xs : List ℕ) (e : statesIn a ≡ some xs) where
   unfolding both
   states-none f = rw (states-both a c, e, f)
 
--- first bytes that write none leave the rest no say
+-- First bytes that write none leave the rest no say.
 pub none-first : (k : ℕ) (bytes : List ℕ) → statesIn (take k bytes) ≡ none → statesIn bytes ≡ none
 unfolding both
 none-first k bytes e = ap statesIn (sym (take-append-drop k bytes)) ∙ states-both (take k bytes) (drop k bytes) ∙ rw e
 
--- bytes that are all states
+-- Bytes that are all states.
 abbrev Octets : List ℕ → Type 0
 Octets bytes = (k : ℕ) → getD bytes k 0 < 2 ^ 8
 
@@ -243,7 +243,7 @@ states-written (suc k) (b ∷ bytes) l o s =
     state-first b (take k bytes) _ half (states-written k bytes (omega arith) (λ j. o (suc j)) (s .1))
     ∙ ap some (sym (bits-cut k (b ∷ bytes)))
 
--- a blank behind them writes nothing
+-- A blank behind them writes nothing.
 blank-written : (bytes : List ℕ) → statesIn (take (oneIfBlank bytes) bytes) ≡ some []
 unfolding statesIn
 blank-written [] = refl
@@ -260,7 +260,7 @@ no-blank bytes b rest e h = go (isBlank b) refl
     go true f = let z : _≡_ {A = ℕ} (cond (isBlank b) 1 0) 0 = rw e at h in let y : _≡_ {A = ℕ} 1 0 = rw f at z in absurd (omega arith)
     go false f = refl
 
--- what stands at an offset
+-- What stands at an offset.
 module _ (bytes : List ℕ) (at : ℕ) where
   pub none-there : length bytes ≤ at → IsBlankAt bytes at 0
   none-there l = record { is = rw (drop-of-length-le bytes l); few = omega arith; inside = λ h. omega arith }
@@ -272,7 +272,7 @@ module _ (bytes : List ℕ) (at : ℕ) where
     pub other-there : t ≡ false → IsBlankAt bytes at 0
     other-there h = record { is = rw (drop-cons bytes at 0 l, ← e, h); few = omega arith; inside = λ m. omega arith }
 
--- what is taken at an offset, with a blank behind it
+-- What is taken at an offset, with a blank behind it.
 with-blank : (bytes : List ℕ) (at k z : ℕ) (states : List ℕ) → IsBlankAt bytes (at + k) z → statesIn (take k (drop at bytes)) ≡ some states
     → statesIn (take (k + z) (drop at bytes)) ≡ some states
 with-blank bytes at k z states b e =
@@ -282,7 +282,7 @@ with-blank bytes at k z states b e =
     ∙ ap some (append-nil states)
 
 module _ (bytes : List ℕ) (at : ℕ) where
-  -- the first of eight bits
+  -- The first of eight bits.
   pub bits-by-word : (word whole r count : ℕ) → word ≡ join (replicate 8 8) (drop at bytes) → count ≤ 8
       → ((x : ℕ) → x < 2 ^ 8 → bitAnd word 0x0101010101010101 ≡ join (replicate 8 8) (cut (replicate 8 1) x) → whole ≡ x)
       → r ≡ whole % 2 ^ count → r ≡ join (replicate count 1) (drop at bytes)
@@ -316,7 +316,7 @@ module _ (bytes : List ℕ) (at : ℕ) where
     pub none-taken : (eqb (getD bytes at 0) 48 || eqb (getD bytes at 0) 49) ≡ false → StatesAt bytes at 0
     none-taken s = record { inside = omega arith; few = omega arith; states = no-states (drop at bytes); stops = λ z. s }
 
--- what is taken at an offset: states and a blank behind them
+-- What is taken at an offset: states and a blank behind them.
 pub record StatesTaken (bytes : List ℕ) (at count taken : ℕ) : Type 0 where
   pub inside : at + taken ≤ length bytes
   pub few : count ≤ 8

@@ -8,12 +8,12 @@ use lib.Dec.{eqb}
 use lib.ListN.{length, getD, drop}
 use Rattle.jedec.specs.Characters.{isBlank}
 
--- the first so many bytes are each 0 or 1
+-- The first so many bytes are each 0 or 1.
 unfoldable pub AllStates : ℕ → List ℕ → Type 0
 AllStates zero bytes = Unit {0}
 AllStates (suc k) bytes = (getD bytes 0 0 % 2 ^ 8 / 2 ≡ 24) × AllStates k (drop 1 bytes)
 
--- 1 for a blank at an offset, else 0
+-- 1 for a blank at an offset, else 0.
 abbrev pub oneIfBlank : List ℕ → ℕ
 oneIfBlank [] = 0
 oneIfBlank (b ∷ bytes) = cond (isBlank b) 1 0
@@ -23,7 +23,7 @@ pub record IsBlankAt (bytes : List ℕ) (at r : ℕ) : Type 0 where
   pub few : r ≤ 1
   pub inside : at ≤ length bytes → at + r ≤ length bytes
 
--- states at an offset: none are told only where no state stands
+-- States at an offset: none are told only where no state stands.
 pub record StatesAt (bytes : List ℕ) (at r : ℕ) : Type 0 where
   pub inside : at + r ≤ length bytes
   pub few : r ≤ 8

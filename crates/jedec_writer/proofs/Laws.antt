@@ -25,7 +25,7 @@ use Rattle.jedec.proofs.Laws.{read-back}
 use Rattle.jedec.specs.WrittenText.{patternFuses, NoneEmpty}
 use Rattle.jedec_writer.specs.Pattern.{rowLines, blockLines, pattern, textOf}
 use Rattle.jedec_writer.proofs.Sizes.{pattern-fuses}
-pub use Rattle.jedec_writer.proofs.Text.{text-length}
+pub use Rattle.jedec_writer.proofs.TextParts.{text-length}
 
 pub two-blocks : (class : ℕ) (image : List ℕ) → length (textOf (record { blocks = 2; class = class }) image) ≡ 25732
 unfolding textBytes fuseCount
@@ -69,7 +69,7 @@ pub wire-and-fuses : map total (rowLines false) ≡ 36 ∷ []
 unfolding rowLines tabulate total
 wire-and-fuses = refl
 
--- an image of a device, which has no bits past the last fuse
+-- An image of a device, which has no bits past the last fuse.
 device-image : (d : Device) (image : List ℕ) → known d ≡ true → length image ≡ imageBytes d → ((i : ℕ) → getD image i 0 < 2 ^ 8)
     → Image (fuseCount d) image
 unfolding imageBytes state bitAt
@@ -82,7 +82,7 @@ device-image d image k size bytes =
           rw none-there (bit-above 0 0 (fuse % 8) (omega arith) (omega arith));
     }
 
--- no text of a device is too long to be read
+-- No text of a device is too long to be read.
 pub text-few : (d : Device) → known d ≡ true → textBytes d ≤ longest
 unfolding textBytes fuseCount
 text-few d k =

@@ -2,7 +2,7 @@
 -- Assumes nothing.
 pub mod Tokens
 pub mod Words
-pub mod Lines
+pub mod LineCharacters
 pub mod Sizes
-pub mod Text
+pub mod TextParts
 pub mod Laws

@@ -17,7 +17,8 @@ use Rattle.jedec.specs.Characters.{digitsOf, letterL, sevenDigits, countDigits}
 use Rattle.jedec.specs.WrittenText.{lineText, linesText, patternFuses}
 use Rattle.jedec_writer.specs.Pattern.{rowLines, blockLines, pattern}
 use Rattle.jedec_writer.specs.Tokens.{linesBytes}
-use Rattle.jedec_writer.proofs.Lines.{fuses-append, bytes-append, fuses-repeat, bytes-repeat, lines-sets, Left, begun, ended}
+use Rattle.jedec_writer.proofs.LineCharacters.{fuses-append, bytes-append, fuses-repeat, bytes-repeat}
+use Rattle.jedec_writer.proofs.LineCharacters.{lines-sets, Left, begun, ended}
 
 main-lines : rowLines true ≡ (8 ∷ 8 ∷ 8 ∷ 8 ∷ 8 ∷ []) ∷ (8 ∷ 8 ∷ 8 ∷ 8 ∷ 6 ∷ []) ∷ (6 ∷ 6 ∷ 6 ∷ 6 ∷ 6 ∷ []) ∷ []
 unfolding rowLines tabulate
@@ -35,7 +36,7 @@ pub wire-and-size : (main : Bool) → main ≡ false → (patternFuses (rowLines
 unfolding rowLines tabulate patternFuses linesBytes total
 wire-and-size main e = rw e (refl, refl)
 
--- the main rows of a block, and a block
+-- The main rows of a block, and a block.
 main-rows : (patternFuses (repeat 72 (rowLines true)) ≡ 7776) × (linesBytes (repeat 72 (rowLines true)) ≡ 11016)
 main-rows = (
   fuses-repeat 72 (rowLines true) ∙ ap (λ (k : ℕ). 72 * k) (main-size true refl .0),
@@ -56,7 +57,7 @@ block-size d =
 pub block-small : (d : Device) → known d ≡ true → (7776 + d .blocks * 648 ≤ 18144) × (11016 + d .blocks * 918 ≤ 25704)
 block-small d k = omega (arith, blocks-small d k)
 
--- a device: its fuses, and the bytes of its lines
+-- A device: its fuses, and the bytes of its lines.
 device-fuses : (d : Device) → d .blocks * patternFuses (blockLines d) ≡ fuseCount d
 unfolding fuseCount
 device-fuses d = ap (λ (x : ℕ). d .blocks * x) (block-size d .0)
@@ -72,12 +73,12 @@ pattern-bytes : (d : Device) → linesBytes (pattern d) ≡ d .blocks * linesByt
 unfolding pattern
 pattern-bytes d = bytes-repeat (d .blocks) (blockLines d)
 
--- the text: eleven bytes and the count's digits, the lines, eight bytes, four digits
+-- The text: eleven bytes and the count's digits, the lines, eight bytes, four digits.
 pub text-size : (d : Device) → textBytes d ≡ 11 + decimalDigits (fuseCount d) + linesBytes (pattern d) + 12
 unfolding textBytes
 text-size d = rw (pattern-bytes d, device-bytes d) (omega arith)
 
--- an image has at least a word, and fuse numbers of six digits
+-- An image has at least a word, and fuse numbers of six digits.
 image-size : (d : Device) → known d ≡ true → (8 ≤ imageBytes d) × (imageBytes d ≤ 125000)
 unfolding imageBytes fuseCount
 image-size d k =
@@ -102,7 +103,7 @@ count-digits d digits k e =
 pub digits-of : (d : Device) (x digits : ℕ) → x ≡ fuseCount d → digits ≡ decimalDigits x → digits ≡ decimalDigits (fuseCount d)
 digits-of d x digits e f = f ∙ ap decimalDigits e
 
--- the count's digits are the last of its seven
+-- The count's digits are the last of its seven.
 pub count-cut : (d : Device) → known d ≡ true
     → cut (replicate (decimalDigits (fuseCount d)) 8)
     (number (letterL ∷ sevenDigits (fuseCount d)) / 2 ^ (64 - decimalDigits (fuseCount d) * 8)) ≡ countDigits (fuseCount d)
@@ -113,7 +114,7 @@ count-cut d k =
     cut (replicate (decimalDigits x) 8) (number (letterL ∷ sevenDigits x) / 2 ^ (64 - decimalDigits x * 8)) ≡ countDigits x)
     refl refl refl refl refl refl (d .blocks) (known-count d k)
 
--- the loops over rows and blocks, at their sizes
+-- The loops over rows and blocks, at their sizes.
 pub block-of-rows : (d : Device) (image out one two : List ℕ) (fuse at : ℕ)
     → one ≡ sets out at (linesText image fuse (repeat 72 (rowLines true)))
     → two ≡ sets one (at + 11016) (linesText image (fuse + 7776) (repeat (d .blocks * 18) (rowLines false)))
@@ -133,12 +134,12 @@ pub blocks-ended : (d : Device) (image before out : List ℕ) (at f a left : ℕ
 unfolding pattern
 blocks-ended d image before out at f a left now h = ended now h
 
--- a line by itself
+-- A line by itself.
 alone : (image : List ℕ) (fuse : ℕ) (line : List ℕ) → linesText image fuse (line ∷ []) ≡ lineText image fuse line
 unfolding linesText
 alone image fuse line = append-nil (lineText image fuse line)
 
--- the lines of a row, one after another
+-- The lines of a row, one after another.
 pub main-row-of : (main : Bool) (image out one two three : List ℕ) (fuse at : ℕ) → main ≡ true
     → one ≡ sets out at (lineText image fuse (8 ∷ 8 ∷ 8 ∷ 8 ∷ 8 ∷ []))
     → two ≡ sets one (at + 55) (lineText image (fuse + 40) (8 ∷ 8 ∷ 8 ∷ 8 ∷ 6 ∷ []))

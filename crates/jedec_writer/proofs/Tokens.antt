@@ -16,12 +16,12 @@ use Rattle.jedec.specs.Characters.{space, decimalDigit}
 use Rattle.jedec.specs.WrittenText.{statesText, columnsText}
 use Rattle.jedec_writer.specs.Tokens.{bitsText, columnsOf, Stored}
 
--- every number of a list is a byte
+-- Every number of a list is a byte.
 abbrev pub Bytes : List ℕ → Type 0
 Bytes [] = Unit {0}
 Bytes (b ∷ bytes) = (b < 2 ^ 8) × Bytes bytes
 
--- bytes as one number, written out, and that number cut into the bytes again
+-- Bytes as one number, written out, and that number cut into the bytes again.
 abbrev pub placed : List ℕ → ℕ
 placed [] = 0
 placed (b ∷ bytes) = placed bytes * 2 ^ 8 + b
@@ -39,7 +39,7 @@ cut-number (b ∷ bytes) h =
     let small : b % 2 ^ 8 < 2 ^ 8 = mod-lt b (pow-pos 8) in
     ap₂ _∷_ (low y 8 small ∙ mod-eq-of-lt (h .0)) (ap (cut (replicate (length bytes) 8)) (high y 8 small) ∙ cut-number bytes (h .1))
 
--- the characters of a number's low bits
+-- The characters of a number's low bits.
 pub bits-length : (width x : ℕ) → length (bitsText width x) ≡ width
 unfolding bitsText
 bits-length width x =
@@ -67,7 +67,7 @@ bits-low width more x =
 bits-own : (width x : ℕ) → bitsText width (x % 2 ^ width) ≡ bitsText width x
 bits-own width x = subst (λ (t : ℕ). bitsText width (x % 2 ^ t) ≡ bitsText width x) (zero-add width) (bits-low width 0 x)
 
--- the states of an image's fuses are the bits of its number
+-- The states of an image's fuses are the bits of its number.
 states-bits : (image : List ℕ) (width fuse : ℕ) → fuse + width ≤ length image * 8
     → statesText image fuse width ≡ bitsText width (number image / 2 ^ fuse)
 unfolding statesText bitsText cut
@@ -76,7 +76,7 @@ states-bits image (suc width) fuse h =
     ap₂ _∷_ (ap decimalDigit (sym (number-bit image fuse (omega arith))))
     (states-bits image width (fuse + 1) (omega arith) ∙ ap (bitsText width) (sym (shr-shr (number image) fuse 1)))
 
--- the columns of an image are those of its number
+-- The columns of an image are those of its number.
 pub columns-bits : (image widths : List ℕ) (fuse : ℕ) → fuse + total widths ≤ length image * 8
     → columnsText image fuse widths ≡ columnsOf (number image / 2 ^ fuse) widths
 unfolding columnsText columnsOf total
@@ -85,7 +85,7 @@ columns-bits image (w ∷ widths) fuse h =
     ap₂ (λ (l m : List ℕ). space ∷ l ++ m) (states-bits image w fuse (omega arith))
     (columns-bits image widths (fuse + w) (omega arith) ∙ ap (λ (y : ℕ). columnsOf y widths) (sym (shr-shr (number image) fuse w)))
 
--- they are given by the bits of the widths alone
+-- They are given by the bits of the widths alone.
 pub columns-same : (widths : List ℕ) (x y : ℕ) → cut widths x ≡ cut widths y → columnsOf x widths ≡ columnsOf y widths
 unfolding columnsOf cut
 columns-same [] x y e = refl
@@ -95,7 +95,7 @@ columns-same (w ∷ widths) x y e =
     ap₂ (λ (l m : List ℕ). space ∷ l ++ m) (sym (bits-own w x) ∙ ap (bitsText w) first ∙ bits-own w y)
     (columns-same widths (x / 2 ^ w) (y / 2 ^ w) rest)
 
--- the bits of an image from a fuse on, in the eight bytes from an index on
+-- The bits of an image from a fuse on, in the eight bytes from an index on.
 bits-at : (image : List ℕ) (fuse p s w : ℕ) → w ≡ join (replicate 8 8) (drop p image) → p + 8 ≤ length image → p * 8 + s ≡ fuse
     → (widths : List ℕ) → s + total widths ≤ 64 → cut widths (w / 2 ^ s) ≡ cut widths (number image / 2 ^ fuse)
 bits-at image fuse p s w e h f widths g =
@@ -113,7 +113,7 @@ pub bits-last : (image : List ℕ) (fuse w : ℕ) → 8 ≤ length image → len
 bits-last image fuse w enough h e widths few g =
     bits-at image fuse (length image - 8) (fuse - (length image - 8) * 8) w e (omega arith) (omega arith) widths (omega arith)
 
--- bytes stored over others that are no more than they are
+-- Bytes stored over others that are no more than they are.
 set-before : (l bytes : List ℕ) (i j b : ℕ) → i < j → set (sets l j bytes) i b ≡ sets (set l i b) j bytes
 set-before l [] i j b h = refl
 set-before l (c ∷ bytes) i j b h =
@@ -132,7 +132,7 @@ pub over : (l bytes old new : List ℕ) (at here : ℕ) → here ≡ at + length
 over l bytes old new at here e h =
     rw (e, sets-append l at bytes old, sets-append l at bytes new) (stored-over (sets l at bytes) old new (at + length bytes) h)
 
--- the bytes of a word, stored one by one
+-- The bytes of a word, stored one by one.
 none-stored : (out : List ℕ) (at word : ℕ) → out ≡ sets out at (cut (replicate 0 8) word)
 unfolding cut
 none-stored out at word = refl
@@ -161,7 +161,7 @@ bytes-of out a b c d e f g h at word ea eb ec ed ee ef eg eh =
     let seven = byte-next out f g at 6 word six eg in
     byte-next out g h at 7 word seven eh
 
--- three runs of bytes, stored one after another
+-- Three runs of bytes, stored one after another.
 pub three-parts : (out one two three a b c : List ℕ) (at p q : ℕ) → one ≡ sets out at a → two ≡ sets one p b → three ≡ sets two q c
     → p ≡ at + length a → q ≡ p + length b → three ≡ sets out at (a ++ b ++ c)
 three-parts out one two three a b c at p q e1 e2 e3 ep eq =
@@ -169,7 +169,7 @@ three-parts out one two three a b c at p q e1 e2 e3 ep eq =
     e3 ∙ rw (e2, e1, place, ep)
     (sym (sets-append out at (a ++ b) c ∙ ap (λ (l : List ℕ). sets l (at + length (a ++ b)) c) (sets-append out at a b)))
 
--- some bytes stored, and then the bytes behind them; the last ones leave nothing behind them
+-- Some bytes stored, and then the bytes behind them; the last ones leave nothing behind them.
 pub stored-next : {before after next bytes new : List ℕ} {at : ℕ} (here : ℕ) → Stored before after at bytes
     → here ≡ at + length bytes → 2 ≤ length new → Stored after next here new → Stored before next at (bytes ++ new)
 stored-next {before} {after} {next} {bytes} {new} {at} here s e h t =

@@ -22,7 +22,7 @@ use Rattle.jedec.specs.Characters.{space, letterL, hexDigit, digitsOf, sevenDig
 use Rattle.jedec_writer.specs.Tokens.{bitsText, columnText, Stored}
 use Rattle.jedec_writer.proofs.Tokens.{Bytes, placed, number-placed, cut-number, bits-length, bits-bytes, bits-append, bits-low}
 
--- seven bits apart, and the character 0 added to each
+-- Seven bits apart, and the character 0 added to each.
 abbrev pub apart : ℕ → ℕ
 apart bits = bitAnd (bits * 0x0002040810204081) 0x0101010101010101
 
@@ -40,7 +40,7 @@ pub seven-bits : (bits low : ℕ) → low ≡ bits % 2 ^ 7 → apart low + 0x303
 unfolding seven-right
 seven-bits bits low e = rw e (eqb-true _ _ (below-all seven-right 128 seven-all (bits % 2 ^ 7) (mod-lt bits (pow-pos 7))))
 
--- the eighth bit added
+-- The eighth bit added.
 eight-right : ℕ → Bool
 eight-right i = eqb (number (bitsText 8 (i % 2 ^ 7)) + i / 2 ^ 7 * 2 ^ 56) (number (bitsText 8 i))
 
@@ -59,12 +59,12 @@ eight-bits bits seven top e f =
         → seven + top * 2 ^ 56 ≡ number (bitsText 8 (bits % 2 ^ 8 % 2 ^ 7)) + bits % 2 ^ 8 / 2 ^ 7 * 2 ^ 56
     e' low high = ap₂ (λ (x y : ℕ). x + y * 2 ^ 56) (e ∙ ap (λ (y : ℕ). number (bitsText 8 y)) low) (f ∙ high)
 
--- the number of some bytes fits in them
+-- The number of some bytes fits in them.
 number-small : (bytes : List ℕ) → number bytes < 2 ^ total (replicate (length bytes) 8)
 unfolding number
 number-small bytes = join-small (replicate (length bytes) 8) bytes
 
--- a space before seven
+-- A space before seven.
 spaced-right : ℕ → Bool
 spaced-right i = eqb (number (bitsText 8 i) * 2 ^ 8 % 2 ^ 64 + 32) (number (space ∷ bitsText 7 i))
 
@@ -81,12 +81,12 @@ module _ (bits seven : ℕ) (e : seven ≡ number (bitsText 8 (bits % 2 ^ 7))) w
   unfolding bitsText cut total
   spaced-small = rw spaced-bits (number-small (space ∷ bitsText 7 (bits % 2 ^ 7)))
 
--- the bytes of the code's words that are always the same
+-- The bytes of the code's words that are always the same.
 blank : cut (replicate 1 8) 0x20 ≡ space ∷ []
 unfolding cut
 blank = refl
 
--- the characters of more bits than a column has
+-- The characters of more bits than a column has.
 column-of : (width k word : ℕ) → width ≤ k
     → bitsText k (word % 2 ^ k) ≡ bitsText width word ++ bitsText (k - width) (word % 2 ^ k / 2 ^ width)
 column-of width k word h =
@@ -98,7 +98,7 @@ column-of width k word h =
     ap (λ (n : ℕ). bitsText n x) (sym whole) ∙ bits-append width (k - width) x
     ∙ ap (λ (l : List ℕ). l ++ bitsText (k - width) (x / 2 ^ width)) own
 
--- a column of eight bits from a space and a word, and a narrower one from one word
+-- A column of eight bits from a space and a word, and a narrower one from one word.
 pub wide-column : (out one two : List ℕ) (at width word r : ℕ) → width ≡ 8 → r ≡ number (bitsText 8 (word % 2 ^ 8))
     → one ≡ sets out at (cut (replicate 1 8) 0x20) → two ≡ sets one (at + 1) (cut (replicate 8 8) r)
     → Stored out two at (columnText width word)
@@ -126,13 +126,13 @@ narrow-column out two at width word r h g n e e2 =
       holds = e2 ∙ rw again (ap (λ (l : List ℕ). sets out at (space ∷ l)) (column-of width 7 word (omega arith)));
     }
 
--- the digits of a fuse
+-- The digits of a fuse.
 start-bytes : (fuse : ℕ) → Bytes (letterL ∷ sevenDigits fuse)
 unfolding digitsOf
 start-bytes fuse =
     (omega arith, (omega arith, (omega arith, (omega arith, (omega arith, (omega arith, (omega arith, (omega arith, tt))))))))
 
--- six digits in twos, each two taken apart
+-- Six digits in twos, each two taken apart.
 taken-apart : (a b c d e f : ℕ)
     → ((f * 10 + e) * 0x10000 + (d * 10 + c) * 0x100000000 + (b * 10 + a) * 0x1000000000000) * 256
     - (f * 0x10000 + d * 0x100000000 + b * 0x1000000000000) * 2559 + 0x303030303030304C
@@ -144,7 +144,7 @@ seven-placed : (a b c d e f g : ℕ) → g ≡ 0
     ≡ placed (76 ∷ (48 + g) ∷ (48 + f) ∷ (48 + e) ∷ (48 + d) ∷ (48 + c) ∷ (48 + b) ∷ (48 + a) ∷ [])
 seven-placed a b c d e f g h = rw h (omega arith)
 
--- the digits of a number below a million, lowest first, and its digits in twos
+-- The digits of a number below a million, lowest first, and its digits in twos.
 module _ (x : ℕ) (h : x < 1000000) where
   high-digits : x / 10000 ≡ x / 10 / 10 / 10 / 10 / 10 % 10 * 10 + x / 10 / 10 / 10 / 10 % 10
   high-digits = omega arith
@@ -178,7 +178,7 @@ divided x h =
     (taken-apart a b c d e f ∙ seven-placed a b c d e f (x / 10 / 10 / 10 / 10 / 10 / 10 % 10) (no-more x h)
     ∙ sym (number-placed (letterL ∷ sevenDigits x) (start-bytes x)))
 
--- a tenth of each two, by one product of all
+-- A tenth of each two, by one product of all.
 tenth-right : ℕ → Bool
 tenth-right i = eqb (bitAnd (i * 103) 0x3C00) (i / 10 * 1024)
 
@@ -215,7 +215,7 @@ tens-of x h =
     tenths (x / 10000) ((x - x / 10000 * 10000) / 100) (x - x / 10000 * 10000 - (x - x / 10000 * 10000) / 100 * 100) (omega arith)
     (omega arith) (omega arith)
 
--- the digits in twos by products: with x = 10000 h + 100 m + l, the products are told by h, m and l
+-- The digits in twos by products: with x = 10000 h + 100 m + l, the products are told by h, m and l.
 module _ (h m l : ℕ) (hs : h < 100) (ms : m < 100) (ls : l < 100) where
   first-part : ℕ
   first-part = 2704 * h + 42949700 * m + 429497 * l
@@ -323,7 +323,7 @@ pub start-small : (x : ℕ) → number (letterL ∷ sevenDigits x) < 2 ^ 64
 unfolding digitsOf total
 start-small x = number-small (letterL ∷ sevenDigits x)
 
--- four hex digits
+-- Four hex digits.
 pub hex-low : (x : ℕ) → x ≤ 9 → 48 + x ≡ hexDigit x
 hex-low x h = rw (le-leb x 9 h)
 

@@ -15,16 +15,16 @@ use Rattle.part.specs.declared.Device.{Device}
 use Rattle.image.specs.Bits.{tabulate}
 use Rattle.jedec.specs.WrittenText.{textWith}
 
--- the widths of the columns of a line, from a column on
+-- The widths of the columns of a line, from a column on.
 abbrev pub columnsFrom : (ℕ → ℕ) → ℕ → List ℕ
 columnsFrom width first = tabulate 5 (λ column. width (first + column))
 
--- the lines of a row of the main area, and of the wire-AND area
+-- The lines of a row of the main area, and of the wire-AND area.
 unfoldable pub rowLines : (main : Bool) → List (List ℕ)
 rowLines true = columnsFrom mainWidth 0 ∷ columnsFrom mainWidth 5 ∷ columnsFrom mainWidth 10 ∷ []
 rowLines false = columnsFrom wireAndWidth 0 ∷ []
 
--- a block: the rows of its main area, then those of each of its subareas
+-- A block: the rows of its main area, then those of each of its subareas.
 unfoldable pub blockLines : Device → List (List ℕ)
 blockLines d = repeat mainRows (rowLines true) ++ repeat (blocksOf d * wireAndRows) (rowLines false)
 
@@ -34,12 +34,12 @@ pattern d = repeat (blocksOf d) (blockLines d)
 unfoldable pub textOf : Device → (image : List ℕ) → List ℕ
 textOf d image = textWith (fuseCount d) (pattern d) image
 
--- the bytes written, for a room of so many bytes
-unfoldable pub toText : Device → (image : List ℕ) → (room : ℕ) → Outcome ℕ
-toText d image room =
+-- The bytes written, for a buffer of so many bytes.
+unfoldable pub toText : Device → (image : List ℕ) → (buffer : ℕ) → Outcome ℕ
+toText d image buffer =
     ifKnown d (ifLength (length image) (imageBytes d)
-    (cond (ltb room (textBytes d)) (refused 12 (textBytes d)) (accepted (textBytes d))))
+    (cond (ltb buffer (textBytes d)) (refused 12 (textBytes d)) (accepted (textBytes d))))
 
--- the room with the text in it: "Bytes of the lent room beyond that stay"
-abbrev pub withText : Device → (image room : List ℕ) → List ℕ
-withText d image room = textOf d image ++ drop (textBytes d) room
+-- The buffer with the text in it: "Bytes of the lent room beyond that stay".
+abbrev pub withText : Device → (image buffer : List ℕ) → List ℕ
+withText d image buffer = textOf d image ++ drop (textBytes d) buffer

@@ -9,29 +9,29 @@ use Rattle.cells.specs.Cells.{cut, total}
 use Rattle.part.specs.Device.{lineBytes}
 use Rattle.jedec.specs.Characters.{space, decimalDigit}
 
--- the low bits of a number in characters, lowest first
+-- The low bits of a number in characters, lowest first.
 unfoldable pub bitsText : (width : ℕ) → ℕ → List ℕ
 bitsText width x = map decimalDigit (cut (replicate width 1) x)
 
--- a column of a line
+-- A column of a line.
 abbrev pub columnText : (width : ℕ) → ℕ → List ℕ
 columnText width x = space ∷ bitsText width x
 
--- the columns of a line
+-- The columns of a line.
 unfoldable pub columnsOf : ℕ → List ℕ → List ℕ
 columnsOf x [] = []
 columnsOf x (w ∷ widths) = columnText w x ++ columnsOf (x / 2 ^ w) widths
 
--- the widths that columns have
+-- The widths that columns have.
 abbrev pub Wide : ℕ → Type 0
 Wide width = (6 ≤ width) × (width ≤ 8)
 
--- the bytes of some lines
+-- The bytes of some lines.
 unfoldable pub linesBytes : List (List ℕ) → ℕ
 linesBytes [] = 0
 linesBytes (line ∷ lines) = lineBytes (length line) (total line) + linesBytes lines
 
--- some bytes stored from an index on, and at most two more behind them, which what is stored next replaces
+-- Some bytes stored from an index on, and at most two more behind them, which what is stored next replaces.
 pub record Stored (before after : List ℕ) (at : ℕ) (bytes : List ℕ) : Type 0 where
   pub more : List ℕ
   pub few : length more ≤ 2

@@ -8,7 +8,8 @@ use part::Device;
 use part::NumberAnswer;
 use part::Refusal;
 
-pub mod internal;
+pub mod lines;
+pub mod text;
 
 // The text of an image, put at the start of `text`: how many bytes it has. Refused: 1, 2, 12.
 pub fn image_to_text(d: Device, image: &[u8], text: &mut [u8]) -> NumberAnswer
@@ -18,13 +19,13 @@ pub fn image_to_text(d: Device, image: &[u8], text: &mut [u8]) -> NumberAnswer
     if !part::is_known(d) {
         return NumberAnswer::Refused(Refusal::UnknownDevice);
     }
-    if image.len() != part::internal::image_bytes(d) as usize {
+    if image.len() != part::geometry::image_bytes(d) as usize {
         return NumberAnswer::Refused(Refusal::WrongLength);
     }
-    let needed = part::internal::text_bytes(d);
+    let needed = part::geometry::text_bytes(d);
     if text.len() < needed as usize {
-        return NumberAnswer::Refused(Refusal::RoomTooShort(needed));
+        return NumberAnswer::Refused(Refusal::BufferTooShort(needed));
     }
-    internal::text_out(d, image, text);
+    text::text_out(d, image, text);
     NumberAnswer::Number(needed)
 }

@@ -16,9 +16,9 @@ use Rattle.part.specs.declared.Device.{Device}
 use Rattle.part.specs.declared.Place.{Place}
 use Rattle.part.proofs.Facts.{tests, and-iff}
 use Rattle.part.proofs.Fuses.{at-fuse, of-place}
-use Rattle.part.proofs.Addresses.{again, valid-iff}
+use Rattle.part.proofs.ByteAddresses.{again, valid-iff}
 
--- fuse, address and bit belong to one place of a known device
+-- Fuse, address and bit belong to one place of a known device.
 pub record SamePlace (d : Device) (fuse address bit : ℕ) : Type 0 where
   pub device : known d ≡ true
   pub place : Place
@@ -27,12 +27,12 @@ pub record SamePlace (d : Device) (fuse address bit : ℕ) : Type 0 where
   pub its-address : addressOfByte (place .byte) ≡ address
   pub its-bit : place .bit ≡ bit
 
--- what is accepted under a test: the test passed
+-- What is accepted under a test: the test passed.
 pub passed : {A : Type 0} (t : Bool) (x : Outcome A) (k v : ℕ) {b : A} → cond t x (refused k v) ≡ accepted b → (t ≡ true) × (x ≡ accepted b)
 passed true x k v e = (refl, e)
 passed false x k v e = let z : _≡_ {A = ℕ} 0 1 = cc in absurd (omega arith)
 
--- the result of an accepted answer
+-- The result of an accepted answer.
 pub result : {A : Type 0} {x y : A} → _≡_ {A = Outcome A} (accepted x) (accepted y) → x ≡ y
 result e = cc
 
@@ -84,17 +84,17 @@ module _ (d : Device) (fuse address bit : ℕ) where
       let ok : valid d address ≡ true = valid-iff d (s .device) address .1 (s .place .byte, facts .0, s .its-address) in
       rw (s .device, ok, named, ← s .its-bit, facts .1, s .its-fuse)
 
--- the address of a fuse is accepted exactly where the three belong to one place ..
+-- The address of a fuse is accepted exactly where the three belong to one place.
 pub address-of-fuse-iff : (d : Device) (fuse address bit : ℕ)
     → (addressOfFuse d fuse ≡ accepted (address, bit)) ↔ SamePlace d fuse address bit
 address-of-fuse-iff d fuse address bit = (address-to d fuse address bit, address-from d fuse address bit)
 
--- .. and so is the fuse of an address and a bit
+-- So is the fuse of an address and a bit.
 pub fuse-of-address-iff : (d : Device) (fuse address bit : ℕ)
     → (fuseOfAddress d address bit ≡ accepted fuse) ↔ SamePlace d fuse address bit
 fuse-of-address-iff d fuse address bit = (fuse-to d fuse address bit, fuse-from d fuse address bit)
 
--- the two conversions are inverse to each other, for every device, fuse, address and bit
+-- The two conversions are inverse to each other, for every device, fuse, address and bit.
 pub inverse : (d : Device) (fuse address bit : ℕ)
     → (addressOfFuse d fuse ≡ accepted (address, bit)) ↔ (fuseOfAddress d address bit ≡ accepted fuse)
 inverse d fuse address bit = (

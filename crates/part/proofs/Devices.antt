@@ -11,7 +11,7 @@ use Rattle.part.specs.Device.{isBlockCount, isClass, known, inBlock, inD
 use Rattle.part.specs.declared.Device.{Device}
 use Rattle.part.proofs.Facts.{and-iff, either, by-cases}
 
--- what holds of the six counts holds of every block count
+-- What holds of the six counts holds of every block count.
 pub by-count : (P : ℕ → Type 0) → P 2 → P 4 → P 6 → P 8 → P 12 → P 16 → (n : ℕ) → isBlockCount n ≡ true → P n
 by-count P p2 p4 p6 p8 p12 p16 n h =
     either (eqb n 2 || eqb n 4 || eqb n 6 || eqb n 8 || eqb n 12) (eqb n 16) h
@@ -33,14 +33,14 @@ blocks-small d h =
     by-count (λ n. n ≤ 16) (omega arith) (omega arith) (omega arith) (omega arith) (omega arith) (omega arith) (d .blocks)
     (known-count d h)
 
--- what the code's test says of the device
+-- What the code's test says of the device.
 pub is-known : (d : Device) (t : Bool) → t ≡ known d → not t ≡ false → known d ≡ true
 is-known d t e h = sym e ∙ not-false t h
 
 pub is-unknown : (d : Device) (t : Bool) → t ≡ known d → not t ≡ true → known d ≡ false
 is-unknown d t e h = sym e ∙ not-true t h
 
--- what a known device has of so much in each main area and subarea
+-- What a known device has of so much in each main area and subarea.
 pub in-block-small : (d : Device) (main subarea : ℕ) → known d ≡ true → inBlock d main subarea ≤ main + 16 * subarea
 in-block-small d main subarea h = omega (arith, mul-le-mul-right subarea (blocks-small d h))
 
@@ -48,12 +48,12 @@ pub in-device-small : (d : Device) (main subarea : ℕ) → known d ≡ true
     → inDevice d main subarea ≤ 16 * (main + 16 * subarea)
 in-device-small d main subarea h = mul-le-mul (blocks-small d h) (in-block-small d main subarea h)
 
--- the fuses of a known device are at most those of sixteen blocks
+-- The fuses of a known device are at most those of sixteen blocks.
 pub fuses-small : (d : Device) → known d ≡ true → fuseCount d ≤ 290304
 unfolding fuseCount
 fuses-small d h = in-device-small d 7776 648 h
 
--- the fuses of a known device fill its image bytes
+-- The fuses of a known device fill its image bytes.
 pub image-whole : (d : Device) → known d ≡ true → fuseCount d ≡ imageBytes d * 8
 unfolding fuseCount imageBytes
 image-whole d h =
@@ -67,7 +67,7 @@ digits-small x =
     small : (k : ℕ) {a b : ℕ} → a ≤ 7 → b ≤ 7 → cond (ltb x k) a b ≤ 7
     small k p q = by-cases (λ y. y ≤ 7) x k (λ l. p) (λ g. q)
 
--- the last of the six counts, by exclusion
+-- The last of the six counts, by exclusion.
 pub sixteen-blocks : (d : Device) → known d ≡ true → (d .blocks ≡ 2 → ⊥) → (d .blocks ≡ 4 → ⊥) → (d .blocks ≡ 6 → ⊥) → (d .blocks ≡ 8 → ⊥)
     → (d .blocks ≡ 12 → ⊥) → d .blocks ≡ 16
 sixteen-blocks d h a b c e f =
@@ -89,7 +89,7 @@ sixteen-blocks d h a b c e f =
 pub scaled-for : (d : Device) (k r : ℕ) → d .blocks ≡ k → r ≡ 2 ^ 34 / (7776 + k * 648) + 1 → r ≡ 2 ^ 34 / inBlock d 7776 648 + 1
 scaled-for d k r e f = rw e f
 
--- a fuse's block by a product: the divisors are so few that each is computed
+-- A fuse's block by a product: the divisors are so few that each is computed.
 block-by-product : (f n : ℕ) → isBlockCount n ≡ true → f < n * (7776 + n * 648)
     → f * (2 ^ 34 / (7776 + n * 648) + 1) / 2 ^ 34 ≡ f / (7776 + n * 648)
 block-by-product f =
@@ -115,7 +115,7 @@ module _ (d : Device) (f r : ℕ) (h : known d ≡ true) (l : f < fuseCount d) (
   pub block-small : f * r / 2 ^ 34 < 2 ^ 32
   block-small = omega (arith, product-small)
 
--- what a quotient leaves, as of a fuse in its block
+-- What a quotient leaves, as of a fuse in its block.
 module _ (f b p q : ℕ) (e : b ≡ f / q) (g : p ≡ q) where
   pub times-fits : b * p ≤ f
   times-fits = let w : f / q * q + f % q ≡ f = div-add-mod' f q in rw (e, g) (omega arith)

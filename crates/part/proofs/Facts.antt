@@ -21,7 +21,7 @@ and-iff false b = (λ h. absurd (true≢false (sym h)), λ h. h .0)
 
 pub ruleset tests = (and-iff, lt-iff, eq-iff)
 
--- a number is below another, or not
+-- A number is below another, or not.
 pub compared : (x y : ℕ) {P : Type 0} → (x < y → P) → (y ≤ x → P) → P
 compared x y {P} less more = go (ltb x y) refl
   where
@@ -29,18 +29,18 @@ compared x y {P} less more = go (ltb x y) refl
     go true e = less (ltb-true x y e)
     go false e = more (ltb-false x y e)
 
--- what holds of both cases of a test holds of the choice
+-- What holds of both cases of a test holds of the choice.
 pub by-cases : {A : Type 0} (P : A → Type 0) (x y : ℕ) {a b : A} → (x < y → P a) → (y ≤ x → P b) → P (cond (ltb x y) a b)
 by-cases P x y less more = compared x y (λ l. rw (lt-ltb x y l) (less l)) (λ g. rw (le-ltb x y g) (more g))
 
--- a test that is an "or" holds by one of its sides
+-- A test that is an "or" holds by one of its sides.
 pub either : (a b : Bool) {P : Type 0} → (a || b) ≡ true → (a ≡ true → P) → (b ≡ true → P) → P
 either true b h l r = l refl
 either false b h l r = r h
 
--- what one turn and the turns that are left take
-pub room : (left each here end : ℕ) → 0 < left → here + left * each ≤ end → (here + each ≤ end) × (here + each + (left - 1) * each ≤ end)
-room left each here end h g =
+-- What one turn and the turns that are left take.
+pub space : (left each here end : ℕ) → 0 < left → here + left * each ≤ end → (here + each ≤ end) × (here + each + (left - 1) * each ≤ end)
+space left each here end h g =
     let more : left ≡ suc (left - 1) = omega arith in
     let product : left * each ≡ (left - 1) * each + each = ap (λ (k : ℕ). k * each) more ∙ suc-mul (left - 1) each in
     omega arith

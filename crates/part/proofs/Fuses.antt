@@ -18,7 +18,7 @@ use Rattle.part.proofs.Facts.{by-cases, tests}
 use Rattle.part.proofs.Devices.{blocks-small}
 use Rattle.part.proofs.Rows.{split-row, in-row, join-row}
 
--- a fuse below the count lies at a place that the device has, and its number is that place's
+-- A fuse below the count lies at a place that the device has, and its number is that place's.
 abbrev pub Lies : Device → ℕ → Place → Type 0
 Lies d fuse p = (hasPlace d p ≡ true) × (fuseOfPlace d p ≡ fuse)
 
@@ -41,12 +41,12 @@ at-fuse d fuse h =
     ((rest - 7776) % 648 % 36) (omega arith)
     (λ column bit hc hb e. (simp tests (omega arith), omega arith)))
 
--- what stands at `rest` of a block
+-- What stands at `rest` of a block.
 in-block : (d : Device) (block rest : ℕ) → rest < blockFuses d → placeOfFuse d (block * blockFuses d + rest) ≡ placeInBlock block rest
 unfolding placeOfFuse
 in-block d block rest h = rw (digits-div block h, digits-mod block h)
 
--- the fuse of a place that the device has is below the count, and the place is found again
+-- The fuse of a place that the device has is below the count, and the place is found again.
 abbrev pub Found : Device → Place → Type 0
 Found d p = (fuseOfPlace d p < fuseCount d) × (placeOfFuse d (fuseOfPlace d p) ≡ p)
 
@@ -97,7 +97,7 @@ pub of-place : (d : Device) (p : Place) → hasPlace d p ≡ true → Found d p
 unfolding hasPlace
 of-place d p h = let facts = simp tests at h in in-byte d (p .byte) (p .bit) (facts .0) (facts .1)
 
--- the place of a fuse, by what is left of it in its block
+-- The place of a fuse, by what is left of it in its block.
 module _ (d : Device) (f block rest : ℕ) (e : block ≡ f / blockFuses d) (g : rest ≡ f % blockFuses d) (p : Place) where
   pub place-in-main : p ≡ placeInMain block rest → rest < mainFuses → p ≡ placeOfFuse d f
   unfolding placeOfFuse

@@ -30,23 +30,25 @@ use Rattle.part.specs.declared.Place.{Place}
 use Rattle.part.specs.declared.BytePlace.{BytePlace}
 use Rattle.part.specs.declared.BytePlace.the-variants.{Main, WireAnd}
 use Rattle.part.specs.declared.Refusal.{Refusal}
-use Rattle.part.specs.declared.Refusal.the-variants.{UnknownDevice, WrongLength, NoSuchFuse, NoSuchSetting, NoSuchValue, StrayBit}
+use Rattle.part.specs.declared.Refusal.the-variants.{UnknownDevice, WrongLength, NoSuchFuse, NoSuchSetting}
+use Rattle.part.specs.declared.Refusal.the-variants.{NoSuchValue, BitAboveWidth}
 use Rattle.part.specs.declared.Refusal.the-variants.{BadForm, WrongFuseCount, MisplacedFuseList, WrongFuseSum, WrongTransmissionSum}
-use Rattle.part.specs.declared.Refusal.the-variants.{RoomTooShort}
+use Rattle.part.specs.declared.Refusal.the-variants.{BufferTooShort}
 use Rattle.part.proofs.Facts.{and-iff, by-cases}
-use Rattle.part.proofs.Addresses.{again, address-small}
+use Rattle.part.proofs.ByteAddresses.{again, address-small}
 use Rattle.part.proofs.Fuses.{of-place}
 use Rattle.part.proofs.Conversions.{address-of-fuse-iff}
 pub use Rattle.part.proofs.Conversions.{inverse}
-pub use Rattle.part.proofs.Addresses.{valid-iff}
+pub use Rattle.part.proofs.ByteAddresses.{valid-iff}
 pub use Rattle.part.proofs.Readouts.{each-valid, ascending, none-left-out}
 
--- the refusal of a number and a value
+-- The refusal of a number and a value.
 refusal : ℕ → ℕ → Refusal
 refusal k v =
     cond (eqb k 1) UnknownDevice (cond (eqb k 2) WrongLength (cond (eqb k 3) NoSuchFuse (cond (eqb k 4) NoSuchSetting
-    (cond (eqb k 5) NoSuchValue (cond (eqb k 6) (StrayBit v) (cond (eqb k 7) (BadForm v) (cond (eqb k 8) (WrongFuseCount v) (cond (eqb k 9)
-    (MisplacedFuseList v) (cond (eqb k 10) (WrongFuseSum v) (cond (eqb k 11) (WrongTransmissionSum v) (RoomTooShort v)))))))))))
+    (cond (eqb k 5) NoSuchValue (cond (eqb k 6) (BitAboveWidth v) (cond (eqb k 7) (BadForm v)
+    (cond (eqb k 8) (WrongFuseCount v) (cond (eqb k 9) (MisplacedFuseList v)
+    (cond (eqb k 10) (WrongFuseSum v) (cond (eqb k 11) (WrongTransmissionSum v) (BufferTooShort v)))))))))))
 
 found : (r : Refusal) → refusal (refusalNumber r) (refusalValue r) ≡ r
 unfolding refusal
@@ -55,13 +57,13 @@ found WrongLength = refl
 found NoSuchFuse = refl
 found NoSuchSetting = refl
 found NoSuchValue = refl
-found (StrayBit v) = refl
+found (BitAboveWidth v) = refl
 found (BadForm v) = refl
 found (WrongFuseCount v) = refl
 found (MisplacedFuseList v) = refl
 found (WrongFuseSum v) = refl
 found (WrongTransmissionSum v) = refl
-found (RoomTooShort v) = refl
+found (BufferTooShort v) = refl
 
 pub refusal-determined : (r s : Refusal) → refusalNumber r ≡ refusalNumber s → refusalValue r ≡ refusalValue s → r ≡ s
 refusal-determined r s e f = sym (found r) ∙ ap₂ refusal e f ∙ found s
@@ -72,13 +74,13 @@ number-small WrongLength = omega arith
 number-small NoSuchFuse = omega arith
 number-small NoSuchSetting = omega arith
 number-small NoSuchValue = omega arith
-number-small (StrayBit v) = omega arith
+number-small (BitAboveWidth v) = omega arith
 number-small (BadForm v) = omega arith
 number-small (WrongFuseCount v) = omega arith
 number-small (MisplacedFuseList v) = omega arith
 number-small (WrongFuseSum v) = omega arith
 number-small (WrongTransmissionSum v) = omega arith
-number-small (RoomTooShort v) = omega arith
+number-small (BufferTooShort v) = omega arith
 
 pub each-fuse : (d : Device) → known d ≡ true → (fuse : ℕ) → fuse < fuseCount d
     → (address : ℕ) × (bit : ℕ) × (addressOfFuse d fuse ≡ accepted (address, bit))

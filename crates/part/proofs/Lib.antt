@@ -5,7 +5,7 @@ pub mod Tables
 pub mod Sums
 pub mod Rows
 pub mod Fuses
-pub mod Addresses
+pub mod ByteAddresses
 pub mod Devices
 pub mod Conversions
 pub mod Checks

@@ -15,9 +15,9 @@ use Rattle.part.specs.declared.BytePlace.{BytePlace}
 use Rattle.part.specs.declared.BytePlace.the-variants.{Main, WireAnd}
 use Rattle.part.proofs.Facts.{compared, by-cases, tests}
 use Rattle.part.proofs.Devices.{blocks-small}
-use Rattle.part.proofs.Addresses.{valid-iff}
+use Rattle.part.proofs.ByteAddresses.{valid-iff}
 
--- the byte at an index is one of the device, and has that index
+-- The byte at an index is one of the device, and has that index.
 abbrev pub Stands : Device → ℕ → BytePlace → Type 0
 Stands d index byte = (hasByte d byte ≡ true) × (indexOfByte d byte ≡ index)
 
@@ -33,7 +33,7 @@ at-index d index h =
     (λ l. (simp tests (omega arith), omega arith))
     (λ g. (simp tests (omega arith), omega arith))
 
--- the index of a byte of the device is below the number of bytes, and the byte is found again
+-- The index of a byte of the device is below the number of bytes, and the byte is found again.
 abbrev pub Indexed : Device → BytePlace → Type 0
 Indexed d byte = (indexOfByte d byte < readoutBytes d) × (byteOfIndex d (indexOfByte d byte) ≡ byte)
 
@@ -64,7 +64,7 @@ of-byte d (WireAnd block subarea row column) h =
           ∙ rw (past, back, digits-div subarea fits, digits-mod subarea fits, digits-div row short, digits-mod row short),
     )
 
--- numbers of two digits stand in the same order at any radix that holds the low digits, if those stand in the same order
+-- Numbers of two digits stand in the same order at any radix that holds the low digits, if those stand in the same order.
 same-order : (q q' : ℕ) {s s' t t' : ℕ} (c d : ℕ) → s < c → s' < c → t < d → t' < d → (s < s' → t < t')
     → q * c + s < q' * c + s' → q * d + t < q' * d + t'
 same-order q q' c d hs hs' ht ht' low h =
@@ -80,7 +80,7 @@ same-order q q' c d hs hs' ht ht' low h =
     let less : _ < _ = low (omega arith) in
     omega arith))
 
--- the address of a byte less that of its block: in the main area, in the wire-AND area, in both
+-- The address of a byte less that of its block: in the main area, in the wire-AND area, in both.
 abbrev inMain : ℕ → ℕ
 inMain rest = rest / 15 * 32 + (rest % 15 / 5 * 8 + rest % 15 % 5)
 
@@ -99,7 +99,7 @@ address-of block rest = go (ltb rest 1080)
     go true = omega arith
     go false = omega arith
 
--- columns of five and eight
+-- Columns of five and eight.
 by-five : (s s' : ℕ) → s < s' → s / 5 * 8 + s % 5 < s' / 5 * 8 + s' % 5
 by-five s s' h = same-order (s / 5) (s' / 5) 5 8 (omega arith) (omega arith) (omega arith) (omega arith) (λ l. l) (omega arith)
 
@@ -130,7 +130,7 @@ inside-small : (s : ℕ) → s < mainBytes + 16 * subareaBytes → inside s < 81
 inside-small s h =
     by-cases (λ x. x < 8192) s 1080 (λ l. omega (arith, main-small s l)) (λ g. omega (arith, wire-and-small (s - 1080) (omega arith)))
 
--- the addresses of the bytes ascend
+-- The addresses of the bytes ascend.
 pub ascending : (d : Device) → known d ≡ true → (i j : ℕ) → i < j → addressOfByte (byteOfIndex d i) < addressOfByte (byteOfIndex d j)
 unfolding byteOfIndex
 ascending d k i j h =
@@ -145,11 +145,11 @@ ascending d k i j h =
     (inside-order (i % B) (j % B))
     (omega (arith, div-add-mod' i B, div-add-mod' j B)))
 
--- each is valid ..
+-- Each is valid.
 pub each-valid : (d : Device) → known d ≡ true → (index : ℕ) → index < readoutBytes d → valid d (addressOfByte (byteOfIndex d index)) ≡ true
 each-valid d k index h = valid-iff d k (addressOfByte (byteOfIndex d index)) .1 (byteOfIndex d index, at-index d index h .0, refl)
 
--- .. and no valid address is left out
+-- No valid address is left out.
 pub none-left-out : (d : Device) → known d ≡ true → (address : ℕ) → valid d address ≡ true
     → (index : ℕ) × (index < readoutBytes d) × (addressOfByte (byteOfIndex d index) ≡ address)
 none-left-out d k address v =

@@ -13,7 +13,7 @@ use Rattle.part.specs.Place.{columnInRow, bitInRow}
 use Rattle.part.proofs.Facts.{compared}
 
 module _ (wide narrow : ℕ) where
-  -- what holds of a wide and of a narrow column holds of every column
+  -- What holds of a wide and of a narrow column holds of every column.
   by-column : (Q : ℕ → ℕ → Type 0) (column : ℕ) → (column < wide → Q 8 (column * 8))
       → (wide ≤ column → Q narrow (wide * 8 + (column - wide) * narrow))
       → Q (columnWidth wide narrow column) (columnStart wide narrow column)
@@ -23,13 +23,13 @@ module _ (wide narrow : ℕ) where
       go true e = low (ltb-true column wide e)
       go false e = high (ltb-false column wide e)
 
-  -- no column starts later than it would if all were of 8 bits
+  -- No column starts later than it would if all were of 8 bits.
   pub start-le : (column : ℕ) → narrow ≤ 8 → columnStart wide narrow column ≤ column * 8
   start-le column h =
       by-column (λ w s. s ≤ column * 8) column (λ l. omega arith) (λ g. omega (arith, mul-le-mul-left (column - wide) h))
 
 module _ (wide narrow more : ℕ) (positive : 0 < narrow) where
-  -- a bit of a row is the bit of a column
+  -- A bit of a row is the bit of a column.
   pub split-row : (Q : ℕ → ℕ → Type 0) (rest : ℕ) → rest < wide * 8 + more * narrow
       → ((column bit : ℕ) → column < wide + more → bit < columnWidth wide narrow column
       → columnStart wide narrow column + bit ≡ rest → Q column bit)
@@ -49,7 +49,7 @@ module _ (wide narrow more : ℕ) (positive : 0 < narrow) where
       (k (wide + q) ((rest - wide * 8) % narrow) (omega arith) (rw past (mod-lt (rest - wide * 8) positive))
       (rw (past, back) (omega (arith, div-add-mod' (rest - wide * 8) narrow)))))
 
-  -- the bits of a column are bits of the row
+  -- The bits of a column are bits of the row.
   pub in-row : (column bit : ℕ) → column < wide + more → bit < columnWidth wide narrow column
       → columnStart wide narrow column + bit < wide * 8 + more * narrow
   in-row column bit h =
@@ -57,7 +57,7 @@ module _ (wide narrow more : ℕ) (positive : 0 < narrow) where
       (λ l b. omega arith)
       (λ g b. omega (arith, digits-lt {q = column - wide} {m = more} {r = bit} {c = narrow} (omega arith) b))
 
-  -- and the bit of a column is found again
+  -- And the bit of a column is found again.
   pub join-row : (column bit : ℕ) → bit < columnWidth wide narrow column
       → (columnInRow wide narrow (columnStart wide narrow column + bit) ≡ column)
       × (bitInRow wide narrow (columnStart wide narrow column + bit) ≡ bit)

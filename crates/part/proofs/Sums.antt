@@ -14,7 +14,7 @@ unfolding sum
 sum-same f g zero e = refl
 sum-same f g (suc n) e = ap₂ _+_ (sum-same f g n (λ i h. e i (omega arith))) (e n (omega arith))
 
--- what is the same at each number
+-- What is the same at each number.
 pub sum-all : (f : ℕ → ℕ) (c n : ℕ) → ((i : ℕ) → i < n → f i ≡ c) → sum f n ≡ n * c
 unfolding sum
 sum-all f c zero e = omega arith

@@ -6,7 +6,7 @@ use Prim.Native.Nat.{ℕ, zero, suc, _<_}
 use native.Mathlib.Omega.{arith}
 use Rattle.part.proofs.Facts.{and-iff, compared}
 
--- a test passes for every number below n
+-- A test passes for every number below n.
 abbrev pub allBelow : (ℕ → Bool) → ℕ → Bool
 allBelow test zero = true
 allBelow test (suc n) = test n && allBelow test n
@@ -17,7 +17,7 @@ below-all test (suc n) h i l =
     let both = and-iff (test n) (allBelow test n) .0 h in
     compared i n (λ less. below-all test n (both .1) i less) (λ more. let same : i ≡ n = omega arith in rw same (both .0))
 
--- .. and the same for what is not a test: a proof for every number below n
+-- The same for what is not a test: a proof for every number below n.
 abbrev pub Each : (ℕ → Type 0) → ℕ → Type 0
 Each Q zero = Unit {0}
 Each Q (suc n) = Q n × Each Q n

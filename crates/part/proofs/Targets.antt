@@ -11,11 +11,11 @@ use Rattle.part.specs.Convert.{ifKnown, ifLength}
 use Rattle.part.specs.declared.Device.{Device}
 use Rattle.part.proofs.Checks.{no-device, the-device, other-length, the-length}
 
--- an outcome after the tests of a device and of two lengths
+-- An outcome after the tests of a device and of two lengths.
 abbrev pub tested : {A : Type 0} → Device → (l x m y : ℕ) → Outcome A → Outcome A
 tested d l x m y inner = ifKnown d (ifLength l x (ifLength m y inner))
 
--- an answer that is the outcome's, and what it leaves in the target
+-- An answer that is the outcome's, and what it leaves in the target.
 pub says : {A : Type 0} (o answer : Outcome A) (result before : List ℕ) → answer ≡ o
     → Written o answer result before (written answer result before)
 says o answer result before e = record { answers = e; holds = ap (λ (x : Outcome _). written x result before) e }

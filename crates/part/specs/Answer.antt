@@ -5,9 +5,9 @@ use Rattle.part.specs.Outcome.{Outcome}
 use Rattle.part.specs.Outcome.Outcome.{accepted, refused}
 use Rattle.part.specs.declared.Refusal.{Refusal}
 use Rattle.part.specs.declared.Refusal.the-variants.{UnknownDevice, WrongLength, NoSuchFuse, NoSuchSetting}
-use Rattle.part.specs.declared.Refusal.the-variants.{NoSuchValue, StrayBit, BadForm, WrongFuseCount}
+use Rattle.part.specs.declared.Refusal.the-variants.{NoSuchValue, BitAboveWidth, BadForm, WrongFuseCount}
 use Rattle.part.specs.declared.Refusal.the-variants.{MisplacedFuseList, WrongFuseSum, WrongTransmissionSum}
-use Rattle.part.specs.declared.Refusal.the-variants.{RoomTooShort}
+use Rattle.part.specs.declared.Refusal.the-variants.{BufferTooShort}
 use Rattle.part.specs.declared.Sizes.{Sizes}
 use Rattle.part.specs.declared.SizesAnswer.{SizesAnswer}
 use Rattle.part.specs.declared.SizesAnswer.the-variants as sizes
@@ -20,41 +20,41 @@ use Rattle.part.specs.declared.DoneAnswer.the-variants as done
 use Rattle.part.specs.declared.NumberAnswer.{NumberAnswer}
 use Rattle.part.specs.declared.NumberAnswer.the-variants as answer
 
--- "no."
+-- "no.".
 abbrev pub refusalNumber : Refusal → ℕ
 refusalNumber UnknownDevice = 1
 refusalNumber WrongLength = 2
 refusalNumber NoSuchFuse = 3
 refusalNumber NoSuchSetting = 4
 refusalNumber NoSuchValue = 5
-refusalNumber (StrayBit index) = 6
+refusalNumber (BitAboveWidth index) = 6
 refusalNumber (BadForm at) = 7
 refusalNumber (WrongFuseCount at) = 8
 refusalNumber (MisplacedFuseList at) = 9
 refusalNumber (WrongFuseSum at) = 10
 refusalNumber (WrongTransmissionSum at) = 11
-refusalNumber (RoomTooShort needed) = 12
+refusalNumber (BufferTooShort needed) = 12
 
--- "returns besides"
+-- "returns besides".
 abbrev pub refusalValue : Refusal → ℕ
 refusalValue UnknownDevice = 0
 refusalValue WrongLength = 0
 refusalValue NoSuchFuse = 0
 refusalValue NoSuchSetting = 0
 refusalValue NoSuchValue = 0
-refusalValue (StrayBit index) = index
+refusalValue (BitAboveWidth index) = index
 refusalValue (BadForm at) = at
 refusalValue (WrongFuseCount at) = at
 refusalValue (MisplacedFuseList at) = at
 refusalValue (WrongFuseSum at) = at
 refusalValue (WrongTransmissionSum at) = at
-refusalValue (RoomTooShort needed) = needed
+refusalValue (BufferTooShort needed) = needed
 
 abbrev pub sizesOutcome : SizesAnswer → Outcome Sizes
 sizesOutcome (sizes.Of x) = accepted x
 sizesOutcome (sizes.Refused r) = refused (refusalNumber r) (refusalValue r)
 
--- an address and a bit
+-- An address and a bit.
 abbrev pub addressOutcome : AddressAnswer → Outcome (ℕ × ℕ)
 addressOutcome (address.At a bit) = accepted (a .0, bit)
 addressOutcome (address.Refused r) = refused (refusalNumber r) (refusalValue r)
@@ -63,12 +63,12 @@ abbrev pub fuseOutcome : FuseAnswer → Outcome ℕ
 fuseOutcome (fuse.Fuse f) = accepted (f .0)
 fuseOutcome (fuse.Refused r) = refused (refusalNumber r) (refusalValue r)
 
--- what an answer that is a plain number says, here and in the crates above
+-- What an answer that is a plain number says, here and in the crates above.
 abbrev pub numberOutcome : NumberAnswer → Outcome ℕ
 numberOutcome (answer.Number x) = accepted x
 numberOutcome (answer.Refused r) = refused (refusalNumber r) (refusalValue r)
 
--- what an answer without a result says
+-- What an answer without a result says.
 abbrev pub doneOutcome : DoneAnswer → Outcome (Unit {0})
 doneOutcome done.Done = accepted tt
 doneOutcome (done.Refused r) = refused (refusalNumber r) (refusalValue r)

@@ -10,7 +10,7 @@ use Rattle.part.specs.Convert.{sizesOf, addressOfFuse, fuseOfAddress}
 use Rattle.part.specs.declared.Device.{Device}
 
 -- n, fuses, image bytes, readout bytes, and the bytes of the text, which document 01 gives for 2
--- and 16 blocks; in either class
+-- and 16 blocks; in either class.
 abbrev pub Row : ℕ → ℕ → ℕ → ℕ → ℕ → Type 0
 Row n fuses image readout text =
     (class : ℕ) → isClass class ≡ true
@@ -26,18 +26,18 @@ TableOfSizes =
     × Row 12 186624 23328 25920 264413
     × Row 16 290304 36288 40320 411293
 
--- a block count and a class that no device has
+-- A block count and a class that no device has.
 abbrev pub NoDevices : Type 0
 NoDevices =
     (sizesOf (record { blocks = 10; class = 0 }) ≡ refused 1 0)
     × (sizesOf (record { blocks = 2; class = 2 }) ≡ refused 1 0)
 
 pub data Case : Type 0 where
-  -- a fuse is a bit of an address, and the other way round
+  -- A fuse is a bit of an address, and the other way round.
   is : (fuse address bit : ℕ) → Case
-  -- a fuse is refused 3
+  -- A fuse is refused 3.
   noFuse : (fuse : ℕ) → Case
-  -- an address is refused 3, at every bit
+  -- An address is refused 3, at every bit.
   noAddress : (address : ℕ) → Case
 
 abbrev pub twoSmall : Device

@@ -10,15 +10,15 @@ use Rattle.part.specs.Place.{widthOf, fuseOfPlace, placeOfFuse, addressO
 use Rattle.part.specs.declared.Device.{Device}
 use Rattle.part.specs.declared.Sizes.{Sizes}
 
--- refusal 1 exactly for an unknown device
+-- Refusal 1 exactly for an unknown device.
 abbrev pub ifKnown : {A : Type 0} → Device → Outcome A → Outcome A
 ifKnown d answer = cond (known d) answer (refused 1 0)
 
--- refusal 2 exactly where an image or a readout has not the exact length
+-- Refusal 2 exactly where an image or a readout has not the exact length.
 abbrev pub ifLength : {A : Type 0} → (bytes exact : ℕ) → Outcome A → Outcome A
 ifLength bytes exact answer = cond (eqb bytes exact) answer (refused 2 0)
 
--- the sizes of a device
+-- The sizes of a device.
 unfoldable pub sizesOf : Device → Outcome Sizes
 sizesOf d =
     ifKnown d
@@ -29,7 +29,7 @@ sizesOf d =
       «text_bytes» = textBytes d;
     }))
 
--- the address and the bit of a fuse
+-- The address and the bit of a fuse.
 unfoldable pub addressOfFuse : Device → ℕ → Outcome (ℕ × ℕ)
 addressOfFuse d fuse =
     ifKnown d
@@ -37,7 +37,7 @@ addressOfFuse d fuse =
     (accepted (addressOfByte (placeOfFuse d fuse .byte), placeOfFuse d fuse .bit))
     (refused 3 0))
 
--- the fuse of an address and a bit
+-- The fuse of an address and a bit.
 unfoldable pub fuseOfAddress : Device → ℕ → ℕ → Outcome ℕ
 fuseOfAddress d address bit =
     ifKnown d

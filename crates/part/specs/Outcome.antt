@@ -8,12 +8,12 @@ pub data Outcome (A : Type 0) : Type 0 where
   accepted : A → Outcome A
   refused : (number : ℕ) → (value : ℕ) → Outcome A
 
--- what a slice that a call may change holds after it: the result where the call is accepted, and else what it held
+-- What a slice that a call may change holds after it: the result where the call is accepted, and else what it held.
 abbrev pub written : {A : Type 0} → Outcome A → (result before : List ℕ) → List ℕ
 written (Outcome.accepted x) result before = result
 written (Outcome.refused number value) result before = before
 
--- what a call answers, and what the slice then holds
+-- What a call answers, and what the slice then holds.
 pub record Written {A : Type 0} (o answer : Outcome A) (result before after : List ℕ) : Type 0 where
   pub answers : answer ≡ o
   pub holds : after ≡ written o result before

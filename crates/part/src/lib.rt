@@ -5,7 +5,10 @@ ghost use Rattle.part.specs.Device.{known};
 ghost use Rattle.part.specs.Answer.{sizesOutcome, addressOutcome, fuseOutcome, refusalNumber, refusalValue};
 ghost use Rattle.part.specs.Convert.{sizesOf, addressOfFuse, fuseOfAddress};
 
-pub mod internal;
+pub mod addresses;
+pub mod geometry;
+pub mod places;
+pub mod quotients;
 
 // A device of the family: its number of function blocks, and its output-enable class (0 small, 1 large).
 // Any two numbers; twelve pairs are known.
@@ -19,6 +22,12 @@ pub struct FuseNumber(pub u32);
 
 // The address of a byte of the device, as the programmer sends it.
 pub struct DeviceAddress(pub u32);
+
+// The two kinds of rows of a block: those of its main area, and those of its wire-AND subareas.
+pub enum Area {
+    Main,
+    WireAnd,
+}
 
 // Where a byte of the device lies: block, area, row and column; in the wire-AND area also the subarea.
 pub enum BytePlace {
@@ -54,7 +63,7 @@ pub enum Refusal {
     // 5: a value that is not one of that setting's
     NoSuchValue,
     // 6: a readout byte has a bit above its width: the lowest such index
-    StrayBit(u32),
+    BitAboveWidth(u32),
     // 7: the text is too long or of bad form: where
     BadForm(u32),
     // 8: QF is not the device's count, or absent: its field, or ETX
@@ -65,8 +74,8 @@ pub enum Refusal {
     WrongFuseSum(u32),
     // 11: the transmission sum differs and is not 0000: ETX
     WrongTransmissionSum(u32),
-    // 12: the room for the text is too short: the bytes needed
-    RoomTooShort(u32),
+    // 12: the buffer for the text is too short: the bytes needed
+    BufferTooShort(u32),
 }
 
 // How many fuses a device has, and how many bytes an image, a readout and a JEDEC text of it.
@@ -114,13 +123,13 @@ pub fn refusal_number(r: Refusal) -> u32
         Refusal::NoSuchFuse => 3,
         Refusal::NoSuchSetting => 4,
         Refusal::NoSuchValue => 5,
-        Refusal::StrayBit(_) => 6,
+        Refusal::BitAboveWidth(_) => 6,
         Refusal::BadForm(_) => 7,
         Refusal::WrongFuseCount(_) => 8,
         Refusal::MisplacedFuseList(_) => 9,
         Refusal::WrongFuseSum(_) => 10,
         Refusal::WrongTransmissionSum(_) => 11,
-        Refusal::RoomTooShort(_) => 12,
+        Refusal::BufferTooShort(_) => 12,
     }
 }
 
@@ -134,13 +143,13 @@ pub fn refusal_value(r: Refusal) -> u32
         Refusal::NoSuchFuse => 0,
         Refusal::NoSuchSetting => 0,
         Refusal::NoSuchValue => 0,
-        Refusal::StrayBit(index) => index,
+        Refusal::BitAboveWidth(index) => index,
         Refusal::BadForm(at) => at,
         Refusal::WrongFuseCount(at) => at,
         Refusal::MisplacedFuseList(at) => at,
         Refusal::WrongFuseSum(at) => at,
         Refusal::WrongTransmissionSum(at) => at,
-        Refusal::RoomTooShort(needed) => needed,
+        Refusal::BufferTooShort(needed) => needed,
     }
 }
 
@@ -149,7 +158,7 @@ pub fn is_known(d: Device) -> bool
     ensures { λ r. ⌜ r ≡ known d ⌝ }
 {
     let c = d.class;
-    internal::is_block_count(d.blocks) & ((c == 0) | (c == 1))
+    geometry::is_block_count(d.blocks) & ((c == 0) | (c == 1))
 }
 
 // The sizes of a device. Refused: 1.
@@ -160,10 +169,10 @@ pub fn sizes_of(d: Device) -> SizesAnswer
         return SizesAnswer::Refused(Refusal::UnknownDevice);
     }
     SizesAnswer::Of(Sizes {
-        fuses: internal::fuse_count(d),
-        image_bytes: internal::image_bytes(d),
-        readout_bytes: internal::readout_bytes(d),
-        text_bytes: internal::text_bytes(d),
+        fuses: geometry::fuse_count(d),
+        image_bytes: geometry::image_bytes(d),
+        readout_bytes: geometry::readout_bytes(d),
+        text_bytes: geometry::text_bytes(d),
     })
 }
 
@@ -175,15 +184,15 @@ pub fn address_of_fuse(d: Device, fuse: FuseNumber) -> AddressAnswer
     if !is_known(d) {
         return AddressAnswer::Refused(Refusal::UnknownDevice);
     }
-    if internal::fuse_count(d) <= fuse.0 {
+    if geometry::fuse_count(d) <= fuse.0 {
         return AddressAnswer::Refused(Refusal::NoSuchFuse);
     }
-    let at = internal::in_its_block(d, fuse);
-    if at.rest < internal::MAIN_FUSES {
-        return internal::address_and_bit(d, internal::main_place(at.block, at.rest));
+    let at = places::block_and_rest(d, fuse);
+    if at.rest < geometry::MAIN_FUSES {
+        return addresses::address_and_bit(d, places::main_place(at.block, at.rest));
     }
-    let past = at.rest - internal::MAIN_FUSES;
-    internal::address_and_bit(d, internal::wire_and_place(at.block, past))
+    let past = at.rest - geometry::MAIN_FUSES;
+    addresses::address_and_bit(d, places::wire_and_place(at.block, past))
 }
 
 // The fuse of an address and a bit. Refused: 1, 3.
@@ -193,17 +202,17 @@ pub fn fuse_of_address(d: Device, address: DeviceAddress, bit: u32) -> FuseAnswe
     if !is_known(d) {
         return FuseAnswer::Refused(Refusal::UnknownDevice);
     }
-    let byte = internal::byte_of_address(address);
-    if !internal::has_byte(d, byte) {
+    let byte = addresses::byte_of_address(address);
+    if !places::has_byte(d, byte) {
         return FuseAnswer::Refused(Refusal::NoSuchFuse);
     }
-    let composed = internal::address_of_byte(d, byte);
+    let composed = addresses::address_of_byte(d, byte);
     if composed.0 != address.0 {
         return FuseAnswer::Refused(Refusal::NoSuchFuse);
     }
-    if internal::width_of(byte) <= bit {
+    if places::width_of(byte) <= bit {
         return FuseAnswer::Refused(Refusal::NoSuchFuse);
     }
-    let first = internal::first_fuse(d, byte);
+    let first = places::first_fuse(d, byte);
     FuseAnswer::Fuse(FuseNumber(first.0 + bit))
 }

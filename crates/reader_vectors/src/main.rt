@@ -5,8 +5,8 @@ ghost use lib.ListN.{length};
 use part::Device;
 use vectors::at_most;
 
-// Room for the longest text.
-fn room_for_text() -> [u8; 411293]
+// A buffer for the longest text.
+fn buffer_for_text() -> [u8; 411293]
     ensures { λ r. ⌜ 411293 ≡ length r ⌝ }
 {
     [0; 411293]
@@ -135,6 +135,6 @@ fn each_device(text: &mut [u8], image: &mut [u8]) {
 
 fn main() {
     let mut image = io::large_buffer();
-    let mut text = room_for_text();
+    let mut text = buffer_for_text();
     each_device(&mut text, &mut image);
 }

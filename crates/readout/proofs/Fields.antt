@@ -14,7 +14,7 @@ use borrow.Author.Tests.{ltb-true}
 use Rattle.cells.specs.Cells.{cut, join, total, number}
 use Rattle.cells.proofs.Laws.{piece, total-replicate}
 
--- the fields of these widths where they are, and what leaves no more of a word
+-- The fields of these widths where they are, and what leaves no more of a word.
 unfoldable pub fields : List ℕ → ℕ → ℕ
 fields [] x = 0
 fields (w ∷ ws) x = fields ws (x / 2 ^ 8) * 2 ^ 8 + x % 2 ^ w
@@ -23,17 +23,17 @@ unfoldable pub mask : List ℕ → ℕ
 mask [] = 0
 mask (w ∷ ws) = mask ws * 2 ^ 8 + (2 ^ w - 1)
 
--- the fields put together
+-- The fields put together.
 unfoldable pub packed : List ℕ → ℕ → ℕ
 packed [] x = 0
 packed (w ∷ ws) x = packed ws (x / 2 ^ 8) * 2 ^ w + x % 2 ^ w
 
--- a word without its lowest bytes
+-- A word without its lowest bytes.
 abbrev pub past : ℕ → ℕ → ℕ
 past x zero = x
 past x (suc k) = past x k / 2 ^ 8
 
--- no field is wider than a byte
+-- No field is wider than a byte.
 unfoldable pub narrow : List ℕ → Bool
 narrow [] = true
 narrow (w ∷ ws) = ltb w 9 && narrow ws
@@ -67,7 +67,7 @@ packed-cells [] x h = refl
 packed-cells (w ∷ ws) x h =
     ap₂ (λ (y z : ℕ). y * 2 ^ w + z) (packed-cells ws (x / 2 ^ 8) (others-narrow w ws h)) (sym (in-byte x w (first-narrow w ws h)))
 
--- bytes taken as one word are cells again
+-- Bytes taken as one word are cells again.
 packed-join : (ws cells : List ℕ) → narrow ws ≡ true → packed ws (join (replicate (length ws) 8) cells) ≡ join ws cells
 unfolding packed join
 packed-join [] cells h = refl
@@ -79,7 +79,7 @@ packed-join (w ∷ ws) cells h =
     (sym (in-byte (more * 2 ^ 8 + getD cells 0 0 % 2 ^ 8) w (first-narrow w ws h))
     ∙ rw (low more 8 byte) (in-byte (getD cells 0 0) w (first-narrow w ws h))))
 
--- the same of a word of `size` bytes that begins `skip` bytes before the cells
+-- The same of a word of `size` bytes that begins `skip` bytes before the cells.
 pub packed-at : (ws readout : List ℕ) (p at skip size word : ℕ) → narrow ws ≡ true → at ≡ p + skip → p + size ≤ length readout
     → skip + length ws ≤ size → word ≡ join (replicate size 8) (drop p readout)
     → join ws (cut (replicate (length ws) 8) (word / 2 ^ (skip * 8))) ≡ join ws (drop at readout)

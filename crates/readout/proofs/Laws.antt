@@ -2,8 +2,8 @@
 --   readout-bit          bit b of a readout byte, within its width, is the state of the fuse with that byte's address and bit b
 --   readout-above        bits above the width are 0
 --   kept-at-address      any readout keeps a fuse in the byte with the address that the conversion gives the fuse, at the bit that it gives
---   image-again          image to readout to image is the image, for any bytes of the image's length
---   readout-again        readout to image to readout is the readout, for any accepted readout
+--   image-inverse          image to readout to image is the image, for any bytes of the image's length
+--   readout-inverse        readout to image to readout is the readout, for any accepted readout
 --   accepted-iff         a readout is accepted exactly if no byte has a bit above its width
 --   readout-accepted     an image's readout is always accepted
 --   change-agrees        the readout of an image with one fuse changed is the readout with the bit at its address changed
@@ -33,7 +33,7 @@ use Rattle.part.proofs.Facts.{and-iff, compared}
 use Rattle.part.proofs.Devices.{image-whole}
 use Rattle.part.proofs.Fuses.{at-fuse, of-place}
 use Rattle.part.proofs.Readouts.{at-index, of-byte}
-use Rattle.part.proofs.Addresses.{again}
+use Rattle.part.proofs.ByteAddresses.{again}
 use Rattle.part.proofs.Conversions.{fuse-of-address-iff, passed}
 use Rattle.image.specs.Bits.{bitOf, bitAt, putBit, withBit, gathered}
 use Rattle.image.specs.Image.{state, withFuse, imageFrom}
@@ -41,12 +41,12 @@ use Rattle.image.proofs.Images.{image-from, same-image, image-own, image-change
 use Rattle.image.proofs.Bits.{put-same, put-other, put-small, with-same, with-other, gathered-small, gathered-bit, gathered-same}
 use Rattle.image.proofs.Bits.{gathered-own, bit-above, tabulate-length, tabulate-at}
 use Rattle.image.proofs.Counts.{state-bit}
-use Rattle.readout.specs.Readout.{widthAt, fuseAt, readoutFrom, readoutOf, indexInReadout, bitInReadout, stateIn, imageOf, strayAt}
-use Rattle.readout.specs.Readout.{firstStray, toImage}
-use Rattle.readout.proofs.Passages.{fuse-below, place-at}
-use Rattle.readout.proofs.Strays.{lowest-is, none-below}
+use Rattle.readout.specs.Readout.{widthAt, fuseAt, readoutFrom, readoutOf, indexInReadout, bitInReadout, stateIn, imageOf, aboveAt}
+use Rattle.readout.specs.Readout.{firstAbove, toImage}
+use Rattle.readout.proofs.Conversions.{fuse-below, place-at}
+use Rattle.readout.proofs.AboveWidth.{lowest-is, none-below}
 
--- a fuse below the count has a byte and a bit, and is theirs
+-- A fuse below the count has a byte and a bit, and is theirs.
 pub record Lying (d : Device) (fuse : ℕ) : Type 0 where
   pub index-below : indexInReadout d fuse < readoutBytes d
   pub bit-below : bitInReadout d fuse < widthAt d (indexInReadout d fuse)
@@ -65,7 +65,7 @@ lying d fuse h =
       its-own = rw (found .1) (lies .1);
     }
 
--- the byte has the address that the conversion gives the fuse, and the bit is the one that it gives: so it is for any readout
+-- The byte has the address that the conversion gives the fuse, and the bit is the one that it gives: so it is for any readout.
 pub kept-at-address : (d : Device) → known d ≡ true → (fuse : ℕ) → fuse < fuseCount d
     → (indexInReadout d fuse < readoutBytes d)
     × (addressOfFuse d fuse ≡ accepted (addressOfByte (byteOfIndex d (indexInReadout d fuse)), bitInReadout d fuse))
@@ -76,7 +76,7 @@ kept-at-address d k fuse h =
     let there = and-iff (hasByte d byte) (ltb (placeOfFuse d fuse .bit) (widthOf byte)) .0 (at-fuse d fuse h .0) .0 in
     (of-byte d byte there .0, rw (k, lt-ltb fuse (fuseCount d) h, of-byte d byte there .1), λ readout. refl)
 
--- and no other fuse lies there
+-- And no other fuse lies there.
 pub lies-there : (d : Device) (index bit : ℕ) → index < readoutBytes d → bit < widthAt d index
     → (indexInReadout d (fuseAt d index bit) ≡ index) × (bitInReadout d (fuseAt d index bit) ≡ bit)
 lies-there d index bit h hb =
@@ -84,7 +84,7 @@ lies-there d index bit h hb =
     let e : placeOfFuse d (fuseAt d index bit) ≡ p = of-place d p (place-at d index bit h hb) .1 in
     (ap (λ (q : Place). indexOfByte d (q .byte)) e ∙ at-index d index h .1, ap (λ (q : Place). q .bit) e)
 
--- a readout that is made from states has those states
+-- A readout that is made from states has those states.
 module _ (d : Device) (states : ℕ → ℕ) (small : (fuse : ℕ) → states fuse < 2) where
   readout-byte : (index : ℕ) → index < readoutBytes d
       → getD (readoutFrom d states) index 0 ≡ gathered (λ bit. states (fuseAt d index bit)) (widthAt d index)
@@ -106,7 +106,7 @@ module _ (d : Device) (states : ℕ → ℕ) (small : (fuse : ℕ) → states fu
       let l = lying d fuse h in
       readout-from (indexInReadout d fuse) (bitInReadout d fuse) (l .index-below) (l .bit-below) ∙ ap states (l .its-own)
 
--- the same states make the same readout
+-- The same states make the same readout.
 module _ (d : Device) (f g : ℕ → ℕ) (same : (fuse : ℕ) → fuse < fuseCount d → f fuse ≡ g fuse) where
   pub same-readout : readoutFrom d f ≡ readoutFrom d g
   unfolding readoutFrom
@@ -120,7 +120,7 @@ module _ (d : Device) (f g : ℕ → ℕ) (same : (fuse : ℕ) → fuse < fuseCo
       (λ bit hb. same (fuseAt d index bit) (fuse-below d index bit below hb))
       ∙ sym (tabulate-at n _ index below))
 
--- a readout is made from its own states
+-- A readout is made from its own states.
 pub readout-own : (d : Device) (readout : List ℕ) → length readout ≡ readoutBytes d
     → ((i : ℕ) → i < readoutBytes d → getD readout i 0 < 2 ^ widthAt d i) → readoutFrom d (stateIn d readout) ≡ readout
 unfolding readoutFrom stateIn bitAt
@@ -148,7 +148,7 @@ readout-bit d image index bit fuse h e =
     let same : fuseAt d index bit ≡ fuse = ap₂ (λ (b : BytePlace) (i : ℕ). firstFuse d b + i) (sym byte) (sym (s .its-bit)) ∙ s .its-fuse in
     readout-from d (state image) (state-bit image) index bit h within ∙ ap (state image) same
 
--- bits above the byte's width are 0
+-- Bits above the byte's width are 0.
 pub readout-above : (d : Device) (image : List ℕ) (index bit : ℕ) → index < readoutBytes d → widthAt d index ≤ bit
     → bitAt (readoutOf d image) index bit ≡ 0
 unfolding readoutOf bitAt
@@ -161,36 +161,36 @@ state-in-bit : (d : Device) (readout : List ℕ) (fuse : ℕ) → stateIn d read
 unfolding stateIn bitAt
 state-in-bit d readout fuse = omega arith
 
-pub image-again : (d : Device) (image : List ℕ) → known d ≡ true → length image ≡ imageBytes d → ((i : ℕ) → getD image i 0 < 2 ^ 8)
+pub image-inverse : (d : Device) (image : List ℕ) → known d ≡ true → length image ≡ imageBytes d → ((i : ℕ) → getD image i 0 < 2 ^ 8)
     → imageOf d (readoutOf d image) ≡ image
 unfolding imageOf readoutOf
-image-again d image k e small =
+image-inverse d image k e small =
     same-image d (stateIn d (readoutFrom d (state image))) (state image) (readout-state d (state image) (state-bit image)) k
     ∙ image-own d image e small
 
--- no byte has a bit above its width
+-- No byte has a bit above its width.
 abbrev pub Within : Device → List ℕ → Type 0
 Within d readout = (index : ℕ) → index < readoutBytes d → getD readout index 0 < 2 ^ widthAt d index
 
-pub readout-again : (d : Device) (readout : List ℕ) → known d ≡ true → length readout ≡ readoutBytes d → Within d readout
+pub readout-inverse : (d : Device) (readout : List ℕ) → known d ≡ true → length readout ≡ readoutBytes d → Within d readout
     → readoutOf d (imageOf d readout) ≡ readout
 unfolding imageOf readoutOf
-readout-again d readout k e small =
+readout-inverse d readout k e small =
     same-readout d (state (imageFrom d (stateIn d readout))) (stateIn d readout)
     (image-from d (stateIn d readout) (state-in-bit d readout) k)
     ∙ readout-own d readout e small
 
--- no stray bit exactly if the scan goes through
-pub no-stray-iff : (d : Device) (readout : List ℕ) → (readoutBytes d ≤ firstStray d readout) ↔ Within d readout
-unfolding strayAt
-no-stray-iff d readout = (
-  λ h index below. leb-false (2 ^ widthAt d index) (getD readout index 0) (none-below (strayAt d readout) (readoutBytes d) h index below),
+-- No bit above a width exactly if the scan goes through.
+pub no-above-iff : (d : Device) (readout : List ℕ) → (readoutBytes d ≤ firstAbove d readout) ↔ Within d readout
+unfolding aboveAt
+no-above-iff d readout = (
+  λ h index below. leb-false (2 ^ widthAt d index) (getD readout index 0) (none-below (aboveAt d readout) (readoutBytes d) h index below),
   λ h.
-      le-of-eq (sym (lowest-is (strayAt d readout) (readoutBytes d) (readoutBytes d) (omega arith)
+      le-of-eq (sym (lowest-is (aboveAt d readout) (readoutBytes d) (readoutBytes d) (omega arith)
       (λ index below. lt-leb (2 ^ widthAt d index) (getD readout index 0) (h index below)) (λ bad. absurd (omega arith)))),
 )
 
--- an image's readout has none
+-- An image's readout has none.
 pub readout-accepted : (d : Device) (image : List ℕ) → Within d (readoutOf d image)
 unfolding readoutOf
 readout-accepted d image = readout-within d (state image) (state-bit image)
@@ -208,13 +208,13 @@ accepted-iff d readout target = (
         one .0,
         eqb-true _ _ (two .0),
         eqb-true _ _ (three .0),
-        no-stray-iff d readout .0 (not-refused (firstStray d readout) (readoutBytes d) (three .1)),
+        no-above-iff d readout .0 (not-refused (firstAbove d readout) (readoutBytes d) (three .1)),
       ),
   λ h. rw (
     h .0,
     eq-eqb (length readout) (readoutBytes d) (h .1),
     eq-eqb (length target) (imageBytes d) (h .2),
-    le-ltb (firstStray d readout) (readoutBytes d) (no-stray-iff d readout .1 (h .3)),
+    le-ltb (firstAbove d readout) (readoutBytes d) (no-above-iff d readout .1 (h .3)),
   ),
 )
   where
@@ -229,7 +229,7 @@ accepted-iff d readout target = (
 abbrev pub withFuseIn : Device → List ℕ → (fuse s : ℕ) → List ℕ
 withFuseIn d readout fuse s = withBit readout (indexInReadout d fuse) (bitInReadout d fuse) s
 
--- in the readout, whatever its other bytes hold
+-- In the readout, whatever its other bytes hold.
 module _ (d : Device) (readout : List ℕ) (fuse s : ℕ) (l : length readout ≡ readoutBytes d) (h : fuse < fuseCount d) (bit : s < 2) where
   there : indexInReadout d fuse < length readout
   there = rw l (lying d fuse h .index-below)
@@ -245,7 +245,7 @@ module _ (d : Device) (readout : List ℕ) (fuse s : ℕ) (l : length readout �
       with-other readout (indexInReadout d fuse) (bitInReadout d fuse) s there bit (indexInReadout d other) (bitInReadout d other)
       (λ e. ne (sym (lying d other ho .its-own) ∙ ap₂ (fuseAt d) (e .0) (e .1) ∙ lying d fuse h .its-own))
 
--- a number gathered from bits, with one put in place
+-- A number gathered from bits, with one put in place.
 gathered-put : (f g : ℕ → ℕ) (w b s : ℕ) → ((i : ℕ) → f i < 2) → s < 2 → b < w → g b ≡ s → ((i : ℕ) → i < w → i ≢ b → g i ≡ f i)
     → gathered g w ≡ putBit (gathered f w) b s
 gathered-put f g w b s small bit hb at other =

@@ -3,8 +3,8 @@
 pub mod Sizes
 pub mod RowsOut
 pub mod Widths
-pub mod Passages
+pub mod Conversions
 pub mod Fields
 pub mod RowsIn
-pub mod Strays
+pub mod AboveWidth
 pub mod Laws

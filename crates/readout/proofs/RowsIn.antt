@@ -18,11 +18,11 @@ use Rattle.cells.proofs.Laws.{total-replicate, sets-append}
 use Rattle.part.specs.Device.{known, imageBytes, readoutBytes}
 use Rattle.part.specs.declared.Device.{Device}
 use Rattle.readout.proofs.Fields.{narrow, packed-at}
-use Rattle.part.proofs.Facts.{room}
+use Rattle.part.proofs.Facts.{space}
 use Rattle.readout.proofs.Sizes.{pairs-of-block, main-total, main-length, main-whole, device-size, device-whole}
 use Rattle.readout.specs.Widths.{rowWidths, pairWidths, blockWidths, widths, wholeBytes, bytesIn}
 
--- what the code shifts is what it means
+-- What the code shifts is what it means.
 shifted : (cells shift : ℕ) → cells < 2 ^ 48 → shift ≤ 4 → cells * 2 ^ shift % 2 ^ 64 ≡ cells * 2 ^ shift
 shifted cells shift h hs = shl-exact 48 shift 64 h (omega arith)
 
@@ -43,7 +43,7 @@ pub stored : (cells carry shift byte bytes : ℕ) (out next : List ℕ) → cell
 stored cells carry shift byte bytes out next h hs e =
     e ∙ ap (λ (y : ℕ). sets out byte (cut (replicate bytes 8) (y + carry))) (shifted cells shift h hs)
 
--- what a step stores and leaves over, said of the cells
+-- What a step stores and leaves over, said of the cells.
 pub few : (count width x : ℕ) (cells : List ℕ) → count ≤ 6 → width ≤ 8 → x ≡ join (replicate count width) cells → x < 2 ^ 48
 few count width x cells hc hw e = rw e (join-few count width 6 cells hc hw)
 
@@ -55,7 +55,7 @@ of-cells x cells carry shift byte bytes r out next e f g = (
   g ∙ ap (λ (y : ℕ). sets out byte (cut (replicate bytes 8) (y * 2 ^ shift + carry))) e,
 )
 
--- the same of a whole word and eight bytes: what the shift loses is what is left over
+-- The same of a whole word and eight bytes: what the shift loses is what is left over.
 wrapped : (word x shift : ℕ) → x < 2 ^ shift → shift ≤ 36 → (word * 2 ^ shift + x) % 2 ^ 64 ≡ word % 2 ^ (64 - shift) * 2 ^ shift + x
 wrapped word x shift h hs =
     let whole : 64 ≡ 64 - shift + shift = omega arith in
@@ -95,7 +95,7 @@ eight-stored word carry shift byte out next h hs e =
     e
     ∙ ap (sets out byte) (ap (cut (replicate 8 8)) (eight-low word carry shift h hs) ∙ cut-low (replicate 8 8) (word * 2 ^ shift + carry) 0)
 
--- six cells of 6 bits, out of eight bytes
+-- Six cells of 6 bits, out of eight bytes.
 pub few-six : (cells : List ℕ) (x : ℕ) → x ≡ join (replicate 6 6) cells → x < 2 ^ 48
 few-six cells x e = few 6 6 x cells (omega arith) (omega arith) e
 
@@ -110,7 +110,7 @@ of-six readout at skip word x carry shift byte bytes r out next h1 h2 h3 e f =
     of-cells x (join (replicate 6 6) (drop at readout)) carry shift byte bytes r out next
     (f ∙ packed-at (replicate 6 6) readout (at - skip) at skip 8 word refl (omega arith) (omega arith) (omega arith) e)
 
--- a wire-AND row, out of eight bytes
+-- A wire-AND row, out of eight bytes.
 pub of-row : (readout : List ℕ) (at skip word x : ℕ) → skip ≤ 3 → skip ≤ at → at + (8 - skip) ≤ length readout
     → word ≡ join (replicate 8 8) (drop (at - skip) readout) → x ≡ join (rowWidths false) (cut (replicate 5 8) (word / 2 ^ (skip * 8)))
     → x ≡ join (rowWidths false) (drop at readout)
@@ -161,7 +161,7 @@ chunk cs ws readout out next at at' carry over s s' byte byte' k m t ea eb eo en
       ← eb,
     )
 
--- what is left over has only the bits that were not stored
+-- What is left over has only the bits that were not stored.
 pub left-over : (cs cells : List ℕ) (carry over s s' k : ℕ) → carry < 2 ^ s → total cs + s ≡ s' + k * 8
     → over ≡ (join cs cells * 2 ^ s + carry) / 2 ^ (k * 8) → over < 2 ^ s'
 left-over cs cells carry over s s' k h t e =
@@ -170,7 +170,7 @@ left-over cs cells carry over s s' k h t e =
     subst (λ (i : ℕ). join cs cells * 2 ^ s + carry < 2 ^ i) t (rw (pow-add 2 (total cs) s) small) in
     rw e (shr-lt s' (k * 8) small')
 
--- two rows of the main area
+-- Two rows of the main area.
 pub main-rows : (readout o0 o1 o2 o3 o4 o5 o6 : List ℕ) (at byte c1 c2 c3 c4 c5 : ℕ)
     → c1 ≡ (join (replicate 8 8) (drop at readout) * 2 ^ 0 + 0) / 2 ^ (8 * 8)
     → o1 ≡ sets o0 byte (cut (replicate 8 8) (join (replicate 8 8) (drop at readout) * 2 ^ 0 + 0))
@@ -201,7 +201,7 @@ main-rows readout o0 o1 o2 o3 o4 o5 o6 at byte c1 c2 c3 c4 c5 d1 e1 d2 e2 d3 e3 
     o1 at (at + 8) 0 c1 0 0 byte (byte + 8) 8 19 refl (omega arith) (omega arith) d1 e1
     ∙ ap (λ (x : ℕ). sets o0 byte (cut (replicate 27 8) x)) all
 
--- two rows of the wire-AND area
+-- Two rows of the wire-AND area.
 pub wire-and-rows : (readout o0 o1 o2 : List ℕ) (at byte one two top : ℕ)
     → one ≡ join (rowWidths false) (drop at readout) → two ≡ join (rowWidths false) (drop (at + 5) readout)
     → top ≡ (two * 2 ^ 36 + one) / 2 ^ (8 * 8) → o1 ≡ sets o0 byte (cut (replicate 8 8) (two * 2 ^ 36 + one))
@@ -220,7 +220,7 @@ wire-and-rows readout o0 o1 o2 at byte one two top e1 e2 e3 e4 e5 =
     ∙ cut-sets o0 (replicate 8 8) (replicate 1 8) byte x 8 64 refl refl
     ∙ ap (λ (y : ℕ). sets o0 byte (cut (replicate 9 8) y)) (sym all)
 
--- cells in two parts, of which the first is whole bytes: their image bytes, stored part by part
+-- Cells in two parts, of which the first is whole bytes: their image bytes, stored part by part.
 pub parts-in : (ws vs readout out next : List ℕ) (at at' byte byte' : ℕ) → total ws ≡ wholeBytes ws * 8 → at' ≡ at + length ws
     → byte' ≡ byte + wholeBytes ws → next ≡ sets out byte (bytesIn ws (drop at readout))
     → sets next byte' (bytesIn vs (drop at' readout)) ≡ sets out byte (bytesIn (ws ++ vs) (drop at readout))
@@ -249,10 +249,10 @@ begun-in ws readout out at byte count f g = record { cells-left = f; bytes-left 
 
 module _ {ws readout before out : List ℕ} {at byte count a b left : ℕ} (now : LeftIn ws readout before out at byte count a b left) where
   pub next-cells : 0 < left → a + length ws ≤ length readout
-  next-cells h = room left (length ws) a (length readout) h (now .cells-left) .0
+  next-cells h = space left (length ws) a (length readout) h (now .cells-left) .0
 
   pub next-bytes-in : 0 < left → b + wholeBytes ws ≤ length out
-  next-bytes-in h = room left (wholeBytes ws) b (length out) h (now .bytes-left) .0
+  next-bytes-in h = space left (wholeBytes ws) b (length out) h (now .bytes-left) .0
 
   pub turned-in : (next : List ℕ) (bytes whole : ℕ) → 0 < left → total ws ≡ wholeBytes ws * 8 → bytes ≡ length ws → whole ≡ wholeBytes ws
       → next ≡ sets out b (bytesIn ws (drop a readout)) → LeftIn ws readout before next at byte count (a + bytes) (b + whole) (left - 1)
@@ -263,8 +263,8 @@ module _ {ws readout before out : List ℕ} {at byte count a b left : ℕ} (now 
       let all : sets out b (bytesIn (ws ++ repeat (left - 1) ws) (drop a readout))
       ≡ sets before byte (bytesIn (repeat count ws) (drop at readout)) = rw more at (now .rest) in
       record {
-        cells-left = rw e1 (room left (length ws) a (length readout) h (now .cells-left) .1);
-        bytes-left = rw (e2, kept) (room left (wholeBytes ws) b (length out) h (now .bytes-left) .1);
+        cells-left = rw e1 (space left (length ws) a (length readout) h (now .cells-left) .1);
+        bytes-left = rw (e2, kept) (space left (wholeBytes ws) b (length out) h (now .bytes-left) .1);
         same = kept ∙ now .same;
         rest =
             parts-in ws (repeat (left - 1) ws) readout out next a (a + bytes) b (b + whole) t (ap (λ (i : ℕ). a + i) e1)

@@ -14,10 +14,10 @@ use Rattle.cells.proofs.Laws.{cut-sets, piece}
 use Rattle.part.specs.Device.{known, imageBytes, readoutBytes}
 use Rattle.part.specs.declared.Device.{Device}
 use Rattle.readout.specs.Widths.{rowWidths, pairWidths, blockWidths, widths, wholeBytes}
-use Rattle.part.proofs.Facts.{room}
+use Rattle.part.proofs.Facts.{space}
 use Rattle.readout.proofs.Sizes.{pairs-of-block, main-total, main-length, device-size, device-whole}
 
--- cells of a word of eight bytes, behind some bits of it, where they lie `past` bits behind a start
+-- Cells of a word of eight bytes, behind some bits of it, where they lie `past` bits behind a start.
 from-bit : (image ws : List ℕ) (start past p skip w : ℕ) → p + 8 ≤ length image → skip + total ws ≤ 64 → p * 8 + skip ≡ start + past
     → w ≡ join (replicate 8 8) (drop p image) → cut ws (w / 2 ^ skip) ≡ cut ws (number image / 2 ^ start / 2 ^ past)
 from-bit image ws start past p skip w h g e f =
@@ -57,7 +57,7 @@ wire-and-row image out one two byte shift at u q h eu e1 e2 =
     ∙ ap (cut (rowWidths false)) (div-one x) in
     e2 ∙ rw e1 (cut-sets out (replicate 1 8) (replicate 4 7) at (u / 2 ^ shift) 1 8 refl refl ∙ ap (sets out at) whole)
 
--- two rows, of which the second starts in the middle of a byte
+-- Two rows, of which the second starts in the middle of a byte.
 pair-of : (main : Bool) (image out one two : List ℕ) (byte at k shift n t : ℕ) → length (rowWidths main) ≡ n
     → total (rowWidths main) ≡ t → t ≡ k * 8 + shift → one ≡ sets out at (cut (rowWidths main) (number image / 2 ^ (byte * 8 + 0)))
     → two ≡ sets one (at + n) (cut (rowWidths main) (number image / 2 ^ ((byte + k) * 8 + shift)))
@@ -85,7 +85,7 @@ unfolding rowWidths total
 wire-and-pair-out main image out one two byte at e e1 e2 = rw e (pair-of false image out one two byte at 1 28 5 36 refl refl refl e1 e2)
 
 -- A loop that stores `count` times the cells of `ws`, cut from an image's number from a byte on: what holds when `left` times are
--- still to come. The stores of what is left, made now, give what all give; and there is room for them.
+-- still to come. The stores of what is left, made now, give what all give; and there is space for them.
 pub record Left (ws image before out : List ℕ) (byte at count b a left : ℕ) : Type 0 where
   pub image-left : b + left * wholeBytes ws ≤ length image
   pub cells-left : a + left * length ws ≤ length out
@@ -99,10 +99,10 @@ begun ws image out byte at count f g = record { image-left = f; cells-left = g; 
 
 module _ {ws image before out : List ℕ} {byte at count b a left : ℕ} (now : Left ws image before out byte at count b a left) where
   pub next-image : 0 < left → b + wholeBytes ws ≤ length image
-  next-image h = room left (wholeBytes ws) b (length image) h (now .image-left) .0
+  next-image h = space left (wholeBytes ws) b (length image) h (now .image-left) .0
 
   pub next-cells : 0 < left → a + length ws ≤ length out
-  next-cells h = room left (length ws) a (length out) h (now .cells-left) .0
+  next-cells h = space left (length ws) a (length out) h (now .cells-left) .0
 
   pub turned : (next : List ℕ) (whole bytes : ℕ) → 0 < left → total ws ≡ wholeBytes ws * 8 → whole ≡ wholeBytes ws → bytes ≡ length ws
       → next ≡ sets out a (cut ws (number image / 2 ^ (b * 8))) → Left ws image before next byte at count (b + whole) (a + bytes) (left - 1)
@@ -114,8 +114,8 @@ module _ {ws image before out : List ℕ} {byte at count b a left : ℕ} (now : 
       ≡ sets before at (cut (repeat count ws) (number image / 2 ^ (byte * 8))) = rw more at (now .rest) in
       let bits : (b + whole) * 8 ≡ b * 8 + total ws = omega arith in
       record {
-        image-left = rw e1 (room left (wholeBytes ws) b (length image) h (now .image-left) .1);
-        cells-left = rw (e2, kept) (room left (length ws) a (length out) h (now .cells-left) .1);
+        image-left = rw e1 (space left (wholeBytes ws) b (length image) h (now .image-left) .1);
+        cells-left = rw (e2, kept) (space left (length ws) a (length out) h (now .cells-left) .1);
         same = kept ∙ now .same;
         rest =
             rw (e3, bits, ← shr-shr (number image) (b * 8) (total ws))

@@ -14,7 +14,7 @@ use Rattle.part.specs.declared.Device.{Device}
 use Rattle.part.proofs.Devices.{image-whole}
 use Rattle.readout.specs.Widths.{rowWidths, pairWidths, blockWidths, wholeBytes}
 
--- the fuses and the bytes of each kind of row
+-- The fuses and the bytes of each kind of row.
 pub main-size : (main : Bool) → main ≡ true → (total (rowWidths main) ≡ 108) × (length (rowWidths main) ≡ 15)
 unfolding total rowWidths
 main-size main e = rw e (refl, refl)
@@ -23,7 +23,7 @@ pub wire-and-size : (main : Bool) → main ≡ false → (total (rowWidths main)
 unfolding total rowWidths
 wire-and-size main e = rw e (refl, refl)
 
--- the fuses and the bytes of a block, and of the device
+-- The fuses and the bytes of a block, and of the device.
 pub block-size : (d : Device) → (total (blockWidths d) ≡ 7776 + d .blocks * 648) × (length (blockWidths d) ≡ 1080 + d .blocks * 90)
 unfolding blockWidths
 block-size d =
@@ -37,14 +37,14 @@ block-size d =
           (omega arith),
     )
 
--- the blocks of a known device have its fuses and its bytes
+-- The blocks of a known device have its fuses and its bytes.
 pub device-size : (d : Device) → known d ≡ true
     → (d .blocks * total (blockWidths d) ≡ imageBytes d * 8) × (d .blocks * length (blockWidths d) ≡ readoutBytes d)
 unfolding fuseCount readoutBytes
 device-size d k =
     (ap (λ (x : ℕ). d .blocks * x) (block-size d .0) ∙ image-whole d k, ap (λ (x : ℕ). d .blocks * x) (block-size d .1))
 
--- the sizes of two rows of each kind
+-- The sizes of two rows of each kind.
 pub pair-size : (main : Bool)
     → (total (pairWidths main) ≡ wholeBytes (pairWidths main) * 8) × (wholeBytes (pairWidths main) ≤ 27) × (length (pairWidths main) ≤ 30)
 unfolding pairWidths rowWidths wholeBytes total
@@ -72,7 +72,7 @@ pairs-of-block d =
     let half : d .blocks * 9 * 2 ≡ d .blocks * 18 = omega arith in
     rw (repeat-twice 36 (rowWidths true), repeat-twice (d .blocks * 9) (rowWidths false), half)
 
--- the main rows of a block
+-- The main rows of a block.
 pub main-total : total (repeat 36 (pairWidths true)) ≡ 7776
 unfolding pairWidths
 main-total = rw (repeat-twice 36 (rowWidths true)) (total-repeat 72 (rowWidths true) ∙ ap (λ (k : ℕ). 72 * k) (main-size true refl .0))

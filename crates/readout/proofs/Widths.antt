@@ -41,7 +41,7 @@ at-repeat (suc m) ws (suc q) r w b hq hr a =
     let f : suc q * total ws + b ≡ total ws + (q * total ws + b) = omega (arith, suc-mul q (total ws)) in
     rw (e, f) (at-right ws (repeat m ws) (q * length ws + r) w (q * total ws + b) (at-repeat m ws q r w b (le-of-suc-le-suc hq) hr a))
 
--- a row of wide columns of 8 bits and more columns of narrow bits
+-- A row of wide columns of 8 bits and more columns of narrow bits.
 at-row : (wide narrow more c : ℕ) → c < wide + more
     → At (replicate wide 8 ++ replicate more narrow) c (columnWidth wide narrow c) (columnStart wide narrow c)
 at-row wide narrow more c h =
@@ -56,7 +56,7 @@ at-row wide narrow more c h =
     (subst (λ (k : ℕ). At (replicate wide 8 ++ replicate more narrow) k narrow (wide * 8 + (c - wide) * narrow)) (sym e)
     (rw (length-replicate {A = ℕ} wide 8, total-replicate wide 8) at right)))
 
--- an index of a block: the byte there, in any block
+-- An index of a block: the byte there, in any block.
 abbrev InBlock : Device → ℕ → ℕ → BytePlace → Type 0
 InBlock d block rest byte = (x : ℕ) × At (blockWidths d) rest (widthOf byte) x × (block * blockFuses d + x ≡ firstFuse d byte)
 
@@ -90,7 +90,7 @@ at-block d block rest h =
     let right = rw (rows-length, rows-total, past) at (at-right rows (repeat (d .blocks * 18) vs) r _ _ (rw e at there)) in
     (7776 + (r / 5 * 36 + columnStart 1 7 c), rw c' right, rw c' (omega arith)))
 
--- the width at an index is that of its byte, and the bits before it are the fuses before it
+-- The width at an index is that of its byte, and the bits before it are the fuses before it.
 pub widths-at : (d : Device) (index : ℕ) → index < readoutBytes d
     → At (widths d) index (widthOf (byteOfIndex d index)) (firstFuse d (byteOfIndex d index))
 unfolding widths readoutBytes byteOfIndex

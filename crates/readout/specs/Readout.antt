@@ -14,14 +14,14 @@ use Rattle.part.specs.declared.Device.{Device}
 use Rattle.image.specs.Bits.{bitAt, gathered, tabulate}
 use Rattle.image.specs.Image.{state, imageFrom}
 
--- the width of the byte at an index, and the fuse of one of its bits
+-- The width of the byte at an index, and the fuse of one of its bits.
 abbrev pub widthAt : Device → ℕ → ℕ
 widthAt d index = widthOf (byteOfIndex d index)
 
 abbrev pub fuseAt : Device → (index bit : ℕ) → ℕ
 fuseAt d index bit = fuseOfPlace d (record { byte = byteOfIndex d index; bit = bit })
 
--- in an image's readout, each bit b within a byte's width is the state of the fuse with that byte's address and bit b
+-- In an image's readout, each bit b within a byte's width is the state of the fuse with that byte's address and bit b.
 unfoldable pub readoutFrom : Device → (ℕ → ℕ) → List ℕ
 readoutFrom d states =
     tabulate (readoutBytes d) (λ index. gathered (λ bit. states (fuseAt d index bit)) (widthAt d index))
@@ -29,34 +29,34 @@ readoutFrom d states =
 unfoldable pub readoutOf : Device → List ℕ → List ℕ
 readoutOf d image = readoutFrom d (state image)
 
--- where a readout keeps a fuse: the index of the byte with its address, and its bit there
--- (`kept-at-address` in proofs/Laws.antt)
+-- Where a readout keeps a fuse: the index of the byte with its address, and its bit there
+-- (`kept-at-address` in proofs/Laws.antt).
 abbrev pub indexInReadout : Device → ℕ → ℕ
 indexInReadout d fuse = indexOfByte d (placeOfFuse d fuse .byte)
 
 abbrev pub bitInReadout : Device → ℕ → ℕ
 bitInReadout d fuse = placeOfFuse d fuse .bit
 
--- the state of a fuse in a readout
+-- The state of a fuse in a readout.
 unfoldable pub stateIn : Device → List ℕ → ℕ → ℕ
 stateIn d readout fuse = bitAt readout (indexInReadout d fuse) (bitInReadout d fuse)
 
 unfoldable pub imageOf : Device → List ℕ → List ℕ
 imageOf d readout = imageFrom d (stateIn d readout)
 
--- a byte has a bit above its width
-unfoldable pub strayAt : Device → List ℕ → ℕ → Bool
-strayAt d readout index = leb (2 ^ widthAt d index) (getD readout index 0)
+-- A byte has a bit above its width.
+unfoldable pub aboveAt : Device → List ℕ → ℕ → Bool
+aboveAt d readout index = leb (2 ^ widthAt d index) (getD readout index 0)
 
--- the lowest number below n that passes a test, or n
+-- The lowest number below n that passes a test, or n.
 unfoldable pub lowest : (ℕ → Bool) → ℕ → ℕ
 lowest test zero = zero
 lowest test (suc n) = cond (ltb (lowest test n) n) (lowest test n) (cond (test n) n (suc n))
 
-abbrev pub firstStray : Device → List ℕ → ℕ
-firstStray d readout = lowest (strayAt d readout) (readoutBytes d)
+abbrev pub firstAbove : Device → List ℕ → ℕ
+firstAbove d readout = lowest (aboveAt d readout) (readoutBytes d)
 
--- image to readout, readout to image: refusals 1, 2 of both slices, and 6 with the lowest such index
+-- Image to readout, readout to image: refusals 1, 2 of both slices, and 6 with the lowest such index.
 unfoldable pub toReadout : Device → (image target : List ℕ) → Outcome (Unit {0})
 toReadout d image target =
     ifKnown d (ifLength (length image) (imageBytes d) (ifLength (length target) (readoutBytes d) (accepted tt)))
@@ -66,4 +66,4 @@ toImage d readout target =
     ifKnown d
     (ifLength (length readout) (readoutBytes d)
     (ifLength (length target) (imageBytes d)
-    (cond (ltb (firstStray d readout) (readoutBytes d)) (refused 6 (firstStray d readout)) (accepted tt))))
+    (cond (ltb (firstAbove d readout) (readoutBytes d)) (refused 6 (firstAbove d readout)) (accepted tt))))

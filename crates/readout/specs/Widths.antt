@@ -8,16 +8,16 @@ use lib.ListN.{getD, drop, replicate}
 use Rattle.cells.specs.Cells.{cut, join, total, repeat}
 use Rattle.part.specs.declared.Device.{Device}
 
--- a row of the main area, a row of the wire-AND area
+-- A row of the main area, a row of the wire-AND area.
 unfoldable pub rowWidths : (main : Bool) → List ℕ
 rowWidths true = replicate 9 8 ++ replicate 6 6
 rowWidths false = replicate 1 8 ++ replicate 4 7
 
--- two rows, which are whole bytes of an image
+-- Two rows, which are whole bytes of an image.
 unfoldable pub pairWidths : (main : Bool) → List ℕ
 pairWidths main = rowWidths main ++ rowWidths main
 
--- the whole bytes of some cells, and the image bytes that cells of these widths join to
+-- The whole bytes of some cells, and the image bytes that cells of these widths join to.
 unfoldable pub wholeBytes : List ℕ → ℕ
 wholeBytes ws = total ws / 8
 
@@ -30,12 +30,12 @@ blockWidths d = repeat 72 (rowWidths true) ++ repeat (d .blocks * 18) (rowWidths
 unfoldable pub widths : Device → List ℕ
 widths d = repeat (d .blocks) (blockWidths d)
 
--- how many cells, from the first on, have no bit above their width
+-- How many cells, from the first on, have no bit above their width.
 unfoldable pub fine : List ℕ → List ℕ → ℕ
 fine [] cells = 0
 fine (w ∷ ws) cells = cond (eqb (getD cells 0 0 / 2 ^ w) 0) (suc (fine ws (drop 1 cells))) 0
 
--- the bits above a width in so many bytes, taken as one word
-unfoldable pub strayMask : (count width : ℕ) → ℕ
-strayMask zero width = 0
-strayMask (suc count) width = strayMask count width * 2 ^ 8 + (2 ^ 8 - 2 ^ width)
+-- The bits above a width in so many bytes, taken as one word.
+unfoldable pub aboveMask : (count width : ℕ) → ℕ
+aboveMask zero width = 0
+aboveMask (suc count) width = aboveMask count width * 2 ^ 8 + (2 ^ 8 - 2 ^ width)

@@ -7,7 +7,9 @@ use part::Device;
 use part::DoneAnswer;
 use part::Refusal;
 
-pub mod internal;
+pub mod above_width;
+pub mod rows_in;
+pub mod rows_out;
 
 // The readout of an image, put into `readout`. Refused: 1, 2.
 pub fn image_to_readout(d: Device, image: &[u8], readout: &mut [u8]) -> DoneAnswer
@@ -17,13 +19,13 @@ pub fn image_to_readout(d: Device, image: &[u8], readout: &mut [u8]) -> DoneAnsw
     if !part::is_known(d) {
         return DoneAnswer::Refused(Refusal::UnknownDevice);
     }
-    if image.len() != part::internal::image_bytes(d) as usize {
+    if image.len() != part::geometry::image_bytes(d) as usize {
         return DoneAnswer::Refused(Refusal::WrongLength);
     }
-    if readout.len() != part::internal::readout_bytes(d) as usize {
+    if readout.len() != part::geometry::readout_bytes(d) as usize {
         return DoneAnswer::Refused(Refusal::WrongLength);
     }
-    internal::blocks_out(d, image, readout);
+    rows_out::blocks_out(d, image, readout);
     DoneAnswer::Done
 }
 
@@ -35,17 +37,17 @@ pub fn readout_to_image(d: Device, readout: &[u8], image: &mut [u8]) -> DoneAnsw
     if !part::is_known(d) {
         return DoneAnswer::Refused(Refusal::UnknownDevice);
     }
-    if readout.len() != part::internal::readout_bytes(d) as usize {
+    if readout.len() != part::geometry::readout_bytes(d) as usize {
         return DoneAnswer::Refused(Refusal::WrongLength);
     }
-    if image.len() != part::internal::image_bytes(d) as usize {
+    if image.len() != part::geometry::image_bytes(d) as usize {
         return DoneAnswer::Refused(Refusal::WrongLength);
     }
-    let stray = internal::first_stray(d, readout);
-    if stray < readout.len() {
-        let index = stray as u32;
-        return DoneAnswer::Refused(Refusal::StrayBit(index));
+    let above = above_width::first_above(d, readout);
+    if above < readout.len() {
+        let index = above as u32;
+        return DoneAnswer::Refused(Refusal::BitAboveWidth(index));
     }
-    internal::blocks_in(d, readout, image);
+    rows_in::blocks_in(d, readout, image);
     DoneAnswer::Done
 }

@@ -4,7 +4,7 @@ use part::Device;
 use vectors::near;
 
 // The answer of a call, and the digest of the bytes that were lent to it.
-fn passage(name: &[u8], answer: u64, bytes: &[u8]) {
+fn conversion(name: &[u8], answer: u64, bytes: &[u8]) {
     vectors::put(name, vectors::digest_of(bytes));
     vectors::put_answer(answer);
 }
@@ -24,12 +24,12 @@ fn there(d: Device, image: &mut [u8], readout: &mut [u8]) {
         capi::xc9500_zero_count(d.blocks, d.class, &image[..]),
     );
     let answer = capi::xc9500_image_to_readout(d.blocks, d.class, &image[..], readout);
-    passage(b" out", answer, &readout[..]);
+    conversion(b" out", answer, &readout[..]);
 }
 
 fn back(name: &[u8], d: Device, readout: &[u8], image: &mut [u8]) {
     let answer = capi::xc9500_readout_to_image(d.blocks, d.class, readout, image);
-    passage(name, answer, &image[..]);
+    conversion(name, answer, &image[..]);
 }
 
 // The image of a readout over other bytes.
@@ -46,17 +46,17 @@ fn end_in_255(bytes: &mut [u8]) {
 }
 
 // The image of the readout with 255 for its last byte, and of one that looks random.
-fn strays(d: Device, readout: &mut [u8], image: &mut [u8]) {
+fn bits_above_widths(d: Device, readout: &mut [u8], image: &mut [u8]) {
     end_in_255(readout);
     back(b" last", d, &readout[..], image);
     vectors::fill(readout, 4);
-    back(b" stray", d, &readout[..], image);
+    back(b" above", d, &readout[..], image);
 }
 
 fn answers(d: Device, image: &mut [u8], readout: &mut [u8]) {
     there(d, image, readout);
     and_back(d, &readout[..], image);
-    strays(d, readout, image);
+    bits_above_widths(d, readout, image);
     vectors::end_line();
 }
 

@@ -1,4 +1,4 @@
--- Laws of what a report says: the lines of a text for its device, and the bytes that a call puts into the caller's room.
+-- Laws of what a report says: the lines of a text for its device, and the bytes that a call puts into the caller's buffer.
 -- Assumes nothing.
 use mathlib.Core.Path.{_≡_, refl, sym, _∙_, ap}
 use mathlib.Core.Bool.{Bool, true, false, cond}
@@ -29,14 +29,14 @@ use Rattle.part.specs.declared.DoneAnswer.the-variants as answer
 use Rattle.jedec.specs.Characters.{lf, decimalDigit, hexDigit, countDigits, fourHex}
 use Rattle.jedec.specs.Cut.{pieces}
 use Rattle.jedec.specs.Meaning.{meaning}
-use Rattle.jedec_writer.proofs.Lines.{digits-length}
-use Rattle.jedec_writer.proofs.Text.{stored-first}
+use Rattle.jedec_writer.proofs.LineCharacters.{digits-length}
+use Rattle.jedec_writer.proofs.TextParts.{stored-first}
 use Rattle.jedec_reader.specs.Reader.{verdict, resultOf, toImageFromText, imageIn}
 use Rattle.report.specs.Report.{ofBlocks, fieldsIn, firstCount, blocksBy, blocksFor, outcomeOf, wordBlocks, wordFuses, wordZero}
 use Rattle.report.specs.Report.{wordSum, wordRefused, wordAt, line, countLines, refusalLine, linesOf, reportOf, bytesPut, atStart}
 use Rattle.report.specs.Put.{Put}
 
--- the lines of an outcome, by what is answered and the image
+-- The lines of an outcome, by what is answered and the image.
 image-lines : (d : Device) (o : Outcome (List ℕ)) (image : List ℕ) → accepted tt ≡ verdict o → image ≡ resultOf o
     → countLines d image ≡ linesOf d o
 image-lines d (accepted x) image e f = ap (countLines d) f
@@ -64,7 +64,7 @@ module _ (d : Device) (text before image : List ℕ) (k : known d ≡ true) (l :
       let said : refused n v ≡ verdict (meaning (fuseCount d) text) = rw (en, ev) (ap doneOutcome (sym e)) ∙ w .answers ∙ read in
       rw (refused-lines d (meaning (fuseCount d) text) n v said) at p
 
--- the device for a text
+-- The device for a text.
 two-or-four : (P : ℕ → Type 0) → P 2 → P 4 → (o : Option ℕ) → P (blocksBy o)
 two-or-four P two four none = two
 two-or-four P two four (some n) = go (eqb n (fuseCount (ofBlocks 4)))
@@ -103,7 +103,7 @@ module _ (text out after : List ℕ) (end : ℕ) where
   unfolding outcomeOf reportOf
   not-too-long b e h p = rw (le-ltb 65536 (length text) h) (rw e at p)
 
--- a report is short
+-- A report is short.
 line-short : (word digits : List ℕ) (n : ℕ) → length digits ≤ n → length (line word digits) ≤ length word + n + 1
 line-short word digits n h = rw (length-append (word ++ digits) (lf ∷ []), length-append word digits) (omega arith)
 
@@ -133,7 +133,7 @@ pub report-short : (text : List ℕ) → length (reportOf text) ≤ 64
 unfolding reportOf
 report-short text = lines-short (ofBlocks (blocksFor text)) (outcomeOf text)
 
--- a report made beside and put at the start of a room
+-- A report made beside and put at the start of a buffer.
 module _ (text blank lines : List ℕ) (n : ℕ) (p : Put blank lines 0 (reportOf text) n) where
   is : length (reportOf text) ≡ n
   is = sym (p .ends ∙ zero-add (length (reportOf text)))
@@ -157,35 +157,35 @@ module _ (text blank lines : List ℕ) (n : ℕ) (p : Put blank lines 0 (reportO
     pub part-length : n ≡ length (take n lines)
     part-length = rw lines-part (sym is)
 
-    module _ (room : List ℕ) where
+    module _ (buffer : List ℕ) where
       abbrev At : Outcome ℕ → List ℕ → Type 0
-      At answer after = Written (bytesPut (reportOf text) room) answer (atStart (reportOf text) room) room after
+      At answer after = Written (bytesPut (reportOf text) buffer) answer (atStart (reportOf text) buffer) buffer after
 
-      pub too-short : length room < n → At (refused 12 n) room
-      too-short h = says _ (refused 12 n) (atStart (reportOf text) room) room (rw (is, lt-ltb (length room) n h))
+      pub too-short : length buffer < n → At (refused 12 n) buffer
+      too-short h = says _ (refused 12 n) (atStart (reportOf text) buffer) buffer (rw (is, lt-ltb (length buffer) n h))
 
-      pub part-fits : n ≤ length room → 0 + length (take n lines) ≤ length room
+      pub part-fits : n ≤ length buffer → 0 + length (take n lines) ≤ length buffer
       part-fits h = omega (arith, part-length)
 
-      pub long-enough : (after : List ℕ) (end : ℕ) → n ≤ length room → Put room after 0 (take n lines) end → At (accepted n) after
+      pub long-enough : (after : List ℕ) (end : ℕ) → n ≤ length buffer → Put buffer after 0 (take n lines) end → At (accepted n) after
       long-enough after end h q =
-          let same : accepted n ≡ bytesPut (reportOf text) room = rw (is, le-ltb (length room) n h) in
-          record { answers = same; holds = q .holds ∙ rw (lines-part, ← same, is) (stored-first room (reportOf text) n is h) }
+          let same : accepted n ≡ bytesPut (reportOf text) buffer = rw (is, le-ltb (length buffer) n h) in
+          record { answers = same; holds = q .holds ∙ rw (lines-part, ← same, is) (stored-first buffer (reportOf text) n is h) }
 
--- what is put fits the room
-bytes-fit : (bytes room : List ℕ) (n : ℕ) → accepted n ≡ bytesPut bytes room → n ≤ length room
-bytes-fit bytes room n e = go (ltb (length room) (length bytes)) refl e
+-- What is put fits the buffer.
+bytes-fit : (bytes buffer : List ℕ) (n : ℕ) → accepted n ≡ bytesPut bytes buffer → n ≤ length buffer
+bytes-fit bytes buffer n e = go (ltb (length buffer) (length bytes)) refl e
   where
-    go : (t : Bool) → ltb (length room) (length bytes) ≡ t
-        → accepted n ≡ cond t (refused 12 (length bytes)) (accepted (length bytes)) → n ≤ length room
+    go : (t : Bool) → ltb (length buffer) (length bytes) ≡ t
+        → accepted n ≡ cond t (refused 12 (length bytes)) (accepted (length bytes)) → n ≤ length buffer
     go true f g = absurd (let z : _≡_ {A = ℕ} 0 1 = cc in omega arith)
-    go false f g = let is : n ≡ length bytes = cc in omega (arith, ltb-false (length room) (length bytes) f)
+    go false f g = let is : n ≡ length bytes = cc in omega (arith, ltb-false (length buffer) (length bytes) f)
 
-module _ (text room after : List ℕ) (l : length after ≡ length room) (a : NumberAnswer)
-    (w : Written (bytesPut (reportOf text) room) (numberOutcome a) (atStart (reportOf text) room) room after) (n : ℕ)
+module _ (text buffer after : List ℕ) (l : length after ≡ length buffer) (a : NumberAnswer)
+    (w : Written (bytesPut (reportOf text) buffer) (numberOutcome a) (atStart (reportOf text) buffer) buffer after) (n : ℕ)
     (e : a ≡ number-answer.Number n) where
-  pub in-room : n ≤ length after
-  in-room = rw l (bytes-fit (reportOf text) room n (ap numberOutcome (sym e) ∙ w .answers))
+  pub in-space : n ≤ length after
+  in-space = rw l (bytes-fit (reportOf text) buffer n (ap numberOutcome (sym e) ∙ w .answers))
 
-  pub room-part : n ≡ length (take n after)
-  room-part = sym (length-take-le n after in-room)
+  pub buffer-part : n ≡ length (take n after)
+  buffer-part = sym (length-take-le n after in-space)

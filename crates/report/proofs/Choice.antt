@@ -26,7 +26,7 @@ use Rattle.jedec_fields.proofs.FieldSays.{the-type}
 use Rattle.jedec_fields.proofs.Fields.{Cuts, pieces-star, Uncut, pieces-none}
 use Rattle.report.specs.Report.{ofBlocks, fuseCountIn, firstCount, blocksBy, blocksFor}
 
--- four blocks or two
+-- Four blocks or two.
 pub four-known : known (ofBlocks 4) ≡ true
 unfolding known
 four-known = refl
@@ -37,7 +37,7 @@ reads-four count x e f = sym (rw (eq-eqb count (fuseCount (ofBlocks 4)) (f ∙ e
 pub reads-other : (count x : ℕ) → x ≡ fuseCount (ofBlocks 4) → (count ≡ x → ⊥) → 2 ≡ blocksBy (some count)
 reads-other count x e f = sym (rw (ne-eqb count (fuseCount (ofBlocks 4)) (λ g. f (g ∙ sym e))))
 
--- a field that is no QF field, as the code tells it: by the number of its kind
+-- A field that is no QF field, as the code tells it: by the number of its kind.
 no-qf : (after : List ℕ) (fs : FieldSays) → OneOf (1 ∷ 2 ∷ 3 ∷ 4 ∷ 5 ∷ []) (tagOf the-type fs) → fuseCountIn (judgedAfter after fs) ≡ none
 no-qf after (says.Count n) h = absurd (miss (1 ∷ 2 ∷ 3 ∷ 4 ∷ 5 ∷ []) 0 tt h)
 no-qf after (says.Start s) h = refl
@@ -46,7 +46,7 @@ no-qf after (says.Sum x) h = refl
 no-qf after says.Skipped h = refl
 no-qf after says.Bad h = refl
 
--- the first QF field of some fields
+-- The first QF field of some fields.
 abbrev pub first : Cut → Option ℕ
 first cut = firstCount (cut .fields)
 
@@ -97,7 +97,7 @@ module _ (text : List ℕ) (from at : ℕ) (e : first (fieldsAt at (drop at text
         let reads : fuseCountIn (judge field) ≡ none = ap fuseCountIn (sym (judged .is)) ∙ no-qf (drop 1 field) fs h in
         rw reads at (by-next (next.Field start star fs) w)
 
--- the fields of a text start behind its first `*`
+-- The fields of a text start behind its first `*`.
 module _ (text : List ℕ) (star : ℕ) (e : star ≡ 0 + untilStar (drop 0 text)) where
   is : star ≡ untilStar text
   is = e ∙ zero-add (untilStar text)

@@ -1,5 +1,5 @@
 -- What holds of reports:
---   report-short                   a report has at most 64 bytes, so a room of 64 bytes is never refused
+--   report-short                   a report has at most 64 bytes, so a buffer of 64 bytes is never refused
 --   counts-whole, refusal-whole    every number of a report is printed whole: its digits are read as that number
 --   bench-text, empty-text, four-blocks, two-blocks   what is written for four texts (specs/Cases.antt)
 use mathlib.Core.Path.{_≡_}

@@ -16,11 +16,11 @@ use Rattle.part.proofs.Devices.{digits-small}
 use Rattle.image.specs.Image.{sum16, zerosBelow}
 use Rattle.jedec.specs.Characters.{lf, decimalDigit, hexDigit, digitsOf, countDigits, fourHex}
 use Rattle.jedec_writer.proofs.Words.{hex-cut}
-use Rattle.jedec_writer.proofs.Lines.{digits-length}
+use Rattle.jedec_writer.proofs.LineCharacters.{digits-length}
 use Rattle.report.specs.Report.{wordBlocks, wordFuses, wordZero, wordSum, line, countLines}
 use Rattle.report.specs.Put.{Put}
 
--- the bytes still to come
+-- The bytes still to come.
 pub none-yet : (bytes out : List ℕ) (at : ℕ) → sets out (at + 0) (drop 0 bytes) ≡ sets out at bytes
 none-yet bytes out at = rw (add-zero at)
 
@@ -33,14 +33,14 @@ one-more bytes out all at i l e =
 pub none-left : (bytes out all : List ℕ) (at i : ℕ) → length bytes ≤ i → sets out (at + i) (drop i bytes) ≡ all → out ≡ all
 none-left bytes out all at i l e = rw (drop-of-length-le bytes l) at e
 
--- a store behind others
+-- A store behind others.
 set-behind : (l bytes : List ℕ) (at j b : ℕ) → at + length bytes ≤ j → set (sets l at bytes) j b ≡ sets (set l j b) at bytes
 set-behind l [] at j b h = refl
 set-behind l (c ∷ bytes) at j b h =
     set-behind (set l at c) bytes (suc at) j b (omega arith)
     ∙ ap (λ (m : List ℕ). sets m (suc at) bytes) (set-comm l at j c b (λ e. omega arith))
 
--- the digits still to come, from the last on
+-- The digits still to come, from the last on.
 pub digit-put : (out all : List ℕ) (at i rest : ℕ) → 0 < i → sets out at (digitsOf 10 decimalDigit i rest) ≡ all
     → sets (set out (at + (i - 1)) (48 + rest % 10)) at (digitsOf 10 decimalDigit (i - 1) (rest / 10)) ≡ all
 unfolding digitsOf
@@ -58,7 +58,7 @@ unfolding digitsOf
 no-digit out all at zero rest h e = e
 no-digit out all at (suc i) rest h e = absurd (omega arith)
 
--- one part after another
+-- One part after another.
 pub then : (before middle after xs ys : List ℕ) (at next end : ℕ) → Put before middle at xs next → Put middle after next ys end
     → Put before after at (xs ++ ys) end
 then before middle after xs ys at next end p q =
@@ -67,7 +67,7 @@ then before middle after xs ys at next end p q =
       ends = rw (length-append xs ys) (q .ends ∙ rw (p .ends) (add-assoc at (length xs) (length ys)));
     }
 
--- a word and a number
+-- A word and a number.
 pub digits-fit : (out middle word : List ℕ) (x at behind digits : ℕ) → Put out middle at word behind → digits ≡ decimalDigits x
     → at + length word + 7 ≤ length out → behind + digits ≤ length middle
 digits-fit out middle word x at behind digits p e h =
@@ -83,7 +83,7 @@ word-number before middle after word x at behind digits p e f =
     then before middle after word (countDigits x) at behind (behind + digits) p
     (record { holds = f ∙ rw e; ends = rw (digits-length 10 decimalDigit (decimalDigits x) x) (ap (λ (n : ℕ). behind + n) e) })
 
--- a word and four hex digits
+-- A word and four hex digits.
 pub hex-line : (out one two three word : List ℕ) (at behind end sum four : ℕ) → Put out one at word behind → four ≡ number (fourHex sum)
     → two ≡ sets one behind (cut (replicate 4 8) four) → Put two three (behind + 4) (lf ∷ []) end
     → Put out three at (line word (fourHex sum)) end
@@ -93,7 +93,7 @@ hex-line out one two three word at behind end sum four p e f q =
     then out two three (word ++ fourHex sum) (lf ∷ []) at (behind + 4) end
     (then out one two word (fourHex sum) at behind (behind + 4) p digits) q
 
--- the four lines of an image
+-- The four lines of an image.
 pub four-lines : (d : Device) (image out one two three four : List ℕ) (i j k end blocks fuses zeros sum : ℕ)
     → Put out one 0 (line wordBlocks (countDigits blocks)) i → blocks ≡ blocksOf d
     → Put one two i (line wordFuses (countDigits fuses)) j → fuses ≡ fuseCount d

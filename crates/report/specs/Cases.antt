@@ -21,7 +21,7 @@ abbrev pub EmptyText : Type 0
 EmptyText = reportOf [] ≡ line "refused 7 at 0"
 
 -- 41472 is the count of four blocks, so the list that runs past it is the fault; any other
--- count is compared with that of two
+-- count is compared with that of two.
 abbrev pub FourBlocks : Type 0
 FourBlocks = reportOf (file "*QF41472*L41471 11*" "0000") ≡ line "refused 9 at 10"
 

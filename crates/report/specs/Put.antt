@@ -6,7 +6,7 @@ use mathlib.Core.List.{List}
 use lib.ListN.{length}
 use lib.Seq.{sets}
 
--- some bytes put from an index on, and the index behind them
+-- Some bytes put from an index on, and the index behind them.
 pub record Put (before after : List ℕ) (at : ℕ) (bytes : List ℕ) (end : ℕ) : Type 0 where
   pub holds : after ≡ sets before at bytes
   pub ends : end ≡ at + length bytes

@@ -18,21 +18,21 @@ use Rattle.jedec.specs.Judge.{Judged, judge}
 use Rattle.jedec.specs.Judge.Judged.{count, start, list, sum, skipped, bad}
 use Rattle.jedec.specs.Meaning.{meaning}
 
--- "at most 65,536 bytes"
+-- "at most 65,536 bytes".
 abbrev pub most : ℕ
 most = 65536
 
--- a device of so many blocks, in the small class
+-- A device of so many blocks, in the small class.
 abbrev pub ofBlocks : ℕ → Device
 ofBlocks n = record { blocks = n; class = 0 }
 
--- the fields of a text, by what stands before each `*`: STX and the design text are no field
+-- The fields of a text, by what stands before each `*`: STX and the design text are no field.
 abbrev pub fieldsIn : (ended : List (List ℕ)) → (rest : List ℕ) → List Field
 fieldsIn [] rest = []
 fieldsIn (design ∷ ended) rest = fieldsFrom (length design + 1) ended rest .fields
 
--- what a field reads as a QF field: the fuse count that it is judged to give. One of bad form reads none; its
--- text is refused 7 for any device
+-- What a field reads as a QF field: the fuse count that it is judged to give. One of bad form reads none; its
+-- text is refused 7 for any device.
 abbrev pub fuseCountIn : Judged → Option ℕ
 fuseCountIn (count n) = some n
 fuseCountIn (start s) = none
@@ -41,12 +41,12 @@ fuseCountIn (sum x) = none
 fuseCountIn skipped = none
 fuseCountIn bad = none
 
--- what the first QF field reads
+-- What the first QF field reads.
 unfoldable pub firstCount : List Field → Option ℕ
 firstCount [] = none
 firstCount (f ∷ fields) = orElse (fuseCountIn (judge (f .bytes))) (firstCount fields)
 
--- "n = 4 where the first QF field reads 41472, else 2"
+-- "n = 4 where the first QF field reads 41472, else 2".
 abbrev pub blocksBy : Option ℕ → ℕ
 blocksBy none = 2
 blocksBy (some n) = cond (eqb n (fuseCount (ofBlocks 4))) 4 2
@@ -54,11 +54,11 @@ blocksBy (some n) = cond (eqb n (fuseCount (ofBlocks 4))) 4 2
 unfoldable pub blocksFor : (text : List ℕ) → ℕ
 blocksFor text = blocksBy (firstCount (fieldsIn (pieces text .ended) (pieces text .rest)))
 
--- what the text means for that device; "more is 7 at 65536"
+-- What the text means for that device; "more is 7 at 65536".
 unfoldable pub outcomeOf : (text : List ℕ) → Outcome (List ℕ)
 outcomeOf text = cond (ltb most (length text)) (refused 7 most) (meaning (fuseCount (ofBlocks (blocksFor text))) text)
 
--- `blocks `, `fuses `, `zero `, `sum `, `refused `, ` at `
+-- `blocks `, `fuses `, `zero `, `sum `, `refused `, ` at `.
 abbrev pub wordBlocks : List ℕ
 wordBlocks = 98 ∷ 108 ∷ 111 ∷ 99 ∷ 107 ∷ 115 ∷ 32 ∷ []
 
@@ -77,11 +77,11 @@ wordRefused = 114 ∷ 101 ∷ 102 ∷ 117 ∷ 115 ∷ 101 ∷ 100 ∷ 32 ∷ []
 abbrev pub wordAt : List ℕ
 wordAt = 32 ∷ 97 ∷ 116 ∷ 32 ∷ []
 
--- a line: a word, digits, LF
+-- A line: a word, digits, LF.
 abbrev pub line : (word digits : List ℕ) → List ℕ
 line word digits = word ++ digits ++ lf ∷ []
 
--- the four lines of an image
+-- The four lines of an image.
 unfoldable pub countLines : Device → (image : List ℕ) → List ℕ
 countLines d image =
     line wordBlocks (countDigits (blocksOf d))
@@ -89,7 +89,7 @@ countLines d image =
     ++ line wordZero (countDigits (zerosBelow image (fuseCount d)))
     ++ line wordSum (fourHex (sum16 image))
 
--- the line of a refusal
+-- The line of a refusal.
 unfoldable pub refusalLine : (number value : ℕ) → List ℕ
 refusalLine number value = wordRefused ++ countDigits number ++ line wordAt (countDigits value)
 
@@ -100,10 +100,10 @@ linesOf d (refused number value) = refusalLine number value
 unfoldable pub reportOf : (text : List ℕ) → List ℕ
 reportOf text = linesOf (ofBlocks (blocksFor text)) (outcomeOf text)
 
--- some bytes put at the start of a room: how many they are, or refusal 12 with the bytes
--- needed; what the room then holds
-abbrev pub bytesPut : (bytes room : List ℕ) → Outcome ℕ
-bytesPut bytes room = cond (ltb (length room) (length bytes)) (refused 12 (length bytes)) (accepted (length bytes))
+-- Some bytes put at the start of a buffer: how many they are, or refusal 12 with the bytes
+-- needed; what the buffer then holds.
+abbrev pub bytesPut : (bytes buffer : List ℕ) → Outcome ℕ
+bytesPut bytes buffer = cond (ltb (length buffer) (length bytes)) (refused 12 (length bytes)) (accepted (length bytes))
 
-abbrev pub atStart : (bytes room : List ℕ) → List ℕ
-atStart bytes room = bytes ++ drop (length bytes) room
+abbrev pub atStart : (bytes buffer : List ℕ) → List ℕ
+atStart bytes buffer = bytes ++ drop (length bytes) buffer

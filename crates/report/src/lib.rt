@@ -64,7 +64,7 @@ fn put_number(word: &[u8], x: u32, out: &mut [u8], at: usize) -> usize
         × (r ≤ at + length (now (word .entry)) + 7) ⌝ }
 {
     let behind = put(word, out, at);
-    let digits = part::internal::decimal_digits(x) as usize;
+    let digits = part::geometry::decimal_digits(x) as usize;
     put_digits(x, digits, out, behind);
     behind + digits
 }
@@ -106,7 +106,7 @@ fn put_sum(sum: u16, out: &mut [u8], at: usize) -> usize
     ensures { λ r. ⌜ Put (now (out .entry)) (now (out .exit)) at (line wordSum (fourHex sum)) r ⌝ }
 {
     let behind = put(b"sum ", out, at);
-    cells::internal::put_cells(jedec_writer::internal::four_hex(sum), 8, 4, out, behind);
+    cells::words::put_cells(jedec_writer::text::four_hex(sum), 8, 4, out, behind);
     put(b"\n", out, behind + 4)
 }
 
@@ -116,17 +116,17 @@ fn put_counts(d: Device, image: &[u8], out: &mut [u8]) -> usize
     ensures { λ r. ⌜ Put (now (out .entry)) (now (out .exit)) 0 (countLines d (now (image .entry))) r ⌝ }
 {
     let zeros = zeros_in(d, image);
-    let one = put_line(b"blocks ", part::internal::blocks_of(d), out, 0);
-    let two = put_line(b"fuses ", part::internal::fuse_count(d), out, one);
+    let one = put_line(b"blocks ", part::geometry::blocks_of(d), out, 0);
+    let two = put_line(b"fuses ", part::geometry::fuse_count(d), out, one);
     let three = put_line(b"zero ", zeros, out, two);
-    put_sum(image::internal::sum_of(image), out, three)
+    put_sum(image::bytes::sum_of(image), out, three)
 }
 
 // The block count where the first QF field reads a number.
 fn blocks_by(count: u32) -> u32
     ensures { λ r. ⌜ r ≡ blocksBy (some count) ⌝ }
 {
-    if count == part::internal::fuse_count(FOUR) {
+    if count == part::geometry::fuse_count(FOUR) {
         return 4;
     }
     2
@@ -139,7 +139,7 @@ fn blocks_from(text: &[u8], from: usize) -> u32
 {
     let mut at = from;
     loop {
-        let next = jedec_fields::internal::next_judged(text, at);
+        let next = jedec_fields::scan::next_judged(text, at);
         match next {
             NextSays::Early => return 2,
             NextSays::End(_) => return 2,
@@ -161,7 +161,7 @@ fn blocks_from(text: &[u8], from: usize) -> u32
 fn blocks_for(text: &[u8]) -> u32
     ensures { λ r. ⌜ r ≡ blocksFor (now (text .entry)) ⌝ }
 {
-    let star = jedec_fields::internal::next_star(text, 0);
+    let star = jedec_fields::scan::next_star(text, 0);
     if star == text.len() {
         return 2;
     }
@@ -183,8 +183,8 @@ fn put_lines(d: Device, text: &[u8], image: &mut [u8], out: &mut [u8]) -> usize
     }
 }
 
-// Room for the image of four blocks.
-fn image_room() -> [u8; 5184]
+// Buffer for the image of four blocks.
+fn image_buffer() -> [u8; 5184]
     ensures { λ r. ⌜ length r ≡ 5184 ⌝ }
 {
     [0u8; 5184]
@@ -202,8 +202,8 @@ fn put_report(text: &[u8], out: &mut [u8]) -> usize
         blocks: blocks_for(text),
         class: 0,
     };
-    let bytes = part::internal::image_bytes(d) as usize;
-    let mut image = image_room();
+    let bytes = part::geometry::image_bytes(d) as usize;
+    let mut image = image_buffer();
     put_lines(d, text, &mut image[..bytes], out)
 }
 
@@ -217,7 +217,7 @@ pub fn report(text: &[u8], out: &mut [u8]) -> NumberAnswer
     let n = put_report(text, &mut lines);
     let needed = n as u32;
     if out.len() < n {
-        return NumberAnswer::Refused(Refusal::RoomTooShort(needed));
+        return NumberAnswer::Refused(Refusal::BufferTooShort(needed));
     }
     put(&lines[..n], out, 0);
     NumberAnswer::Number(needed)

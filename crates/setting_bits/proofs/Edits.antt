@@ -19,7 +19,7 @@ use Rattle.image.specs.Bits.{bitOf, bitAt, putBit, withBit}
 use Rattle.image.specs.Image.{state}
 use Rattle.image.proofs.Bits.{put-small, gathered-same}
 use Rattle.image.proofs.Counts.{state-bit}
-use Rattle.readout.specs.Readout.{widthAt, fuseAt, readoutOf, stateIn, strayAt}
+use Rattle.readout.specs.Readout.{widthAt, fuseAt, readoutOf, stateIn, aboveAt}
 use Rattle.readout.proofs.Laws.{lying, readout-state, change-agrees}
 use Rattle.settings.specs.Settings.{hasSetting}
 use Rattle.settings.specs.declared.Setting.{Setting}
@@ -32,10 +32,10 @@ use Rattle.setting_values.specs.Kinds.{kindOf}
 use Rattle.setting_values.proofs.Widths.{kind-bits}
 use Rattle.setting_bits.specs.declared.Layout.{Layout}
 use Rattle.setting_bits.specs.declared.Layout.the-variants.{Image, Readout}
-use Rattle.setting_bits.specs.SettingBits.{bytesOf, byteOf, bitIn, stateOf, withState, patternAt, withBits, withPattern, strayAmong}
-use Rattle.setting_bits.proofs.Spots.{a-bit, put, put-length, put-other, put-same, put-read}
+use Rattle.setting_bits.specs.SettingBits.{bytesOf, byteOf, bitIn, stateOf, withState, patternAt, withBits, withPattern, aboveAmong}
+use Rattle.setting_bits.proofs.Locations.{a-bit, put, put-length, put-other, put-same, put-read}
 
--- where a fuse stands: inside the bytes, and no other fuse stands there
+-- Where a fuse stands: inside the bytes, and no other fuse stands there.
 pub inside : (d : Device) (layout : Layout) (f : ℕ) → known d ≡ true → f < fuseCount d → byteOf d layout f < bytesOf d layout
 inside d Image f k h = omega (arith, image-whole d k)
 inside d Readout f k h = lying d f h .index-below
@@ -45,14 +45,14 @@ pub one-fuse : (d : Device) (layout : Layout) (f g : ℕ) → f < fuseCount d �
 one-fuse d Image f g hf hg e b = omega arith
 one-fuse d Readout f g hf hg e b = sym (lying d f hf .its-own) ∙ ap₂ (fuseAt d) e b ∙ lying d g hg .its-own
 
--- a bit of a setting is one of its fuses, and lies below the count
+-- A bit of a setting is one of its fuses, and lies below the count.
 listed : (d : Device) (t : Setting) → hasSetting d t ≡ true → (b : ℕ) → b < bitsOf t → lists d t b ≡ true
 listed d t h b l = and-iff (hasSetting d t) (ltb b (bitsOf t)) .1 (h, lt-ltb b (bitsOf t) l)
 
 pub fuse-below : (d : Device) → known d ≡ true → (t : Setting) → hasSetting d t ≡ true → (b : ℕ) → b < bitsOf t → fuseOf d t b < fuseCount d
 fuse-below d k t h b l = places.left-inverse d k .below t b (listed d t h b l)
 
--- and each setting has one at least
+-- And each setting has one at least.
 some-bit : (k : Kind) → 0 < bitsIn k
 some-bit kind.Flag = omega arith
 some-bit kind.TermAlloc = omega arith
@@ -73,7 +73,7 @@ some-bit kind.Usercode = omega arith
 pub some-fuse : (d : Device) (t : Setting) → hasSetting d t ≡ true → 0 < bitsOf t
 some-fuse d t h = rw (← kind-bits d t h) (some-bit (kindOf d t))
 
--- bits put one after the other, as the definition has it
+-- Bits put one after the other, as the definition has it.
 as-put : (d : Device) (layout : Layout) (bytes : List ℕ) (s : Setting) (pattern w : ℕ)
     → withBits d layout bytes s pattern w ≡ put (λ b. byteOf d layout (fuseOf d s b)) (λ b. bitIn d layout (fuseOf d s b)) pattern bytes w
 unfolding withBits put
@@ -109,25 +109,25 @@ module _ (d : Device) (k : known d ≡ true) (layout : Layout) (bytes : List ℕ
   unfolding changed
   set-length = rw is-put (put-length at its pattern bytes (bitsOf s) there)
 
-  -- every bit of every byte that is none of the setting's stands as before
+  -- Every bit of every byte that is none of the setting's stands as before.
   pub set-others : (i j : ℕ) → ((b : ℕ) → b < bitsOf s → (i ≡ byteOf d layout (fuseOf d s b)) × (j ≡ bitIn d layout (fuseOf d s b)) → ⊥)
       → bitAt (withPattern d layout bytes s pattern) i j ≡ bitAt bytes i j
   unfolding changed at its
   set-others i j apart = rw is-put (put-other at its pattern bytes (bitsOf s) there (bitsOf s) (omega arith) i j apart)
 
-  -- each fuse of the setting has the state that the pattern needs
+  -- Each fuse of the setting has the state that the pattern needs.
   pub set-fuses : (b : ℕ) → b < bitsOf s → stateOf d layout (withPattern d layout bytes s pattern) (fuseOf d s b) ≡ bitOf pattern b
   unfolding changed at its
   set-fuses b l = rw is-put (put-same at its pattern bytes (bitsOf s) there differ (bitsOf s) (omega arith) b l)
 
-  -- every other fuse stands as before
+  -- Every other fuse stands as before.
   pub set-other-fuses : (f : ℕ) → f < fuseCount d → ((b : ℕ) → b < bitsOf s → fuseOf d s b ≢ f)
       → stateOf d layout (withPattern d layout bytes s pattern) f ≡ stateOf d layout bytes f
   set-other-fuses f hf apart =
       set-others (byteOf d layout f) (bitIn d layout f)
       (λ b l x. apart b l (sym (one-fuse d layout f (fuseOf d s b) hf (fuse-below d k s h b l) (x .0) (x .1))))
 
-  -- the setting reads as set, every other setting as before
+  -- The setting reads as set, every other setting as before.
   pub set-reads : pattern < 2 ^ bitsOf s → patternAt d layout (withPattern d layout bytes s pattern) s ≡ pattern
   unfolding patternAt changed at its
   set-reads fits = rw is-put (put-read at its pattern bytes (bitsOf s) there differ fits)
@@ -142,7 +142,7 @@ module _ (d : Device) (k : known d ≡ true) (layout : Layout) (bytes : List ℕ
       set-other-fuses (fuseOf d t b) (fuse-below d k t ht b l)
       (λ c m x. ne (places.apart d k t s b c (listed d t ht b l) (listed d s h c m) (sym x) .0)))
 
--- so many of the bits put: the length stays
+-- So many of the bits put: the length stays.
 bits-length : (d : Device) → known d ≡ true → (layout : Layout) (bytes : List ℕ) → length bytes ≡ bytesOf d layout
     → (s : Setting) → hasSetting d s ≡ true
     → (pattern w : ℕ) → w ≤ bitsOf s → length (withBits d layout bytes s pattern w) ≡ bytesOf d layout
@@ -152,7 +152,7 @@ bits-length d k layout bytes e s h pattern w l =
     (λ b m. rw e (inside d layout (fuseOf d s b) k (fuse-below d k s h b (omega arith))))
     ∙ e)
 
--- The two ways agree, bit after bit: the readout of the changed image is the changed readout
+-- The two ways agree, bit after bit: the readout of the changed image is the changed readout.
 module _ (d : Device) (k : known d ≡ true) (image : List ℕ) (e : length image ≡ imageBytes d)
     (s : Setting) (h : hasSetting d s ≡ true) (pattern : ℕ) where
   bits-agree : (w : ℕ) → w ≤ bitsOf s
@@ -169,7 +169,7 @@ module _ (d : Device) (k : known d ≡ true) (image : List ℕ) (e : length imag
   unfolding withPattern
   agrees = bits-agree (bitsOf s) (omega arith)
 
--- in the readout of an image each fuse stands as in the image, and so each setting
+-- In the readout of an image each fuse stands as in the image, and so each setting.
 module _ (d : Device) (image : List ℕ) where
   pub same-state : (f : ℕ) → f < fuseCount d → stateOf d Readout (readoutOf d image) f ≡ stateOf d Image image f
   unfolding readoutOf stateIn state
@@ -182,7 +182,7 @@ module _ (d : Device) (image : List ℕ) where
       gathered-same (λ b. stateOf d Readout (readoutOf d image) (fuseOf d t b)) (λ b. stateOf d Image image (fuseOf d t b)) (bitsOf t)
       (λ b l. same-state (fuseOf d t b) (fuse-below d k t h b l))
 
--- a byte keeps its bound where a bit within the bound is put
+-- A byte keeps its bound where a bit within the bound is put.
 pub with-kept : (bytes : List ℕ) (index b st : ℕ) (bound : ℕ → ℕ) → index < length bytes → st < 2 → b < bound index
     → (i : ℕ) → getD bytes i 0 < 2 ^ bound i → getD (withBit bytes index b st) i 0 < 2 ^ bound i
 unfolding withBit
@@ -211,22 +211,22 @@ module _ (d : Device) (k : known d ≡ true) (layout : Layout) (bytes : List ℕ
   unfolding withPattern
   set-kept = bits-kept (bitsOf s) (omega arith)
 
--- so a byte of an image stays a byte ..
+-- So a byte of an image stays a byte.
 pub set-small : (d : Device) → known d ≡ true → (image : List ℕ) → length image ≡ imageBytes d → (s : Setting) → hasSetting d s ≡ true
     → (pattern i : ℕ) → getD image i 0 < 2 ^ 8 → getD (withPattern d Image image s pattern) i 0 < 2 ^ 8
 set-small d k image e s h pattern = set-kept d k Image image e s h pattern (λ i. 8) (λ b l. omega arith)
 
--- .. and a readout byte without a bit above its width stays one
+-- A readout byte without a bit above its width stays one.
 pub set-clean : (d : Device) → known d ≡ true → (readout : List ℕ) → length readout ≡ readoutBytes d → (s : Setting) → hasSetting d s ≡ true
     → (pattern i : ℕ) → getD readout i 0 < 2 ^ widthAt d i → getD (withPattern d Readout readout s pattern) i 0 < 2 ^ widthAt d i
 set-clean d k readout e s h pattern =
     set-kept d k Readout readout e s h pattern (widthAt d) (λ b l. lying d (fuseOf d s b) (fuse-below d k s h b l) .bit-below)
 
--- no byte that holds the setting has a bit above its width exactly if the scan goes through
+-- No byte that holds the setting has a bit above its width exactly if the scan goes through.
 pub clean-through : (d : Device) (readout : List ℕ) (s : Setting) (w : ℕ)
     → ((b : ℕ) → b < w → getD readout (byteOf d Readout (fuseOf d s b)) 0 < 2 ^ widthAt d (byteOf d Readout (fuseOf d s b)))
-    → strayAmong d readout s w ≡ readoutBytes d
-unfolding strayAmong strayAt
+    → aboveAmong d readout s w ≡ readoutBytes d
+unfolding aboveAmong aboveAt
 clean-through d readout s zero clean = refl
 clean-through d readout s (suc w) clean =
     rw (lt-leb (2 ^ widthAt d (byteOf d Readout (fuseOf d s w))) (getD readout (byteOf d Readout (fuseOf d s w)) 0) (clean w (omega arith)))

@@ -1,7 +1,7 @@
 -- Laws about the bits of settings in images and readouts.
 -- Assumes nothing.
-pub mod Spots
+pub mod Locations
 pub mod Edits
 pub mod Steps
 pub mod Usercode
-pub mod Strays
+pub mod AboveWidth

@@ -21,21 +21,21 @@ use Rattle.part.proofs.Fuses.{of-place}
 use Rattle.part.proofs.Readouts.{of-byte}
 use Rattle.image.specs.Bits.{bitAt, gathered}
 use Rattle.image.proofs.Bits.{gathered-small}
-use Rattle.readout.specs.Readout.{widthAt, strayAt}
+use Rattle.readout.specs.Readout.{widthAt, aboveAt}
 use Rattle.readout.proofs.Laws.{lying}
 use Rattle.settings.specs.Settings.{hasSetting}
 use Rattle.settings.specs.declared.Setting.{Setting}
 use Rattle.setting_places.specs.Places.{placeOf, bitsOf, fuseOf}
-use Rattle.setting_places.proofs.Places.{has-place}
+use Rattle.setting_places.proofs.OnePlaceEach.{has-place}
 use Rattle.setting_values.specs.Kinds.{kindOf}
 use Rattle.setting_values.proofs.Widths.{kind-bits}
 use Rattle.values.proofs.Laws as values
 use Rattle.setting_bits.specs.declared.Layout.{Layout}
 use Rattle.setting_bits.specs.declared.Layout.the-variants.{Image, Readout}
-use Rattle.setting_bits.specs.SettingBits.{bytesOf, byteOf, bitIn, stateOf, strayAmong}
+use Rattle.setting_bits.specs.SettingBits.{bytesOf, byteOf, bitIn, stateOf, aboveAmong}
 use Rattle.setting_bits.proofs.Edits.{fuse-below}
 
--- an image or a readout has at least the bytes of the smallest device's image, and at most those of the largest device's readout
+-- An image or a readout has at least the bytes of the smallest device's image, and at most those of the largest device's readout.
 least : (d : Device) (main subarea : ℕ) → known d ≡ true → 2 * (main + 2 * subarea) ≤ inDevice d main subarea
 least d main subarea k =
     let two : 2 ≤ d .blocks =
@@ -48,25 +48,25 @@ unfolding readoutBytes fuseCount
 bytes-between d Image k = (omega (arith, least d 7776 648 k, image-whole d k), omega (arith, fuses-small d k, image-whole d k))
 bytes-between d Readout k = (omega (arith, least d 1080 90 k), in-device-small d 1080 90 k)
 
--- a setting has at most 32 bits
+-- A setting has at most 32 bits.
 pub bits-few : (d : Device) (s : Setting) → hasSetting d s ≡ true → bitsOf s ≤ 32
 bits-few d s h = rw (← kind-bits d s h) (values.bits-small (kindOf d s))
 
--- a byte has at most 8
+-- A byte has at most 8.
 pub width-in : (p : Place) (w : ℕ) → w ≡ widthOf (p .byte) → w < 32
 width-in p w e = omega (arith, width-small (p .byte))
 
--- the place of a bit of a setting
+-- The place of a bit of a setting.
 module _ (d : Device) (k : known d ≡ true) (s : Setting) (h : hasSetting d s ≡ true) (b : ℕ) (l : b < bitsOf s) where
-  pub place-again : placeOfFuse d (fuseOf d s b) ≡ placeOf s b
+  pub place-inverse : placeOfFuse d (fuseOf d s b) ≡ placeOf s b
   unfolding fuseOf
-  place-again = of-place d (placeOf s b) (has-place d s b k h l) .1
+  place-inverse = of-place d (placeOf s b) (has-place d s b k h l) .1
 
   pub its-byte : hasByte d (placeOf s b .byte) ≡ true
   unfolding hasPlace
   its-byte = and-iff _ _ .0 (has-place d s b k h l) .0
 
-  -- the bit of a byte is below 8
+  -- The bit of a byte is below 8.
   pub bit-small : (layout : Layout) → bitIn d layout (fuseOf d s b) < 8
   bit-small Image = omega arith
   bit-small Readout = omega (
@@ -75,7 +75,7 @@ module _ (d : Device) (k : known d ≡ true) (s : Setting) (h : hasSetting d s �
     width-small (byteOfIndex d (byteOf d Readout (fuseOf d s b))),
   )
 
--- one more bit read: a state is 0 or 1, and the bits so far are below 2^bit
+-- One more bit read: a state is 0 or 1, and the bits so far are below 2^bit.
 abbrev pub bitsRead : Device → Layout → List ℕ → Setting → ℕ → ℕ
 bitsRead d layout bytes s w = gathered (λ b. stateOf d layout bytes (fuseOf d s b)) w
 
@@ -98,7 +98,7 @@ read-more d layout bytes s pattern state bit l e g =
     let below : bitsRead d layout bytes s (suc bit) < 2 ^ suc bit = small (suc bit) in
     rw (exact, next) (sum, rw sum (omega arith))
 
--- one more byte looked at
+-- One more byte looked at.
 pub above-iff : (x w : ℕ) → not (eqb (x / 2 ^ w) 0) ≡ leb (2 ^ w) x
 above-iff x w = compared x (2 ^ w) (λ less. rw (div-eq-of-lt less, lt-leb (2 ^ w) x less)) (λ more. rw (some more, le-leb (2 ^ w) x more))
   where
@@ -110,18 +110,18 @@ above-iff x w = compared x (2 ^ w) (λ less. rw (div-eq-of-lt less, lt-leb (2 ^ 
 module _ (d : Device) (k : known d ≡ true) (readout : List ℕ) (s : Setting) (h : hasSetting d s ≡ true) (b : ℕ) (l : b < bitsOf s)
     (p : Place) (e : p ≡ placeOf s b) (index : ℕ) (g : index ≡ indexOfByte d (p .byte)) where
   pub its-index : index ≡ byteOf d Readout (fuseOf d s b)
-  its-index = g ∙ ap (λ (q : Place). indexOfByte d (q .byte)) (e ∙ sym (place-again d k s h b l))
+  its-index = g ∙ ap (λ (q : Place). indexOfByte d (q .byte)) (e ∙ sym (place-inverse d k s h b l))
 
   pub its-width : widthOf (p .byte) ≡ widthAt d index
   its-width =
       let byte : hasByte d (p .byte) ≡ true = rw e (its-byte d k s h b l) in
       ap widthOf (sym (of-byte d (p .byte) byte .1)) ∙ ap (λ (i : ℕ). widthOf (byteOfIndex d i)) (sym g)
 
-  -- the code's test of a byte is the definition's
-  pub its-test : (above lowest w : ℕ) → w ≡ widthOf (p .byte) → above ≡ getD readout index 0 / 2 ^ w → lowest ≡ strayAmong d readout s b
+  -- The code's test of a byte is the definition's.
+  pub its-test : (above lowest w : ℕ) → w ≡ widthOf (p .byte) → above ≡ getD readout index 0 / 2 ^ w → lowest ≡ aboveAmong d readout s b
       → (not (eqb above 0) && ltb index lowest)
-      ≡ (strayAt d readout (byteOf d Readout (fuseOf d s b)) && ltb (byteOf d Readout (fuseOf d s b)) (strayAmong d readout s b))
-  unfolding strayAt
+      ≡ (aboveAt d readout (byteOf d Readout (fuseOf d s b)) && ltb (byteOf d Readout (fuseOf d s b)) (aboveAmong d readout s b))
+  unfolding aboveAt
   its-test above lowest w q r m =
       let width : w ≡ widthAt d index = q ∙ its-width in
       let test : not (eqb above 0) ≡ leb (2 ^ widthAt d index) (getD readout index 0) =

@@ -22,19 +22,19 @@ use Rattle.settings.specs.Settings.{hasSetting}
 use Rattle.settings.specs.declared.GlobalField.the-variants.{FsrInv, FclkInv, FoeInv, FclkMux, FoeMux, Usercode}
 use Rattle.settings.specs.declared.Setting.{Setting}
 use Rattle.settings.specs.declared.Setting.the-variants.{Literal, WireAnd, Macrocell, Block, Global}
-use Rattle.settings.proofs.Numbers.{has-macrocell, macrocell-at}
+use Rattle.settings.proofs.Numbering.{has-macrocell, macrocell-at}
 use Rattle.setting_places.specs.Places.{placeOf, rows, bitsOf, fuseOf}
-use Rattle.setting_places.proofs.Places.{rows-few}
+use Rattle.setting_places.proofs.OnePlaceEach.{rows-few}
 use Rattle.setting_bits.specs.declared.Layout.{Layout}
 use Rattle.setting_bits.specs.declared.Layout.the-variants.{Image, Readout}
 use Rattle.setting_bits.specs.SettingBits.{bytesOf, byteOf, bitIn, stateOf, withState, patternAt, withBits, withPattern}
 use Rattle.setting_bits.proofs.Edits.{inside, fuse-below}
-use Rattle.setting_bits.proofs.Steps.{place-again, bitsRead, state-small}
+use Rattle.setting_bits.proofs.Steps.{place-inverse, bitsRead, state-small}
 
 abbrev pub usercode : Setting
 usercode = Global Usercode
 
--- no other setting has 32 bits
+-- No other setting has 32 bits.
 module _ (d : Device) where
   pub the-usercode : (s : Setting) → hasSetting d s ≡ true → bitsOf s ≡ 32 → s ≡ usercode
   unfolding bitsOf
@@ -63,14 +63,14 @@ module _ (d : Device) where
         → withPattern d layout bytes usercode pattern ≡ withPattern d layout bytes s pattern
     its-bytes layout bytes pattern = rw (the-usercode s h (sym e ∙ q))
 
--- the row and the column of a pair
+-- The row and the column of a pair.
 abbrev pub rowOf : ℕ → ℕ
 rowOf pair = 7 - pair / 8
 
 abbrev pub columnOf : ℕ → ℕ
 columnOf pair = 7 - pair % 8
 
--- the fuse of a bit, and its byte and bit in a readout
+-- The fuse of a bit, and its byte and bit in a readout.
 its-fuse : (d : Device) (b : ℕ) → fuseOf d usercode b ≡ (7 - b / 16) * 108 + (7 - b % 16 / 2) * 8 + (6 + b % 2)
 unfolding fuseOf placeOf
 its-fuse d b = rw (lt-ltb (7 - b % 16 / 2) 9 (omega arith)) (omega arith)
@@ -79,7 +79,7 @@ in-usercode : (b : ℕ) → b < 32 → b < bitsOf usercode
 unfolding bitsOf
 in-usercode b l = l
 
--- the two fuses of a pair with the states that a pattern needs: a pair more in place
+-- The two fuses of a pair with the states that a pattern needs: a pair more in place.
 abbrev pub bothStates : Device → Layout → List ℕ → (pattern pair : ℕ) → List ℕ
 bothStates d layout bytes pattern pair =
     withState d layout (withState d layout bytes (fuseOf d usercode (2 * pair)) (bitOf pattern (2 * pair)))
@@ -94,7 +94,7 @@ two-put d layout before bytes after pattern pair e g =
     let next : 2 * (pair + 1) ≡ suc (suc (2 * pair)) = omega arith in
     rw (next, ← one, ← e) g
 
--- two bits more of a number that is gathered
+-- Two bits more of a number that is gathered.
 two-more : (f : ℕ → ℕ) (w : ℕ) → gathered f (suc (suc w)) ≡ gathered f w + (f w + 2 * f (suc w)) * 2 ^ w
 unfolding gathered
 two-more f w =
@@ -104,14 +104,14 @@ two-more f w =
 module _ (d : Device) (k : known d ≡ true) (h : hasSetting d usercode ≡ true) where
   its-index : (b : ℕ) → b < 32 → byteOf d Readout (fuseOf d usercode b) ≡ (7 - b / 16) * 15 + (7 - b % 16 / 2)
   unfolding placeOf
-  its-index b l = ap (λ (p : Place). indexOfByte d (p .byte)) (place-again d k usercode h b (in-usercode b l)) ∙ omega arith
+  its-index b l = ap (λ (p : Place). indexOfByte d (p .byte)) (place-inverse d k usercode h b (in-usercode b l)) ∙ omega arith
 
   its-bit : (b : ℕ) → b < 32 → bitIn d Readout (fuseOf d usercode b) ≡ 6 + b % 2
   unfolding placeOf
-  its-bit b l = ap (λ (p : Place). p .bit) (place-again d k usercode h b (in-usercode b l))
+  its-bit b l = ap (λ (p : Place). p .bit) (place-inverse d k usercode h b (in-usercode b l))
 
   module _ (pair : ℕ) (l : pair < 16) where
-    -- the lower bit of a pair ..
+    -- The lower bit of a pair.
     pub in-readout : (rowOf pair * 15 + columnOf pair ≡ byteOf d Readout (fuseOf d usercode (2 * pair)))
         × (6 ≡ bitIn d Readout (fuseOf d usercode (2 * pair)))
     in-readout =
@@ -121,7 +121,7 @@ module _ (d : Device) (k : known d ≡ true) (h : hasSetting d usercode ≡ true
     pub in-image : (rowOf pair * 108 + columnOf pair * 8 + 6 ≡ fuseOf d usercode (2 * pair))
     in-image = rw (its-fuse d (2 * pair)) (omega arith)
 
-    -- .. is not its byte's last ..
+    -- It is not the last bit of its byte.
     low : (layout : Layout) → bitIn d layout (fuseOf d usercode (2 * pair)) < 7
     low Image = rw (its-fuse d (2 * pair)) (omega arith)
     low Readout = omega (arith, in-readout)
@@ -132,7 +132,7 @@ module _ (d : Device) (k : known d ≡ true) (h : hasSetting d usercode ≡ true
         let column : (2 * pair + 1) % 16 / 2 ≡ 2 * pair % 16 / 2 = omega arith in
         rw (its-fuse d (2 * pair), its-fuse d (2 * pair + 1), row, column) (omega arith)
 
-    -- .. and the upper one is the next bit of the same byte
+    -- The upper one is the next bit of the same byte.
     pub upper : (layout : Layout)
         → (byteOf d layout (fuseOf d usercode (2 * pair + 1)) ≡ byteOf d layout (fuseOf d usercode (2 * pair)))
         × (bitIn d layout (fuseOf d usercode (2 * pair + 1)) ≡ bitIn d layout (fuseOf d usercode (2 * pair)) + 1)
@@ -143,17 +143,17 @@ module _ (d : Device) (k : known d ≡ true) (h : hasSetting d usercode ≡ true
         rw (its-index (2 * pair) twice, its-index (2 * pair + 1) next, its-bit (2 * pair) twice, its-bit (2 * pair + 1) next)
         (omega arith, omega arith)
 
-    -- the byte is there
+    -- The byte is there.
     module _ (layout : Layout) (index bit : ℕ) (x : index ≡ byteOf d layout (fuseOf d usercode (2 * pair)))
         (y : bit ≡ bitIn d layout (fuseOf d usercode (2 * pair))) where
-      pub spot-in : (bytes : List ℕ) → length bytes ≡ bytesOf d layout → index < length bytes
-      spot-in bytes e = rw (e, x)
+      pub location-in : (bytes : List ℕ) → length bytes ≡ bytesOf d layout → index < length bytes
+      location-in bytes e = rw (e, x)
           (inside d layout (fuseOf d usercode (2 * pair)) k (fuse-below d k usercode h (2 * pair) (in-usercode (2 * pair) (omega arith))))
 
-      pub spot-low : bit < 7
-      spot-low = rw y (low layout)
+      pub location-low : bit < 7
+      location-low = rw y (low layout)
 
-      -- a pair more read
+      -- A pair more read.
       pub pair-more : (bytes : List ℕ) (pattern states : ℕ) → pattern ≡ bitsRead d layout bytes usercode (2 * pair)
           → states ≡ bitAt bytes index bit + 2 * bitAt bytes index (bit + 1)
           → (pattern + states * 2 ^ (2 * pair) % 2 ^ 32 ≡ bitsRead d layout bytes usercode (2 * (pair + 1)))
@@ -178,7 +178,7 @@ module _ (d : Device) (k : known d ≡ true) (h : hasSetting d usercode ≡ true
           gathered-small state small (suc (suc (2 * pair))) in
           rw (exact, next) (sum, rw sum (omega arith))
 
-      -- a pair put in place
+      -- A pair put in place.
       pub pair-put : (bytes after : List ℕ) (pattern : ℕ)
           → after ≡ withBit (withBit bytes index bit (pattern / 2 ^ (2 * pair) % 4 % 2)) index (bit + 1) (pattern / 2 ^ (2 * pair) % 4 / 2)
           → after ≡ bothStates d layout bytes pattern pair

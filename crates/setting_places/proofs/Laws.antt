@@ -34,15 +34,15 @@ use Rattle.setting_places.specs.Operations.{fuseOfBit, settingAtFuse}
 use Rattle.setting_places.specs.Cases.{UsercodeRows, AllHold, benchCases, corners, ofMacrocellAndBlock, ofGlobals}
 use Rattle.part.specs.Cases.{twoSmall}
 use Rattle.settings.specs.Cases.{twoLarge}
-use Rattle.setting_places.proofs.Places.{has-place, candidate-again}
+use Rattle.setting_places.proofs.OnePlaceEach.{has-place, candidate-inverse}
 use Rattle.setting_places.proofs.OnFuses as on-fuses
 
--- what is given only where a test passes
+-- What is given only where a test passes.
 given : {A : Type 0} (t : Bool) (x y : A) → _≡_ {A = Option A} (cond t (some x) none) (some y) → (t ≡ true) × (x ≡ y)
 given true x y e = (refl, cc e)
 given false x y e = let z : _≡_ {A = ℕ} 0 1 = cc in absurd (omega arith)
 
--- The way back is the left inverse of the step to the fuse, and leads nowhere else
+-- The way back is the left inverse of the step to the fuse, and leads nowhere else.
 module _ (d : Device) (k : known d ≡ true) where
   pub listed : (s : Setting) (bit : ℕ) → lists d s bit ≡ true → (hasSetting d s ≡ true) × (bit < bitsOf s)
   listed s bit h = let both = and-iff (hasSetting d s) (ltb bit (bitsOf s)) .0 h in (both .0, ltb-true _ _ (both .1))
@@ -54,7 +54,7 @@ module _ (d : Device) (k : known d ≡ true) where
     again = λ s bit h.
         let l = listed s bit h in
         let place = of-place d (placeOf s bit) (has-place d s bit k (l .0) (l .1)) .1 in
-        rw (place, candidate-again d s bit (l .0) (l .1), h, eq-eqb (fuseOf d s bit) (fuseOf d s bit) refl);
+        rw (place, candidate-inverse d s bit (l .0) (l .1), h, eq-eqb (fuseOf d s bit) (fuseOf d s bit) refl);
   }
 
   pub sound : on-fuses.Sound (fuseCount d) (lists d) (fuseOf d) (settingAt d)
@@ -70,15 +70,15 @@ module _ (d : Device) (k : known d ≡ true) where
           subst (λ (p : Setting × ℕ). (lists d (p .0) (p .1) ≡ true) × (fuseOf d (p .0) (p .1) ≡ f)) (its .1)
           (both .0, eqb-true _ f (both .1))
 
-  -- no two settings share a fuse, and no setting has a fuse twice
+  -- No two settings share a fuse, and no setting has a fuse twice.
   pub apart : (s t : Setting) (b c : ℕ) → lists d s b ≡ true → lists d t c ≡ true → fuseOf d s b ≡ fuseOf d t c → (s ≡ t) × (b ≡ c)
   apart = on-fuses.apart (fuseCount d) (lists d) (fuseOf d) (settingAt d) left-inverse
 
-  -- a fuse is unnamed exactly if no setting lists it
+  -- A fuse is unnamed exactly if no setting lists it.
   pub unnamed : (f : ℕ) → (settingAt d f ≡ none) ↔ ((s : Setting) (bit : ℕ) → lists d s bit ≡ true → fuseOf d s bit ≡ f → ⊥)
   unnamed = on-fuses.unnamed-iff (fuseCount d) (lists d) (fuseOf d) (settingAt d) left-inverse sound
 
--- a bit of a setting and its fuse, through the operations
+-- A bit of a setting and its fuse, through the operations.
 fuses-to : (d : Device) (s : Setting) (bit f : ℕ) → fuseOfBit d s bit ≡ accepted (some f) → settingAtFuse d f ≡ accepted (some (s, bit))
 unfolding fuseOfBit settingAtFuse
 fuses-to d s bit f e =
@@ -103,7 +103,7 @@ pub fuses-inverse : (d : Device) (s : Setting) (bit f : ℕ)
     → (fuseOfBit d s bit ≡ accepted (some f)) ↔ (settingAtFuse d f ≡ accepted (some (s, bit)))
 fuses-inverse d s bit f = (fuses-to d s bit f, fuses-from d s bit f)
 
--- a fuse that is named is one of a setting that the device has
+-- A fuse that is named is one of a setting that the device has.
 pub at-fuse-has : (d : Device) (f : ℕ) (s : Setting) (bit : ℕ) → settingAtFuse d f ≡ accepted (some (s, bit))
     → (known d ≡ true) × (hasSetting d s ≡ true)
 unfolding fuseOfBit

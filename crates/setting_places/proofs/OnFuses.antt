@@ -9,16 +9,16 @@ use Prim.Native.Nat.{ℕ, _<_}
 use native.Mathlib.Omega.{arith}
 
 module _ {S : Type 0} (count : ℕ) (lists : S → ℕ → Bool) (fuse : S → ℕ → ℕ) (back : ℕ → Option (S × ℕ)) where
-  -- each bit that a setting lists has a fuse below the count, from which the way back leads to it ..
+  -- Each bit that a setting lists has a fuse below the count, from which the way back leads to it.
   pub record LeftInverse : Type 0 where
     pub below : (s : S) (bit : ℕ) → lists s bit ≡ true → fuse s bit < count
     pub again : (s : S) (bit : ℕ) → lists s bit ≡ true → back (fuse s bit) ≡ some (s, bit)
 
-  -- .. and the way back leads nowhere else
+  -- The way back leads nowhere else.
   abbrev pub Sound : Type 0
   Sound = (f : ℕ) (s : S) (bit : ℕ) → back f ≡ some (s, bit) → (lists s bit ≡ true) × (fuse s bit ≡ f)
 
-  -- two bits on one fuse are the same bit of the same setting
+  -- Two bits on one fuse are the same bit of the same setting.
   pub apart : LeftInverse → (s t : S) (b c : ℕ) → lists s b ≡ true → lists t c ≡ true → fuse s b ≡ fuse t c → (s ≡ t) × (b ≡ c)
   apart left s t b c hs ht e = (ap (λ (p : S × ℕ). p .0) one, ap (λ (p : S × ℕ). p .1) one)
     where
@@ -28,7 +28,7 @@ module _ {S : Type 0} (count : ℕ) (lists : S → ℕ → Bool) (fuse : S → �
       one : _≡_ {A = S × ℕ} (s, b) (t, c)
       one = cc both
 
-  -- a fuse is unnamed exactly if no setting lists it
+  -- A fuse is unnamed exactly if no setting lists it.
   pub unnamed-iff : LeftInverse → Sound → (f : ℕ) → (back f ≡ none) ↔ ((s : S) (bit : ℕ) → lists s bit ≡ true → fuse s bit ≡ f → ⊥)
   unnamed-iff left sound f = (λ e s bit h at. differ (sym (left .again s bit h) ∙ ap back at ∙ e), λ never. named (back f) never (sound f))
     where

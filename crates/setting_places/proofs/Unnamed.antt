@@ -27,16 +27,16 @@ use Rattle.settings.specs.declared.GlobalField.{GlobalField}
 use Rattle.settings.specs.declared.GlobalField.the-variants.{FsrInv, FclkInv, FoeInv, FclkMux, FoeMux, Usercode}
 use Rattle.settings.specs.declared.Setting.{Setting}
 use Rattle.settings.specs.declared.Setting.the-variants.{Literal, WireAnd, Macrocell, Block, Global}
-use Rattle.settings.proofs.Numbers.{block-0}
+use Rattle.settings.proofs.Numbering.{block-0}
 use Rattle.setting_places.specs.Places.{main, wireAnd, bitsOf, blockPlace, globalPlace, placeOf, fuseOf, lists}
 use Rattle.setting_places.specs.Back.{candidateInMain, candidateAt, fieldIndexAtRow, lastUpTo, ifListed, settingAt}
 use Rattle.setting_places.specs.Unnamed.{oneIfNone, unnamedBelow, UnnamedCount}
-use Rattle.setting_places.specs.declared.internal.Candidate.{Candidate}
-use Rattle.setting_places.proofs.Places.{has-place}
+use Rattle.setting_places.specs.declared.candidates.Candidate.{Candidate}
+use Rattle.setting_places.proofs.OnePlaceEach.{has-place}
 use Rattle.setting_places.proofs.Laws.{listed, left-inverse}
 use Rattle.part.proofs.Sums.{sum, sum-same, sum-all, sum-add, sum-first, sum-times}
 
--- Whether a place of a main area is this one: its block, and the rest of it
+-- Whether a place of a main area is this one: its block, and the rest of it.
 abbrev ofBlock : ℕ → BytePlace → Bool
 ofBlock block (byte.Main b r c) = eqb b block
 ofBlock block (byte.WireAnd b s r c) = false
@@ -61,7 +61,7 @@ module _ (block row column bit : ℕ) where
       let facts = simp tests at h in rw (facts .0, facts .1 .0 .0, facts .1 .0 .1, facts .1 .1)
   is-main (byte.WireAnd b s r c) k h = absurd (true≢false (sym h))
 
--- The settings of a main area, whatever its block: whether there is such a one, with so many FOE ..
+-- The settings of a main area, whatever its block: whether there is such a one, with so many FOE.
 abbrev hasWith : (foeCount : ℕ) → Setting → Bool
 hasWith e (Literal block j k l polarity) = ltb j macrocells && ltb k terms && ltb l inputs
 hasWith e (WireAnd i j k l) = false
@@ -69,7 +69,7 @@ hasWith e (Macrocell block m field) = ltb m macrocells && ltb (macrocellIndex fi
 hasWith e (Block block field) = true
 hasWith e (Global field) = ltb (globalIndex e field) (globalFields e)
 
--- .. whether it stands in this block, a global one in the first only ..
+-- Whether it stands in this block: a global one stands in the first only.
 abbrev stands : (first : Bool) → Setting → Bool
 stands first (Literal block j k l polarity) = true
 stands first (WireAnd i j k l) = false
@@ -77,13 +77,13 @@ stands first (Macrocell block m field) = true
 stands first (Block block field) = true
 stands first (Global field) = first
 
--- .. and whether the candidate at a row, column and bit is one that lies there
+-- Whether the candidate at a row, column and bit is one that lies there.
 abbrev named : (foeCount : ℕ) (first : Bool) (row column bit : ℕ) → Candidate → Bool
 named e first row column bit c =
     (stands first (c .setting) && atBit row column bit (placeOf (c .setting) (c .bit)))
     && (hasWith e (c .setting) && ltb (c .bit) (bitsOf (c .setting)))
 
--- what may be a candidate in the main area of a block
+-- What may be a candidate in the main area of a block.
 data InMain (block : ℕ) : Setting → Type 0 where
   literal : (j k l : ℕ) (polarity : Polarity) → InMain block (Literal block j k l polarity)
   macrocell : (m : ℕ) (field : MacrocellField) → InMain block (Macrocell block m field)
@@ -100,13 +100,13 @@ candidate-in-main block row column bit =
     (λ g. by-cases (CandidateInMain block) row 12 (λ l. blocks _)
     (λ g. by-cases (CandidateInMain block) row 55 (λ l. macrocell _ _) (λ g. blocks _))))
 
-in-its-block : (block : ℕ) (f : BlockField) → ofBlock block (blockPlace block f .byte) ≡ true
-in-its-block block Enable = eq-eqb block block refl
-in-its-block block ExportEnable = eq-eqb block block refl
-in-its-block block PullupDisable = eq-eqb block block refl
-in-its-block block ReadProtA = eq-eqb block block refl
-in-its-block block ReadProtB = eq-eqb block block refl
-in-its-block block WriteProt = eq-eqb block block refl
+block-and-rest : (block : ℕ) (f : BlockField) → ofBlock block (blockPlace block f .byte) ≡ true
+block-and-rest block Enable = eq-eqb block block refl
+block-and-rest block ExportEnable = eq-eqb block block refl
+block-and-rest block PullupDisable = eq-eqb block block refl
+block-and-rest block ReadProtA = eq-eqb block block refl
+block-and-rest block ReadProtB = eq-eqb block block refl
+block-and-rest block WriteProt = eq-eqb block block refl
 
 in-first : (block : ℕ) (f : GlobalField) (bit : ℕ) → ofBlock block (globalPlace f bit .byte) ≡ eqb 0 block
 in-first block FsrInv bit = refl
@@ -121,7 +121,7 @@ module _ (block : ℕ) where
   unfolding placeOf
   stands-here bit (literal j k l polarity) = eq-eqb block block refl
   stands-here bit (macrocell m field) = eq-eqb block block refl
-  stands-here bit (blocks field) = in-its-block block field
+  stands-here bit (blocks field) = block-and-rest block field
   stands-here bit (global field) = in-first block field bit
 
   has-with : (d : Device) → block < blocksOf d → {s : Setting} → InMain block s → hasSetting d s ≡ hasWith (foes d) s
@@ -131,7 +131,7 @@ module _ (block : ℕ) where
   has-with d h (blocks field) = lt-ltb block (blocksOf d) h
   has-with d h (global field) = refl
 
--- two tests that pass together
+-- Two tests that pass together.
 same-test : (a b : Bool) → (a ≡ true → b ≡ true) → (b ≡ true → a ≡ true) → a ≡ b
 same-test true b to from = sym (to refl)
 same-test false true to from = from refl
@@ -141,13 +141,13 @@ one-unless : (t : Bool) (x : Setting × ℕ) → oneIfNone (cond t (some x) none
 one-unless true x = refl
 one-unless false x = refl
 
--- the bits of a wire-AND row are its inputs
+-- The bits of a wire-AND row are its inputs.
 input-of : (column bit : ℕ) → column < 5 → bit < wireAndWidth column → column + 5 * bit < 36
 input-of column bit h =
     by-cases (λ w. bit < w → column + 5 * bit < 36) column 1 (λ l b. omega arith) (λ g b. omega arith)
 
 module _ (d : Device) (k : known d ≡ true) (f : ℕ) (below : f < fuseCount d) where
-  -- a setting lists a fuse of a main area exactly if the place of its bit is the fuse's
+  -- A setting lists a fuse of a main area exactly if the place of its bit is the fuse's.
   lists-at : (block row column bit : ℕ) → main block row column bit ≡ placeOfFuse d f → (s : Setting) (b : ℕ)
       → (lists d s b && eqb (fuseOf d s b) f) ≡ (isMain block row column bit (placeOf s b) && lists d s b)
   unfolding fuseOf
@@ -166,7 +166,7 @@ module _ (d : Device) (k : known d ≡ true) (f : ℕ) (below : f < fuseCount d)
       let same : p ≡ main block row column bit = is-main block row column bit (p .byte) (p .bit) (at .0 h .0) in
       on .1 (at .0 h .1, eq-eqb _ f (ap (fuseOfPlace d) (same ∙ e) ∙ at-fuse d f below .1)))
 
-  -- a fuse of a main area is unnamed where the candidate does not lie there
+  -- A fuse of a main area is unnamed where the candidate does not lie there.
   main-unnamed : (block row column bit : ℕ) → block < blocksOf d → main block row column bit ≡ placeOfFuse d f
       → oneIfNone (settingAt d f) ≡ cond (named (foes d) (eqb 0 block) row column bit (candidateInMain block row column bit)) 0 1
   unfolding settingAt candidateAt
@@ -179,7 +179,7 @@ module _ (d : Device) (k : known d ≡ true) (f : ℕ) (below : f < fuseCount d)
           rw (lists-at block row column bit e (c .setting) (c .bit), stands-here block (c .bit) i, has-with block d h i)
           (one-unless (named (foes d) (eqb 0 block) row column bit c) (c .setting, c .bit))
 
-  -- every fuse of a wire-AND area is named
+  -- Every fuse of a wire-AND area is named.
   wire-and-named : (block subarea row column bit : ℕ) → wireAnd block subarea row column bit ≡ placeOfFuse d f
       → oneIfNone (settingAt d f) ≡ 0
   unfolding hasPlace hasSetting bitsOf placeOf fuseOf
@@ -194,7 +194,7 @@ module _ (d : Device) (k : known d ≡ true) (f : ℕ) (below : f < fuseCount d)
       let on : fuseOf d s 0 ≡ f = rw (left, up) (ap (fuseOfPlace d) e ∙ lies .1) in
       ap oneIfNone (ap (settingAt d) (sym on) ∙ left-inverse d k .again s 0 (and-iff (hasSetting d s) true .1 (has, refl)))
 
--- How many are unnamed in a main area, computed row by row
+-- How many are unnamed in a main area, computed row by row.
 abbrev unnamedInRow : (foeCount : ℕ) (first : Bool) (block row rest : ℕ) → ℕ
 unnamedInRow e first block row rest =
     cond (named e first row (columnInRow 9 6 rest) (bitInRow 9 6 rest)
@@ -218,7 +218,7 @@ unnamedInBlock d block = unnamedInMain (foes d) (eqb 0 block) block
 abbrev unnamedAt : Device → ℕ → ℕ
 unnamedAt d f = oneIfNone (settingAt d f)
 
--- the fuses of a block: those of its main area, and then those of its subareas
+-- The fuses of a block: those of its main area, and then those of its subareas.
 module _ (d : Device) (k : known d ≡ true) (block : ℕ) (h : block < blocksOf d) where
   abbrev fuse : ℕ → ℕ
   fuse rest = block * blockFuses d + rest
@@ -255,7 +255,7 @@ unfolding unnamedBelow sum
 below-sum d zero = refl
 below-sum d (suc n) = ap (λ (x : ℕ). x + unnamedAt d n) (below-sum d n)
 
--- the first block and the others
+-- The first block and the others.
 all-blocks : (d : Device) (n : ℕ) → sum (unnamedInBlock d) (1 + n) ≡ cond (isLarge d) 570 576 + n * 624
 all-blocks d n =
     sum-first (unnamedInBlock d) n

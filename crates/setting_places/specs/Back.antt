@@ -23,12 +23,12 @@ use Rattle.settings.specs.declared.GlobalField.the-variants.{FsrInv, FclkInv, F
 use Rattle.settings.specs.declared.Setting.{Setting}
 use Rattle.settings.specs.declared.Setting.the-variants.{Literal, WireAnd, Macrocell, Block, Global}
 use Rattle.setting_places.specs.Places.{firstRow, fuseOf, lists}
-use Rattle.setting_places.specs.declared.internal.Candidate.{Candidate}
+use Rattle.setting_places.specs.declared.candidates.Candidate.{Candidate}
 
 abbrev pub polarityOfRow : ℕ → Polarity
 polarityOfRow row = cond (eqb (row % 2) 1) P N
 
--- the last of a macrocell's fields that starts at or before a row
+-- The last of a macrocell's fields that starts at or before a row.
 unfoldable pub lastUpTo : (row index : ℕ) → ℕ
 lastUpTo row zero = zero
 lastUpTo row (suc i) = cond (leb (firstRow (macrocellFieldAt (suc i))) row) (suc i) (lastUpTo row i)
@@ -82,7 +82,7 @@ candidateIn (byte.WireAnd block subarea row column) bit =
 unfoldable pub candidateAt : Place → Candidate
 candidateAt p = candidateIn (p .byte) (p .bit)
 
--- the setting and the bit whose fuse it is, or none
+-- The setting and the bit whose fuse it is, or none.
 abbrev pub ifListed : Device → ℕ → Candidate → Option (Setting × ℕ)
 ifListed d fuse c =
     cond (lists d (c .setting) (c .bit) && eqb (fuseOf d (c .setting) (c .bit)) fuse) (some (c .setting, c .bit)) none

@@ -18,14 +18,14 @@ use Rattle.settings.specs.declared.Setting.the-variants.{Literal, WireAnd, Macr
 use Rattle.setting_places.specs.Places.{main, globalPlace}
 use Rattle.setting_places.specs.Operations.{fuseOfBit, settingAtFuse}
 
--- (6,i,b) is bit 16+2(7-i)+(b-6), (7,i,b) is bit 2(7-i)+(b-6), i 0 to 7, b 6 or 7
+-- (6,i,b) is bit 16+2(7-i)+(b-6), (7,i,b) is bit 2(7-i)+(b-6), i 0 to 7, b 6 or 7.
 abbrev pub UsercodeRows : Type 0
 UsercodeRows =
     (i b : ℕ) → i < 8 → 6 ≤ b → b < 8
     → (globalPlace Usercode (16 + 2 * (7 - i) + (b - 6)) ≡ main 0 6 i b)
     × (globalPlace Usercode (2 * (7 - i) + (b - 6)) ≡ main 0 7 i b)
 
--- a bit of a setting is this fuse, and the other way round
+-- A bit of a setting is this fuse, and the other way round.
 pub record Case : Type 0 where
   pub setting : Setting
   pub bit : ℕ
@@ -40,7 +40,7 @@ AllHold d cases =
     × (map (λ (c : Case). settingAtFuse d (c .fuse)) cases
     ≡ map (λ (c : Case). accepted (some (c .setting, c .bit))) cases)
 
--- the bench cases
+-- The bench cases.
 abbrev pub benchCases : List Case
 benchCases =
     is (Literal 0 4 2 7 P) 0 1677
@@ -51,7 +51,7 @@ benchCases =
     ∷ is (Global Usercode) 31 655
     ∷ []
 
--- literals and wire-ANDs: the first and last bits of wide and narrow columns
+-- Literals and wire-ANDs: the first and last bits of wide and narrow columns.
 abbrev pub corners : List Case
 corners =
     is (Literal 0 0 0 0 N) 0 0
@@ -66,7 +66,7 @@ corners =
     ∷ is (WireAnd 1 34 1 17) 0 18143
     ∷ []
 
--- the bits of a setting, from 0 on
+-- The bits of a setting, from 0 on.
 abbrev pub bitsFrom : ℕ → Setting → List ℕ → List Case
 bitsFrom bit s [] = []
 bitsFrom bit s (fuse ∷ fuses) = is s bit fuse ∷ bitsFrom (suc bit) s fuses
@@ -74,11 +74,11 @@ bitsFrom bit s (fuse ∷ fuses) = is s bit fuse ∷ bitsFrom (suc bit) s fuses
 abbrev pub bits : Setting → List ℕ → List Case
 bits s fuses = bitsFrom 0 s fuses
 
--- the fuse at a block, a main row, a column of 8 bits and a bit
+-- The fuse at a block, a main row, a column of 8 bits and a bit.
 abbrev pub at : (block row column bit : ℕ) → ℕ
 at block row column bit = block * 9072 + row * 108 + column * 8 + bit
 
--- every field of macrocell 10, which has column 1 and bit 7, and of block 1
+-- Every field of macrocell 10, which has column 1 and bit 7, and of block 1.
 abbrev pub ofMacrocellAndBlock : List Case
 ofMacrocellAndBlock =
     bits (Macrocell 0 10 (Alloc 0)) (at 0 12 1 7 ∷ at 0 13 1 7 ∷ [])
@@ -115,7 +115,7 @@ ofMacrocellAndBlock =
     ++ bits (Block 1 ReadProtB) (at 1 68 3 6 ∷ [])
     ++ bits (Block 1 WriteProt) (at 1 68 0 6 ∷ [])
 
--- every global field of the large class
+-- Every global field of the large class.
 abbrev pub ofGlobals : List Case
 ofGlobals =
     bits (Global FsrInv) (at 0 0 1 6 ∷ [])

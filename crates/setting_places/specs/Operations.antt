@@ -18,7 +18,7 @@ use Rattle.setting_places.specs.Back.{settingAt}
 unfoldable pub bitsOfSetting : Device → Setting → Outcome ℕ
 bitsOfSetting d s = ifSetting d s (accepted (bitsOf s))
 
--- a bit at or over the setting's width has no fuse
+-- A bit at or over the setting's width has no fuse.
 unfoldable pub fuseOfBit : Device → Setting → ℕ → Outcome (Option ℕ)
 fuseOfBit d s bit = ifSetting d s (accepted (cond (ltb bit (bitsOf s)) (some (fuseOf d s bit)) none))
 

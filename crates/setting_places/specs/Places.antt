@@ -22,19 +22,19 @@ use Rattle.settings.specs.declared.GlobalField.the-variants.{FsrInv, FclkInv, F
 use Rattle.settings.specs.declared.Setting.{Setting}
 use Rattle.settings.specs.declared.Setting.the-variants.{Literal, WireAnd, Macrocell, Block, Global}
 
--- a bit of the main area, and of the wire-AND area
+-- A bit of the main area, and of the wire-AND area.
 abbrev pub main : (block row column bit : ℕ) → Place
 main block row column bit = record { byte = byte.Main block row column; bit = bit }
 
 abbrev pub wireAnd : (block subarea row column bit : ℕ) → Place
 wireAnd block subarea row column bit = record { byte = byte.WireAnd block subarea row column; bit = bit }
 
--- Term literal: row 2l+1 for P, 2l for N
+-- Term literal: row 2l+1 for P, 2l for N.
 abbrev pub literalRow : ℕ → Polarity → ℕ
 literalRow l P = 2 * l + 1
 literalRow l N = 2 * l
 
--- Macrocell m, by row: the first row of each field, which holds its bit 0 ..
+-- Macrocell m, by row: the first row of each field, which holds its bit 0.
 abbrev pub firstRow : MacrocellField → ℕ
 firstRow (Alloc k) = 12 + 2 * k
 firstRow Inv = 22
@@ -56,7 +56,7 @@ firstRow IobGnd = 48
 firstRow IobSlew = 49
 firstRow (Hp k) = 50 + k
 
--- .. and how many rows it has: 12+2k and 13+2k; 27, 28; 29 to 31; 36, 37; 44, 45; every other one
+-- How many rows it has: 12+2k and 13+2k; 27, 28; 29 to 31; 36, 37; 44, 45; every other one.
 abbrev pub rows : MacrocellField → ℕ
 rows (Alloc k) = 2
 rows Inv = 1
@@ -78,7 +78,7 @@ rows IobGnd = 1
 rows IobSlew = 1
 rows (Hp k) = 1
 
--- Each block (row, column, bit)
+-- Each block (row, column, bit).
 abbrev pub blockPlace : ℕ → BlockField → Place
 blockPlace block Enable = main block 67 0 6
 blockPlace block ExportEnable = main block 67 1 6
@@ -89,7 +89,7 @@ blockPlace block WriteProt = main block 68 0 6
 
 -- Block 0: (0,1,6) FSR_INV; (0,2+c,6) FCLK[c].INV; (0,5+e,6) FOE[e].INV; rows 3 and 4, bit 6 of those same columns:
 -- FCLK[c].MUX and FOE[e].MUX, bits 0 and 1. USERCODE: bits 16 to 31 in row 6, bits 0 to 15 in row 7 (`UsercodeRows` in
--- specs/Cases.antt has document 01's own words, from place to bit; law `usercode-rows`)
+-- specs/Cases.antt has document 01's own words, from place to bit; law `usercode-rows`).
 abbrev pub globalPlace : GlobalField → ℕ → Place
 globalPlace FsrInv bit = main 0 0 1 6
 globalPlace (FclkInv c) bit = main 0 0 (2 + c) 6
@@ -98,18 +98,18 @@ globalPlace (FclkMux c) bit = main 0 (3 + bit) (2 + c) 6
 globalPlace (FoeMux e) bit = main 0 (3 + bit) (5 + e) 6
 globalPlace Usercode bit = main 0 (7 - bit / 16) (7 - bit % 16 / 2) (6 + bit % 2)
 
--- the place of a bit of a setting
+-- The place of a bit of a setting.
 unfoldable pub placeOf : Setting → ℕ → Place
--- term literal: block, macrocell j, term k, input l, polarity: column k + 5(j mod 3); bit j div 3
+-- Term literal: block, macrocell j, term k, input l, polarity: column k + 5(j mod 3); bit j div 3.
 placeOf (Literal block j k l polarity) bit = main block (literalRow l polarity) (k + 5 * (j % 3)) (j / 3)
--- wire-AND: block i, input j, source block k, macrocell l: subarea k, row l, column j mod 5, bit j div 5
+-- wire-AND: block i, input j, source block k, macrocell l: subarea k, row l, column j mod 5, bit j div 5.
 placeOf (WireAnd i j k l) bit = wireAnd i k l (j % 5) (j / 5)
--- macrocell m: column m mod 9, bit 6 + m div 9, by row
+-- Macrocell m: column m mod 9, bit 6 + m div 9, by row.
 placeOf (Macrocell block m field) bit = main block (firstRow field + bit) (m % 9) (6 + m / 9)
 placeOf (Block block field) bit = blockPlace block field
 placeOf (Global field) bit = globalPlace field bit
 
--- how many bits a setting has
+-- How many bits a setting has.
 abbrev pub globalBits : GlobalField → ℕ
 globalBits FsrInv = 1
 globalBits (FclkInv c) = 1
@@ -125,10 +125,10 @@ bitsOf (Macrocell block m field) = rows field
 bitsOf (Block block field) = 1
 bitsOf (Global field) = globalBits field
 
--- the fuse of a bit of a setting: the fuse at its place
+-- The fuse of a bit of a setting: the fuse at its place.
 unfoldable pub fuseOf : Device → Setting → ℕ → ℕ
 fuseOf d s bit = fuseOfPlace d (placeOf s bit)
 
--- a setting of the device, and one of its bits
+-- A setting of the device, and one of its bits.
 abbrev pub lists : Device → Setting → ℕ → Bool
 lists d s bit = hasSetting d s && ltb bit (bitsOf s)

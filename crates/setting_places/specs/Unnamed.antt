@@ -10,12 +10,12 @@ use Rattle.part.specs.declared.Device.{Device}
 use Rattle.settings.specs.declared.Setting.{Setting}
 use Rattle.setting_places.specs.Back.{settingAt}
 
--- 1 for a fuse that has no setting
+-- 1 for a fuse that has no setting.
 abbrev pub oneIfNone : Option (Setting × ℕ) → ℕ
 oneIfNone none = 1
 oneIfNone (some x) = 0
 
--- the unnamed fuses among the first so many
+-- The unnamed fuses among the first so many.
 unfoldable pub unnamedBelow : Device → ℕ → ℕ
 unnamedBelow d zero = 0
 unnamedBelow d (suc fuse) = unnamedBelow d fuse + oneIfNone (settingAt d fuse)

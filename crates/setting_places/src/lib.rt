@@ -10,7 +10,8 @@ use part::NumberAnswer;
 use part::Refusal;
 use settings::Setting;
 
-pub mod internal;
+pub mod candidates;
+pub mod places;
 
 // The fuse of a bit of a setting; `NoSuchBit` where the bit is at or over the setting's width.
 pub enum BitAnswer {
@@ -33,10 +34,10 @@ pub fn bits_of_setting(d: Device, s: Setting) -> NumberAnswer
     if !part::is_known(d) {
         return NumberAnswer::Refused(Refusal::UnknownDevice);
     }
-    if !settings::internal::has_setting(d, s) {
+    if !settings::fields::has_setting(d, s) {
         return NumberAnswer::Refused(Refusal::NoSuchSetting);
     }
-    NumberAnswer::Number(internal::bits_of(d, s))
+    NumberAnswer::Number(places::bits_of(d, s))
 }
 
 // The fuse of a bit of a setting, lowest bit first. Refused: 1, 4.
@@ -46,13 +47,13 @@ pub fn fuse_of_bit(d: Device, s: Setting, bit: u32) -> BitAnswer
     if !part::is_known(d) {
         return BitAnswer::Refused(Refusal::UnknownDevice);
     }
-    if !settings::internal::has_setting(d, s) {
+    if !settings::fields::has_setting(d, s) {
         return BitAnswer::Refused(Refusal::NoSuchSetting);
     }
-    if internal::bits_of(d, s) <= bit {
+    if places::bits_of(d, s) <= bit {
         return BitAnswer::NoSuchBit;
     }
-    BitAnswer::Fuse(internal::fuse_of(d, s, bit))
+    BitAnswer::Fuse(places::fuse_of(d, s, bit))
 }
 
 // The setting and the bit at a fuse. Refused: 1, 3.
@@ -62,19 +63,19 @@ pub fn setting_at_fuse(d: Device, fuse: FuseNumber) -> NamedAnswer
     if !part::is_known(d) {
         return NamedAnswer::Refused(Refusal::UnknownDevice);
     }
-    if part::internal::fuse_count(d) <= fuse.0 {
+    if part::geometry::fuse_count(d) <= fuse.0 {
         return NamedAnswer::Refused(Refusal::NoSuchFuse);
     }
-    let place = part::internal::place_of_fuse(d, fuse);
-    let candidate = internal::candidate_at(d, place);
+    let place = part::places::place_of_fuse(d, fuse);
+    let candidate = candidates::candidate_at(d, place);
     let s = candidate.setting;
-    if !settings::internal::has_setting(d, s) {
+    if !settings::fields::has_setting(d, s) {
         return NamedAnswer::Unnamed;
     }
-    if internal::bits_of(d, s) <= candidate.bit {
+    if places::bits_of(d, s) <= candidate.bit {
         return NamedAnswer::Unnamed;
     }
-    let found = internal::fuse_of(d, s, candidate.bit);
+    let found = places::fuse_of(d, s, candidate.bit);
     if found.0 != fuse.0 {
         return NamedAnswer::Unnamed;
     }

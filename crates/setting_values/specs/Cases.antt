@@ -34,7 +34,7 @@ use Rattle.values.specs.declared.Value.{Value}
 use Rattle.values.specs.declared.Value.the-variants as value
 use Rattle.setting_values.specs.Operations.{valueOfPattern, patternOfValue}
 
--- the values of a setting's patterns, from 0 on
+-- The values of a setting's patterns, from 0 on.
 pub record Case : Type 0 where
   pub setting : Setting
   pub values : List Value
@@ -42,7 +42,7 @@ pub record Case : Type 0 where
 abbrev pub means : Setting → List Value → Case
 means s values = record { setting = s; values = values }
 
--- each pattern is its value, and each value has its pattern
+-- Each pattern is its value, and each value has its pattern.
 abbrev pub AllHold : Device → List Case → Type 0
 AllHold d cases =
     (map (λ (c : Case). map (valueOfPattern d (c .setting)) (numbersFrom 0 (c .values))) cases
@@ -50,7 +50,7 @@ AllHold d cases =
     × (map (λ (c : Case). map (patternOfValue d (c .setting)) (c .values)) cases
     ≡ map (λ (c : Case). map (λ (k : ℕ). accepted k) (numbersFrom 0 (c .values))) cases)
 
--- true at 0
+-- True at 0.
 abbrev pub flag : List Value
 flag = value.Flag true ∷ value.Flag false ∷ []
 
@@ -136,7 +136,7 @@ large =
     (value.Unassigned 0 ∷ value.FoeMux foeMux.Goe3 ∷ value.FoeMux foeMux.Goe0 ∷ value.FoeMux foeMux.None ∷ [])
     ∷ []
 
--- a number is stored inverted
+-- A number is stored inverted.
 abbrev pub Usercodes : Type 0
 Usercodes =
     (valueOfPattern twoSmall (Global Usercode) 0 ≡ accepted (value.Usercode 4294967295))

@@ -17,7 +17,7 @@ use Rattle.values.specs.declared.Kind.the-variants as kind
 use Rattle.values.specs.Values.{valueIn}
 
 -- 003: PT[*].ALLOC; IMPORT_*_ALLOC; EXPORT_DIR; IOB_OE_MUX; OUT_MUX; OE_MUX; CLK_MUX; REG_MODE; RST_MUX, SET_MUX;
--- UIM_OE_MUX; IOB_SLEW; everything else: false, true
+-- UIM_OE_MUX; IOB_SLEW; everything else: false, true.
 abbrev pub macrocellKind : MacrocellField → Kind
 macrocellKind (Alloc k) = kind.TermAlloc
 macrocellKind Inv = kind.Flag
@@ -39,7 +39,7 @@ macrocellKind IobGnd = kind.Flag
 macrocellKind IobSlew = kind.IobSlew
 macrocellKind (Hp k) = kind.Flag
 
--- 003: FCLK[c].MUX; FOE[e].MUX (small device), (large device); USERCODE; everything else: false, true
+-- 003: FCLK[c].MUX; FOE[e].MUX (small device), (large device); USERCODE; everything else: false, true.
 abbrev pub globalKind : Device → GlobalField → Kind
 globalKind d FsrInv = kind.Flag
 globalKind d (FclkInv c) = kind.Flag
@@ -48,7 +48,7 @@ globalKind d (FclkMux c) = kind.FclkMux c
 globalKind d (FoeMux e) = kind.FoeMux e (isLarge d)
 globalKind d Usercode = kind.Usercode
 
--- literals, wire-AND and block fields are flags: true (included) is 0
+-- Literals, wire-AND and block fields are flags: true (included) is 0.
 unfoldable pub kindOf : Device → Setting → Kind
 kindOf d (Literal block j k l polarity) = kind.Flag
 kindOf d (WireAnd i j k l) = kind.Flag
@@ -56,6 +56,6 @@ kindOf d (Macrocell block m field) = macrocellKind field
 kindOf d (Block block field) = kind.Flag
 kindOf d (Global field) = globalKind d field
 
--- the value that a pattern of a setting stands for
+-- The value that a pattern of a setting stands for.
 abbrev pub valueOf : Device → Setting → ℕ → Value
 valueOf d s pattern = valueIn (kindOf d s) pattern

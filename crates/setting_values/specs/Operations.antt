@@ -26,7 +26,7 @@ unfoldable pub valueOfPattern : Device → Setting → ℕ → Outcome Value
 valueOfPattern d s pattern =
     ifSetting d s (cond (ltb pattern (2 ^ bitsOf s)) (accepted (valueOf d s pattern)) (refused 5 0))
 
--- the pattern that stands for a value (`pattern-iff`), or refusal 5
+-- The pattern that stands for a value (`pattern-iff`), or refusal 5.
 abbrev pub ifPattern : Option ℕ → Outcome ℕ
 ifPattern (some pattern) = accepted pattern
 ifPattern none = refused 5 0

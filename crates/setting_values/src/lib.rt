@@ -8,9 +8,9 @@ use part::NumberAnswer;
 use part::Refusal;
 use settings::Setting;
 use values::Value;
-use values::internal::Found;
+use values::patterns::Found;
 
-pub mod internal;
+pub mod kinds;
 
 pub enum ValueAnswer {
     Value(Value),
@@ -24,15 +24,15 @@ pub fn value_of_pattern(d: Device, s: Setting, pattern: u32) -> ValueAnswer
     if !part::is_known(d) {
         return ValueAnswer::Refused(Refusal::UnknownDevice);
     }
-    if !settings::internal::has_setting(d, s) {
+    if !settings::fields::has_setting(d, s) {
         return ValueAnswer::Refused(Refusal::NoSuchSetting);
     }
-    let kind = internal::kind_of(d, s);
-    let bits = values::internal::bits_in(kind);
-    if !values::internal::fits(bits, pattern) {
+    let kind = kinds::kind_of(d, s);
+    let bits = values::lists::bits_in(kind);
+    if !values::patterns::fits(bits, pattern) {
         return ValueAnswer::Refused(Refusal::NoSuchValue);
     }
-    ValueAnswer::Value(values::internal::value_in(kind, pattern))
+    ValueAnswer::Value(values::lists::value_in(kind, pattern))
 }
 
 // The pattern that stands for a value of a setting. Refused: 1, 4, 5.
@@ -42,11 +42,11 @@ pub fn pattern_of_value(d: Device, s: Setting, v: Value) -> NumberAnswer
     if !part::is_known(d) {
         return NumberAnswer::Refused(Refusal::UnknownDevice);
     }
-    if !settings::internal::has_setting(d, s) {
+    if !settings::fields::has_setting(d, s) {
         return NumberAnswer::Refused(Refusal::NoSuchSetting);
     }
-    let kind = internal::kind_of(d, s);
-    let found = values::internal::pattern_in(kind, v);
+    let kind = kinds::kind_of(d, s);
+    let found = values::patterns::pattern_in(kind, v);
     match found {
         Found::Pattern(pattern) => NumberAnswer::Number(pattern),
         Found::NoSuchValue => NumberAnswer::Refused(Refusal::NoSuchValue),

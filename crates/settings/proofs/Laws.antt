@@ -17,17 +17,17 @@ use Rattle.settings.specs.Settings.{hasSetting}
 use Rattle.settings.specs.Order.{countOf, numberOf, settingOf}
 use Rattle.settings.specs.Operations.{settingOfNumber, numberOfSetting}
 use Rattle.settings.specs.declared.Setting.{Setting}
-use Rattle.settings.proofs.Numbers.{number-below, setting-again, number-again}
-pub use Rattle.settings.proofs.Numbers.{listing-order}
+use Rattle.settings.proofs.Numbering.{number-below, setting-inverse, number-inverse}
+pub use Rattle.settings.proofs.Numbering.{listing-order}
 pub use Rattle.settings.proofs.Cases.{numbers, numbers-of-large, counts}
 
--- a setting of a known device, and its number
+-- A setting of a known device, and its number.
 numbers-to : (d : Device) (x : ℕ) (s : Setting) → settingOfNumber d x ≡ accepted s → numberOfSetting d s ≡ accepted x
 unfolding settingOfNumber numberOfSetting
 numbers-to d x s e =
     let outer = passed (known d) _ 1 0 e in
     let inner = passed (ltb x (countOf d)) _ 4 0 (outer .1) in
-    let again = number-again d x (ltb-true x (countOf d) (inner .0)) in
+    let again = number-inverse d x (ltb-true x (countOf d) (inner .0)) in
     rw (outer .0, ← result (inner .1), again .0, again .1)
 
 numbers-from : (d : Device) (x : ℕ) (s : Setting) → numberOfSetting d s ≡ accepted x → settingOfNumber d x ≡ accepted s
@@ -36,7 +36,7 @@ numbers-from d x s e =
     let outer = passed (known d) _ 1 0 e in
     let inner = passed (hasSetting d s) _ 4 0 (outer .1) in
     let below : ltb (numberOf d s) (countOf d) ≡ true = lt-ltb _ _ (number-below d s (inner .0)) in
-    rw (outer .0, ← result (inner .1), below, setting-again d s (inner .0))
+    rw (outer .0, ← result (inner .1), below, setting-inverse d s (inner .0))
 
 pub numbers-inverse : (d : Device) (x : ℕ) (s : Setting) → (settingOfNumber d x ≡ accepted s) ↔ (numberOfSetting d s ≡ accepted x)
 numbers-inverse d x s = (numbers-to d x s, numbers-from d x s)

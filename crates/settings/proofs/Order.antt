@@ -12,7 +12,7 @@ use borrow.Author.Tests.{lt-ltb, le-ltb, eq-eqb, eqb-true, ltb-true}
 use Rattle.part.proofs.Facts.{and-iff, compared, either}
 use Rattle.settings.specs.Order.{product, position, at, earlier}
 
--- each index is below its bound
+-- Each index is below its bound.
 pub data Within : (bounds indices : List ℕ) → Type 0 where
   nil : Within [] []
   more : {b x : ℕ} {bs xs : List ℕ} → x < b → Within bs xs → Within (b ∷ bs) (x ∷ xs)
@@ -21,7 +21,7 @@ pub position-below : {bs xs : List ℕ} → Within bs xs → position bs xs < pr
 position-below nil = omega arith
 position-below (more h w) = digits-lt h (position-below w)
 
--- a position and its indices
+-- A position and its indices.
 pub at-position : {bs xs : List ℕ} → Within bs xs → at bs (position bs xs) ≡ xs
 at-position nil = refl
 at-position (more {b} {x} {bs} {xs} h w) =
@@ -52,7 +52,7 @@ position-at (b ∷ bs) p h =
     empty : product bs ≡ 0 → ⊥
     empty e = let none : p < b * 0 = rw e at h in omega arith
 
--- the first index that differs decides which of two positions is the lower
+-- The first index that differs decides which of two positions is the lower.
 pub earlier-below : {bs xs ys : List ℕ} → Within bs xs → Within bs ys → earlier xs ys ≡ true → position bs xs < position bs ys
 earlier-below nil nil h = let z : _≡_ {A = ℕ} 0 1 = cc in absurd (omega arith)
 earlier-below (more {x = x} {bs = bs} {xs = xs} hx wx) (more {x = y} {xs = ys} hy wy) h =

@@ -43,7 +43,7 @@ globalFieldsOfLarge =
     FsrInv ∷ FclkInv 0 ∷ FclkInv 1 ∷ FclkInv 2 ∷ FoeInv 0 ∷ FoeInv 1 ∷ FoeInv 2 ∷ FoeInv 3 ∷ FclkMux 0 ∷ FclkMux 1
     ∷ FclkMux 2 ∷ FoeMux 0 ∷ FoeMux 1 ∷ FoeMux 2 ∷ FoeMux 3 ∷ Usercode ∷ []
 
--- settings that follow one another, and the number of the first
+-- Settings that follow one another, and the number of the first.
 pub record Run : Type 0 where
   pub first : ℕ
   pub settings : List Setting
@@ -51,12 +51,12 @@ pub record Run : Type 0 where
 abbrev pub from : ℕ → List Setting → Run
 from first settings = record { first = first; settings = settings }
 
--- as many numbers as a list is long, one after another
+-- As many numbers as a list is long, one after another.
 abbrev pub numbersFrom : {A : Type 0} → ℕ → List A → List ℕ
 numbersFrom first [] = []
 numbersFrom first (x ∷ list) = first ∷ numbersFrom (suc first) list
 
--- each has its number, and each number is its setting's
+-- Each has its number, and each number is its setting's.
 abbrev pub AllHold : Device → List Run → Type 0
 AllHold d runs =
     (map (λ (r : Run). map (numberOfSetting d) (r .settings)) runs
@@ -66,7 +66,7 @@ AllHold d runs =
 
 abbrev pub small : List Run
 small =
-    -- the first and the last of each group, and one step of each index
+    -- The first and the last of each group, and one step of each index.
     from 0 (Literal 0 0 0 0 P ∷ Literal 0 0 0 0 N ∷ Literal 0 0 0 1 P ∷ [])
     ∷ from 72 (Literal 0 0 1 0 P ∷ [])
     ∷ from 360 (Literal 0 1 0 0 P ∷ [])
@@ -76,13 +76,13 @@ small =
     ∷ from 12996 (WireAnd 0 1 0 0 ∷ [])
     ∷ from 14256 (WireAnd 1 0 0 0 ∷ [])
     ∷ from 15551 (WireAnd 1 35 1 17 ∷ [])
-    -- the fields of a macrocell
+    -- The fields of a macrocell.
     ∷ from 15552 (map (Macrocell 0 0) macrocellFieldsInOrder ++ Macrocell 0 1 (Alloc 0) ∷ [])
     ∷ from 16038 (Macrocell 1 0 (Alloc 0) ∷ [])
     ∷ from 16523 (Macrocell 1 17 (Hp 4) ∷ [])
-    -- the fields of a block
+    -- The fields of a block.
     ∷ from 16524 (map (Block 0) blockFieldsInOrder ++ map (Block 1) blockFieldsInOrder)
-    -- the global fields
+    -- The global fields.
     ∷ from 16536 (map Global globalFieldsInOrder)
     ∷ []
 

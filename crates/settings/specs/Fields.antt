@@ -18,7 +18,7 @@ use Rattle.settings.specs.declared.BlockField.the-variants.{ReadProtB, W
 use Rattle.settings.specs.declared.GlobalField.{GlobalField}
 use Rattle.settings.specs.declared.GlobalField.the-variants.{FsrInv, FclkInv, FoeInv, FclkMux, FoeMux, Usercode}
 
--- macrocell j (0 to 17), term k (0 to 4), input l (0 to 35)
+-- Macrocell j (0 to 17), term k (0 to 4), input l (0 to 35).
 abbrev pub macrocells : ℕ
 macrocells = 18
 
@@ -28,23 +28,23 @@ terms = 5
 abbrev pub inputs : ℕ
 inputs = 36
 
--- FCLK[c], c 0 to 2; FOE 2 and 3 exist in the large class only
+-- FCLK[c], c 0 to 2; FOE 2 and 3 exist in the large class only.
 abbrev pub fclks : ℕ
 fclks = 3
 
 abbrev pub foes : Device → ℕ
 foes d = cond (isLarge d) 4 2
 
--- the place of field k of so many that begin at `first`
+-- The place of field k of so many that begin at `first`.
 abbrev pub listed : (k count first past : ℕ) → ℕ
 listed k count first past = cond (ltb k count) (first + k) past
 
--- P before N
+-- P before N.
 abbrev pub polarityIndex : Polarity → ℕ
 polarityIndex P = 0
 polarityIndex N = 1
 
--- a macrocell's fields in the order listed, ALLOC and HP five fields each
+-- A macrocell's fields in the order listed, ALLOC and HP five fields each.
 abbrev pub macrocellFields : ℕ
 macrocellFields = 27
 
@@ -69,7 +69,7 @@ macrocellIndex IobGnd = 20
 macrocellIndex IobSlew = 21
 macrocellIndex (Hp k) = listed k terms 22 macrocellFields
 
--- a block's fields in the order listed
+-- A block's fields in the order listed.
 abbrev pub blockIndex : BlockField → ℕ
 blockIndex Enable = 0
 blockIndex ExportEnable = 1
@@ -81,7 +81,7 @@ blockIndex WriteProt = 5
 abbrev pub blockFields : ℕ
 blockFields = 6
 
--- the global fields in the order listed, c and e ascending, with so many FOE; USERCODE is one setting
+-- The global fields in the order listed, c and e ascending, with so many FOE; USERCODE is one setting.
 abbrev pub globalFields : ℕ → ℕ
 globalFields count = 1 + fclks + count + fclks + count + 1
 

@@ -11,7 +11,7 @@ use Rattle.settings.specs.Settings.{hasSetting}
 use Rattle.settings.specs.Order.{countOf, numberOf, settingOf}
 use Rattle.settings.specs.declared.Setting.{Setting}
 
--- refusal 1, and 4 exactly where the device has no such setting
+-- Refusal 1, and 4 exactly where the device has no such setting.
 abbrev pub ifSetting : {A : Type 0} → Device → Setting → Outcome A → Outcome A
 ifSetting d s answer = ifKnown d (cond (hasSetting d s) answer (refused 4 0))
 

@@ -23,7 +23,7 @@ use Rattle.settings.specs.declared.GlobalField.the-variants.{FsrInv, Fcl
 use Rattle.settings.specs.declared.Setting.{Setting}
 use Rattle.settings.specs.declared.Setting.the-variants.{Literal, WireAnd, Macrocell, Block, Global}
 
--- the groups in the order of the list
+-- The groups in the order of the list.
 pub data Group : Type 0 where
   literals : Group
   wireAnds : Group
@@ -45,7 +45,7 @@ group (Macrocell block m field) = macrocellSettings
 group (Block block field) = blockSettings
 group (Global field) = globals
 
--- the indices of a setting in its group, in the order in which they count, the last fastest
+-- The indices of a setting in its group, in the order in which they count, the last fastest.
 abbrev pub indices : Device → Setting → List ℕ
 indices d (Literal block j k l polarity) = block ∷ j ∷ k ∷ l ∷ polarityIndex polarity ∷ []
 indices d (WireAnd i j k l) = i ∷ j ∷ k ∷ l ∷ []
@@ -53,7 +53,7 @@ indices d (Macrocell block m field) = block ∷ m ∷ macrocellIndex field ∷ [
 indices d (Block block field) = block ∷ blockIndex field ∷ []
 indices d (Global field) = globalIndex (foes d) field ∷ []
 
--- how many values each of these indices has
+-- How many values each of these indices has.
 abbrev pub bounds : Device → Group → List ℕ
 bounds d literals = blocksOf d ∷ macrocells ∷ terms ∷ inputs ∷ 2 ∷ []
 bounds d wireAnds = blocksOf d ∷ inputs ∷ blocksOf d ∷ macrocells ∷ []
@@ -61,23 +61,23 @@ bounds d macrocellSettings = blocksOf d ∷ macrocells ∷ macrocellFields ∷ [
 bounds d blockSettings = blocksOf d ∷ blockFields ∷ []
 bounds d globals = globalFields (foes d) ∷ []
 
--- how many lists of indices there are within such bounds
+-- How many lists of indices there are within such bounds.
 abbrev pub product : List ℕ → ℕ
 product [] = 1
 product (b ∷ bs) = b * product bs
 
--- the position of a list of indices among all of them, the last fastest
+-- The position of a list of indices among all of them, the last fastest.
 abbrev pub position : (bounds indices : List ℕ) → ℕ
 position [] xs = 0
 position (b ∷ bs) [] = 0
 position (b ∷ bs) (x ∷ xs) = x * product bs + position bs xs
 
--- the list of indices at a position
+-- The list of indices at a position.
 abbrev pub at : List ℕ → ℕ → List ℕ
 at [] position = []
 at (b ∷ bs) position = position / product bs ∷ at bs (position % product bs)
 
--- the first number of a group, which follows the group before it
+-- The first number of a group, which follows the group before it.
 abbrev pub size : Device → Group → ℕ
 size d g = product (bounds d g)
 
@@ -88,14 +88,14 @@ start d macrocellSettings = size d literals + size d wireAnds
 start d blockSettings = size d literals + size d wireAnds + size d macrocellSettings
 start d globals = size d literals + size d wireAnds + size d macrocellSettings + size d blockSettings
 
--- how many settings a device has, and the number of each
+-- How many settings a device has, and the number of each.
 unfoldable pub countOf : Device → ℕ
 countOf d = start d globals + size d globals
 
 unfoldable pub numberOf : Device → Setting → ℕ
 numberOf d s = start d (group s) + position (bounds d (group s)) (indices d s)
 
--- The setting of a number, which the law `numbers-inverse` ties to the number of a setting: a field by its index ..
+-- The setting of a number, which the law `numbers-inverse` ties to the number of a setting: a field by its index.
 abbrev pub polarityAt : ℕ → Polarity
 polarityAt x = cond (eqb x 0) P N
 
@@ -134,7 +134,7 @@ globalFieldAt count x =
     (cond (ltb x (7 + count)) (FclkMux (x - (4 + count)))
     (cond (ltb x (7 + count + count)) (FoeMux (x - (7 + count))) Usercode))))
 
--- .. a setting by its group and its position there ..
+-- A setting by its group and its position there.
 abbrev pub index : List ℕ → ℕ → ℕ
 index [] i = 0
 index (x ∷ xs) zero = x
@@ -150,7 +150,7 @@ fromIndices d globals xs = Global (globalFieldAt (foes d) (index xs 0))
 abbrev pub inGroup : Device → Group → ℕ → Setting
 inGroup d g x = fromIndices d g (at (bounds d g) x)
 
--- .. and by its number: the group whose numbers hold it
+-- A setting by its number: the group whose numbers hold it.
 abbrev pub from : Device → Group → ℕ → Setting
 from d g x = inGroup d g (x - start d g)
 
@@ -161,7 +161,7 @@ settingOf d x =
     (cond (ltb x (start d blockSettings)) (from d macrocellSettings x)
     (cond (ltb x (start d globals)) (from d blockSettings x) (from d globals x))))
 
--- The order, with no formula: the first index that differs decides; used on a setting's group followed by its indices
+-- The order, with no formula: the first index that differs decides; used on a setting's group followed by its indices.
 abbrev pub earlier : (xs ys : List ℕ) → Bool
 earlier [] ys = false
 earlier (x ∷ xs) [] = false

@@ -9,7 +9,7 @@ use Rattle.settings.specs.Fields.{globalIndex}
 use Rattle.settings.specs.declared.Setting.{Setting}
 use Rattle.settings.specs.declared.Setting.the-variants.{Literal, WireAnd, Macrocell, Block, Global}
 
--- which settings there are on a device
+-- Which settings there are on a device.
 unfoldable pub hasSetting : Device → Setting → Bool
 hasSetting d (Literal block j k l polarity) = ltb block (blocksOf d) && ltb j macrocells && ltb k terms && ltb l inputs
 hasSetting d (WireAnd i j k l) = ltb i (blocksOf d) && ltb j inputs && ltb k (blocksOf d) && ltb l macrocells

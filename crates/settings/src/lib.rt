@@ -8,7 +8,8 @@ use part::Device;
 use part::NumberAnswer;
 use part::Refusal;
 
-pub mod internal;
+pub mod fields;
+pub mod numbers;
 
 // Which sense of an input a literal takes: the input itself, or its complement.
 pub enum Polarity {
@@ -107,7 +108,7 @@ pub fn setting_count(d: Device) -> NumberAnswer
     if !part::is_known(d) {
         return NumberAnswer::Refused(Refusal::UnknownDevice);
     }
-    NumberAnswer::Number(internal::count_of(d))
+    NumberAnswer::Number(numbers::count_of(d))
 }
 
 // The setting of a number. Refused: 1, 4.
@@ -117,10 +118,10 @@ pub fn setting_of_number(d: Device, number: SettingNumber) -> SettingAnswer
     if !part::is_known(d) {
         return SettingAnswer::Refused(Refusal::UnknownDevice);
     }
-    if internal::count_of(d) <= number.0 {
+    if numbers::count_of(d) <= number.0 {
         return SettingAnswer::Refused(Refusal::NoSuchSetting);
     }
-    SettingAnswer::Setting(internal::setting_of(d, number))
+    SettingAnswer::Setting(numbers::setting_of(d, number))
 }
 
 // The number of a setting. Refused: 1, 4.
@@ -130,8 +131,8 @@ pub fn number_of_setting(d: Device, s: Setting) -> SettingNumberAnswer
     if !part::is_known(d) {
         return SettingNumberAnswer::Refused(Refusal::UnknownDevice);
     }
-    if !internal::has_setting(d, s) {
+    if !fields::has_setting(d, s) {
         return SettingNumberAnswer::Refused(Refusal::NoSuchSetting);
     }
-    SettingNumberAnswer::Number(internal::number_of(d, s))
+    SettingNumberAnswer::Number(numbers::number_of(d, s))
 }

@@ -1,4 +1,4 @@
-// Prints what the writer of texts answers for each device: images and rooms of the right length and of wrong ones.
+// Prints what the writer of texts answers for each device: images and buffers of the right length and of wrong ones.
 // The file stdout beside src/ is what the independent program prints.
 ghost use mathlib.Core.Path.{_≡_};
 ghost use lib.ListN.{length};
@@ -6,14 +6,14 @@ use part::Device;
 use vectors::at_most;
 use vectors::one_less;
 
-// Room for the longest text and a few bytes after it.
-fn room_for_text() -> [u8; 411300]
+// Buffer for the longest text and a few bytes after it.
+fn buffer_for_text() -> [u8; 411300]
     ensures { λ r. ⌜ 411300 ≡ length r ⌝ }
 {
     [0; 411300]
 }
 
-// The answer of a call, and the digest of all the room that was lent to it.
+// The answer of a call, and the digest of all the buffer that was lent to it.
 fn written(name: &[u8], d: Device, image: &[u8], text: &mut [u8]) {
     vectors::fill(text, 4);
     let answer = capi::xc9500_image_to_text(d.blocks, d.class, image, text);
@@ -21,17 +21,17 @@ fn written(name: &[u8], d: Device, image: &[u8], text: &mut [u8]) {
     vectors::put_answer(answer);
 }
 
-fn with_room(name: &[u8], d: Device, image: &[u8], text: &mut [u8], room: usize) {
-    let n = at_most(room, text.len());
+fn with_buffer(name: &[u8], d: Device, image: &[u8], text: &mut [u8], buffer: usize) {
+    let n = at_most(buffer, text.len());
     written(name, d, image, &mut text[..n]);
 }
 
-// Room for a text of n bytes: exact, one byte short, a few more, and none.
-fn each_room(d: Device, image: &[u8], text: &mut [u8], n: u32) {
-    with_room(b" exact", d, image, text, n as usize);
-    with_room(b" short", d, image, text, one_less(n) as usize);
-    with_room(b" longer", d, image, text, n as usize + 7);
-    with_room(b" empty", d, image, text, 0);
+// Buffer for a text of n bytes: exact, one byte short, a few more, and none.
+fn each_buffer(d: Device, image: &[u8], text: &mut [u8], n: u32) {
+    with_buffer(b" exact", d, image, text, n as usize);
+    with_buffer(b" short", d, image, text, one_less(n) as usize);
+    with_buffer(b" longer", d, image, text, n as usize + 7);
+    with_buffer(b" empty", d, image, text, 0);
     vectors::end_line();
 }
 
@@ -53,7 +53,7 @@ fn on_image(d: Device, image: &mut [u8], text: &mut [u8], kind: u32, n: u32) {
     vectors::put(b" image", image.len() as u64);
     vectors::put(b" kind", kind as u64);
     fill_image(image, kind);
-    each_room(d, &image[..], text, n);
+    each_buffer(d, &image[..], text, n);
 }
 
 fn with_length(d: Device, image: &mut [u8], text: &mut [u8], length: u32, kind: u32, n: u32) {
@@ -91,6 +91,6 @@ fn each_device(image: &mut [u8], text: &mut [u8]) {
 
 fn main() {
     let mut image = io::large_buffer();
-    let mut text = room_for_text();
+    let mut text = buffer_for_text();
     each_device(&mut image, &mut text);
 }

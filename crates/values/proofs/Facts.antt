@@ -6,14 +6,14 @@ use Prim.Native.Nat.{ℕ}
 use lib.Dec.{eqb}
 use borrow.Author.Tests.{eq-eqb, ne-eqb}
 
--- what the code returns if two numbers are equal, and if not
+-- What the code returns if two numbers are equal, and if not.
 pub equal : {A : Type 0} (a b : ℕ) (x y : A) → a ≡ b → x ≡ cond (eqb a b) x y
 equal a b x y h = rw (eq-eqb a b h)
 
 pub unequal : {A : Type 0} (a b : ℕ) (x y r : A) → (a ≡ b → ⊥) → r ≡ y → r ≡ cond (eqb a b) x y
 unequal a b x y r h e = rw (ne-eqb a b h) e
 
--- what holds of both choices holds of the choice
+-- What holds of both choices holds of the choice.
 pub of-both : {A : Type 0} (P : A → Type 0) (t : Bool) {x y : A} → P x → P y → P (cond t x y)
 of-both P true p q = p
 of-both P false p q = q

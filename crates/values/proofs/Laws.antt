@@ -48,7 +48,7 @@ use Rattle.values.specs.declared.Kind.{Kind}
 use Rattle.values.specs.declared.Kind.the-variants as kind
 use Rattle.values.proofs.Facts.{of-both}
 
--- the value of a case and of a number in it
+-- The value of a case and of a number in it.
 valueOf : ℕ → ℕ → Value
 valueOf case n =
     cond (eqb case 0) (named flags n)
@@ -127,7 +127,7 @@ same-iff v w = (to, from)
     from : v ≡ w → same v w ≡ true
     from e = and-iff (eqb (caseOf v) (caseOf w)) (eqb (inCase v) (inCase w)) .1 (eq-eqb _ _ (ap caseOf e), eq-eqb _ _ (ap inCase e))
 
--- a pattern is right if it is the candidate of the value that it stands for, and that is Unassigned where it should be
+-- A pattern is right if it is the candidate of the value that it stands for, and that is Unassigned where it should be.
 right : (stands : ℕ → Value) (without : ℕ → Bool) → ℕ → Bool
 right stands without p =
     eqb (candidate stands (stands p)) p
@@ -141,7 +141,7 @@ module _ (k : Kind) where
   unfolding AllRight
   tested h = below-all (right (valueIn k) (unassigned k)) (2 ^ bitsIn k) h
 
--- the test of a list of FCLK.MUX or FOE.MUX
+-- The test of a list of FCLK.MUX or FOE.MUX.
 RightList : List (ℕ × Value) → Type 0
 RightList list = allBelow (right (named list) (λ p. eqb p (bits2 0 0))) 4 ≡ true
 
@@ -169,7 +169,7 @@ all-right (kind.FoeMux e large) =
 all-right kind.Usercode = λ p h.
     let e : 2 ^ 32 - 1 - (2 ^ 32 - 1 - p) ≡ p = omega arith in rw (eq-eqb (2 ^ 32 - 1 - (2 ^ 32 - 1 - p)) p e)
 
--- the candidate of the value that a pattern stands for
+-- The candidate of the value that a pattern stands for.
 recovered : (k : Kind) (p : ℕ) → p < 2 ^ bitsIn k → candidate (valueIn k) (valueIn k p) ≡ p
 unfolding right AllRight
 recovered k p h = eqb-true _ _ (and-iff (eqb (candidate (valueIn k) (valueIn k p)) p) _ .0 (all-right k p h) .0)
@@ -229,7 +229,7 @@ flag-true = (refl, refl)
 pub usercode-inverted : (p : ℕ) → valueIn kind.Usercode p ≡ value.Usercode (2 ^ 32 - 1 - p)
 usercode-inverted p = refl
 
--- the complement of q * c + r, where 2^32 is 2 * k * c: its high part is that of q
+-- The complement of q * c + r, where 2^32 is 2 * k * c: its high part is that of q.
 complement : (p q r c k : ℕ) → q * c + r ≡ p → r < c → (2 * k) * c ≡ 2 ^ 32 → p < 2 ^ 32 → (2 ^ 32 - 1 - p) / c % 2 ≡ 1 - q % 2
 complement p q r c k e l w h =
     let few : q < 2 * k = lt-of-mul-lt-mul-right c (omega arith) in

@@ -35,10 +35,10 @@ use Rattle.values.specs.declared.FoeMux.the-variants as foeMux
 use Rattle.values.specs.declared.Value.{Value}
 use Rattle.values.specs.declared.Value.the-variants as value
 use Rattle.values.specs.declared.Kind.{Kind}
-use Rattle.values.specs.declared.internal.Found.{Found}
-use Rattle.values.specs.declared.internal.Found.the-variants as found
+use Rattle.values.specs.declared.patterns.Found.{Found}
+use Rattle.values.specs.declared.patterns.Found.the-variants as found
 
--- Two values are the same if they are of one case, and the same in it (`same-iff` in proofs/Laws.antt): the case ..
+-- Two values are the same if they are of one case, and the same in it (`same-iff` in proofs/Laws.antt): the case.
 abbrev pub caseOf : Value → ℕ
 caseOf (value.Flag x) = 0
 caseOf (value.TermAlloc x) = 1
@@ -57,7 +57,7 @@ caseOf (value.FoeMux x) = 13
 caseOf (value.Usercode x) = 14
 caseOf (value.Unassigned x) = 15
 
--- .. and a number for each value of a case: of a name its pattern, but for FCLK.MUX and FOE.MUX, where a name has
+-- A number for each value of a case: of a name its pattern, but for FCLK.MUX and FOE.MUX, where a name has
 -- another pattern for each c and e: there g for GCLK[g] and GOE[g]
 abbrev pub termAllocNumber : TermAlloc → ℕ
 termAllocNumber termAlloc.None = 3
@@ -152,7 +152,7 @@ same v w = eqb (caseOf v) (caseOf w) && eqb (inCase v) (inCase w)
 
 -- The only pattern that can stand for v, where `stands` says what each pattern stands for: the complement of
 -- USERCODE's number (case 14), the pattern that the list has for GCLK[g] or GOE[g] (cases 12 and 13), the
--- number in the case of any other ..
+-- number in the case of any other.
 unfoldable pub candidate : (stands : ℕ → Value) → Value → ℕ
 candidate stands v =
     cond (eqb (caseOf v) 14)
@@ -161,7 +161,7 @@ candidate stands v =
     (cond (same (stands 1) v) 1 (cond (same (stands 2) v) 2 3))
     (inCase v))
 
--- .. and the pattern that stands for it, if there is one (`pattern-iff` in proofs/Laws.antt)
+-- The pattern that stands for it, if there is one (`pattern-iff` in proofs/Laws.antt).
 unfoldable pub patternIn : Kind → Value → Option ℕ
 patternIn k v =
     cond (ltb (candidate (valueIn k) v) (2 ^ bitsIn k) && same (valueIn k (candidate (valueIn k) v)) v)

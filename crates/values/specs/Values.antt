@@ -22,19 +22,19 @@ use Rattle.values.specs.declared.Value.the-variants as value
 use Rattle.values.specs.declared.Kind.{Kind}
 use Rattle.values.specs.declared.Kind.the-variants as kind
 
--- a pattern by its printed digits
+-- A pattern by its printed digits.
 abbrev pub bits2 : (b1 b0 : ℕ) → ℕ
 bits2 b1 b0 = 2 * b1 + b0
 
 abbrev pub bits3 : (b2 b1 b0 : ℕ) → ℕ
 bits3 b2 b1 b0 = 4 * b2 + 2 * b1 + b0
 
--- a pattern without a name in the list is the value Unassigned that carries it
+-- A pattern without a name in the list is the value Unassigned that carries it.
 unfoldable pub named : List (ℕ × Value) → ℕ → Value
 named [] pattern = value.Unassigned pattern
 named (entry ∷ entries) pattern = cond (eqb pattern (entry .0)) (entry .1) (named entries pattern)
 
--- 003, "The fuse combination assignments are": PT[*].ALLOC
+-- 003, "The fuse combination assignments are": PT[*].ALLOC.
 abbrev pub termAllocs : List (ℕ × Value)
 termAllocs =
     (bits2 1 1, value.TermAlloc termAlloc.None)
@@ -43,15 +43,15 @@ termAllocs =
     ∷ (bits2 0 0, value.TermAlloc termAlloc.Special)
     ∷ []
 
--- IMPORT_*_ALLOC
+-- IMPORT_*_ALLOC.
 abbrev pub importAllocs : List (ℕ × Value)
 importAllocs = (1, value.ImportAlloc importAlloc.Export) ∷ (0, value.ImportAlloc importAlloc.Sum) ∷ []
 
--- EXPORT_DIR
+-- EXPORT_DIR.
 abbrev pub exportDirs : List (ℕ × Value)
 exportDirs = (1, value.ExportDir exportDir.Up) ∷ (0, value.ExportDir exportDir.Down) ∷ []
 
--- IOB_OE_MUX
+-- IOB_OE_MUX.
 abbrev pub iobOeMuxes : List (ℕ × Value)
 iobOeMuxes =
     (bits2 1 1, value.IobOeMux iobOeMux.Gnd)
@@ -59,11 +59,11 @@ iobOeMuxes =
     ∷ (bits2 0 1, value.IobOeMux iobOeMux.Vcc)
     ∷ []
 
--- OUT_MUX
+-- OUT_MUX.
 abbrev pub outMuxes : List (ℕ × Value)
 outMuxes = (1, value.OutMux outMux.Comb) ∷ (0, value.OutMux outMux.Ff) ∷ []
 
--- OE_MUX
+-- OE_MUX.
 abbrev pub oeMuxes : List (ℕ × Value)
 oeMuxes =
     (bits3 1 1 1, value.OeMux oeMux.Pt)
@@ -73,7 +73,7 @@ oeMuxes =
     ∷ (bits3 0 1 1, value.OeMux oeMux.Foe3)
     ∷ []
 
--- CLK_MUX
+-- CLK_MUX.
 abbrev pub clkMuxes : List (ℕ × Value)
 clkMuxes =
     (bits2 1 1, value.ClkMux clkMux.Fclk1)
@@ -82,15 +82,15 @@ clkMuxes =
     ∷ (bits2 0 0, value.ClkMux clkMux.Pt)
     ∷ []
 
--- REG_MODE
+-- REG_MODE.
 abbrev pub regModes : List (ℕ × Value)
 regModes = (1, value.RegMode regMode.Dff) ∷ (0, value.RegMode regMode.Tff) ∷ []
 
--- RST_MUX, SET_MUX
+-- RST_MUX, SET_MUX.
 abbrev pub rstSetMuxes : List (ℕ × Value)
 rstSetMuxes = (1, value.RstSetMux rstSetMux.Pt) ∷ (0, value.RstSetMux rstSetMux.Fsr) ∷ []
 
--- UIM_OE_MUX
+-- UIM_OE_MUX.
 abbrev pub uimOeMuxes : List (ℕ × Value)
 uimOeMuxes =
     (bits2 1 1, value.UimOeMux uimOeMux.OeMux)
@@ -98,15 +98,15 @@ uimOeMuxes =
     ∷ (bits2 0 1, value.UimOeMux uimOeMux.Vcc)
     ∷ []
 
--- IOB_SLEW
+-- IOB_SLEW.
 abbrev pub iobSlews : List (ℕ × Value)
 iobSlews = (1, value.IobSlew iobSlew.Slow) ∷ (0, value.IobSlew iobSlew.Fast) ∷ []
 
--- everything else
+-- Everything else.
 abbrev pub flags : List (ℕ × Value)
 flags = (1, value.Flag false) ∷ (0, value.Flag true) ∷ []
 
--- FCLK[c].MUX; no device has a c over 2, and here it is as 2
+-- FCLK[c].MUX; no device has a c over 2, and here it is as 2.
 unfoldable pub fclkMuxes : (c : ℕ) → List (ℕ × Value)
 fclkMuxes c =
     cond (eqb c 0)
@@ -124,7 +124,7 @@ fclkMuxes c =
     ∷ (bits2 0 1, value.FclkMux fclkMux.Gclk2)
     ∷ []))
 
--- FOE[e].MUX (small device); no small device has an e over 1, and here it is as 1
+-- FOE[e].MUX (small device); no small device has an e over 1, and here it is as 1.
 unfoldable pub smallFoeMuxes : (e : ℕ) → List (ℕ × Value)
 smallFoeMuxes e =
     cond (eqb e 0)
@@ -137,7 +137,7 @@ smallFoeMuxes e =
     ∷ (bits2 0 1, value.FoeMux foeMux.Goe1)
     ∷ [])
 
--- FOE[e].MUX (large device); no large device has an e over 3, and here it is as 3
+-- FOE[e].MUX (large device); no large device has an e over 3, and here it is as 3.
 unfoldable pub largeFoeMuxes : (e : ℕ) → List (ℕ × Value)
 largeFoeMuxes e =
     cond (eqb e 0)
@@ -160,7 +160,7 @@ largeFoeMuxes e =
     ∷ (bits2 0 1, value.FoeMux foeMux.Goe3)
     ∷ [])))
 
--- how many bits the settings of a kind have
+-- How many bits the settings of a kind have.
 abbrev pub bitsIn : Kind → ℕ
 bitsIn kind.Flag = 1
 bitsIn kind.TermAlloc = 2
@@ -178,7 +178,7 @@ bitsIn (kind.FclkMux c) = 2
 bitsIn (kind.FoeMux e large) = 2
 bitsIn kind.Usercode = 32
 
--- the value that a pattern stands for; USERCODE: "each bit stored inverted"
+-- The value that a pattern stands for; USERCODE: "each bit stored inverted".
 abbrev pub valueIn : Kind → ℕ → Value
 valueIn kind.Flag pattern = named flags pattern
 valueIn kind.TermAlloc pattern = named termAllocs pattern
@@ -214,7 +214,7 @@ unassigned (kind.FclkMux c) pattern = eqb pattern (bits2 0 0)
 unassigned (kind.FoeMux e large) pattern = eqb pattern (bits2 0 0)
 unassigned kind.Usercode pattern = false
 
--- GCLK[g] and GOE[g]
+-- GCLK[g] and GOE[g].
 abbrev pub gclk : ℕ → Value
 gclk g = value.FclkMux (cond (eqb g 0) fclkMux.Gclk0 (cond (eqb g 1) fclkMux.Gclk1 fclkMux.Gclk2))
 

@@ -1,6 +1,7 @@
 // The values of settings, by document 003's names, and the kinds of settings: which of 003's assignment lists applies.
-// The patterns that stand for them are in `internal`; the definitions that its contracts cite are in specs/.
-pub mod internal;
+// What they stand for is in `lists` and `patterns`; the definitions that their contracts cite are in specs/.
+pub mod lists;
+pub mod patterns;
 
 // The names of document 003's assignment lists, in its order.
 pub enum TermAlloc {

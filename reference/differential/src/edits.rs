@@ -171,8 +171,8 @@ impl EditComparison {
                 assert_eq!(self.image.set(device, &mut image, setting, pattern), Ok(0));
                 let in_readout = self.readout.set(device, &mut readout, setting, pattern);
                 assert_eq!(in_readout, Ok(0));
-                let passage = (self.image_to_readout)(device, image.bytes(), &mut converted);
-                assert_eq!(passage, Ok(0));
+                let conversion = (self.image_to_readout)(device, image.bytes(), &mut converted);
+                assert_eq!(conversion, Ok(0));
                 assert!(
                     converted == readout.bytes(),
                     "{device:?} setting {setting} pattern {pattern}: not the image's readout"
@@ -185,7 +185,7 @@ impl EditComparison {
         }
     }
 
-    /// Edits readouts with stray bits: all sorts of bytes; strays in every byte that can have one
+    /// Edits readouts with above bits: all sorts of bytes; strays in every byte that can have one
     /// but does not hold the setting; strays in a byte that does.
     fn damaged(&mut self, device: Device, settings: &[Edited], random: &mut Random) {
         let widths = all_ones(device);
@@ -214,11 +214,11 @@ impl EditComparison {
             // Of the bits above the width each alone; most settings lie in bytes without any.
             for index in &edited.bytes {
                 for bit in 0..8 {
-                    let stray = 1 << bit & !widths[*index];
-                    if stray != 0 {
+                    let above = 1 << bit & !widths[*index];
+                    if above != 0 {
                         let mut holding = elsewhere.bytes().to_vec();
-                        holding[*index] |= stray;
-                        let mut holding = Lent::new("a stray in its byte", &holding);
+                        holding[*index] |= above;
+                        let mut holding = Lent::new("a above in its byte", &holding);
                         self.readout
                             .each_pattern(device, &mut holding, setting, &and_too_wide);
                     }
@@ -301,7 +301,7 @@ impl EditComparison {
     }
 
     /// Compares the calls with every mixture of faults, of which the lowest is the answer: unknown
-    /// device, wrong length, no such setting, too wide a pattern, stray bits.
+    /// device, wrong length, no such setting, too wide a pattern, above bits.
     pub fn several_faults(&mut self, random: &mut Random) {
         for device in all_devices() {
             let count = setting_count(device).unwrap();
@@ -337,7 +337,7 @@ impl EditComparison {
                 readout.truncate(widths.len() - shorter);
                 let mut readout = Lent::new("faults", &readout);
 
-                // An image has no stray bits, and what only reads is given no pattern.
+                // An image has no above bits, and what only reads is given no pattern.
                 let lowest = |possible: &[u32]| {
                     let mut faults = faults.iter().copied();
                     let number = faults.find(|number| possible.contains(number))?;

@@ -1,4 +1,4 @@
-// What the tests put in: edges, odd devices, images, readouts with and without stray bits, lengths.
+// What the tests put in: edges, odd devices, images, readouts with and without above bits, lengths.
 // All that is random comes from the generator that is handed over, so a run can be repeated.
 
 use xc9500_reference::random::Random;
@@ -14,7 +14,7 @@ pub type Input = (String, Vec<u8>);
 /// Random images of each device, and random readouts.
 const RANDOM_INPUTS: u32 = 8;
 
-/// Random places of stray bits, one at a time and several at a time.
+/// Random places of above bits, one at a time and several at a time.
 const RANDOM_STRAYS: u32 = 40;
 
 /// Random literals to edit, and as many wire-AND; random numbers for USERCODE.
@@ -131,7 +131,7 @@ pub fn corner_images(device: Device) -> Vec<Input> {
     corners(device).into_iter().map(one_fuse).collect()
 }
 
-/// Readouts without a stray bit: all 0, all 1, and random ones.
+/// Readouts without a above bit: all 0, all 1, and random ones.
 pub fn readouts(device: Device, random: &mut Random) -> Vec<Input> {
     let widths = all_ones(device);
     let mut readouts = vec![
@@ -157,7 +157,7 @@ pub fn corner_readouts(device: Device) -> Vec<Input> {
     corners(device).into_iter().map(one_fuse).collect()
 }
 
-/// Readouts with stray bits: one at the first, a middle and the last byte that can have one, and at
+/// Readouts with above bits: one at the first, a middle and the last byte that can have one, and at
 /// random ones; then several at once.
 pub fn damaged_readouts(device: Device, random: &mut Random) -> Vec<Input> {
     let widths = all_ones(device);
@@ -193,7 +193,7 @@ pub fn damaged_readouts(device: Device, random: &mut Random) -> Vec<Input> {
                     readout[*index] |= stray_bits(!widths[*index]);
                 }
                 let lowest = places.iter().min().unwrap();
-                let name = format!("{} stray, lowest at {lowest}", places.len());
+                let name = format!("{} above, lowest at {lowest}", places.len());
                 damaged.push((name, readout));
             }
         }

@@ -296,14 +296,14 @@ fn check_widths(part: Part, readout: &[u8]) -> Answer<()> {
     let block_bytes = part.block_readout_bytes();
     for (number, block) in readout.chunks_exact(block_bytes).enumerate() {
         // Without a way out of the loop many bytes are tested at a time.
-        let stray = || {
+        let above = || {
             block
                 .iter()
                 .zip(&ABOVE_WIDTH)
                 .map(|(byte, above)| byte & above)
         };
-        if stray().fold(0, |all, bits| all | bits) != 0 {
-            let lowest = stray().take_while(|bits| *bits == 0).count();
+        if above().fold(0, |all, bits| all | bits) != 0 {
+            let lowest = above().take_while(|bits| *bits == 0).count();
             return refuse(6, (number * block_bytes + lowest) as u64);
         }
     }

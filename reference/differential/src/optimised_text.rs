@@ -93,7 +93,7 @@ pub fn image_to_text(device: Device, image: &[u8], text: &mut [u8]) -> Answer<us
     }
 
     let sum = sum_of_bytes(&text[..before_sum]);
-    write!(&mut text[before_sum..], "{sum:04X}").expect("four digits have room");
+    write!(&mut text[before_sum..], "{sum:04X}").expect("four digits have buffer");
     Ok(needed)
 }
 

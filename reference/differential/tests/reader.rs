@@ -1,4 +1,4 @@
-// The differential test of the passage from a text to an image.
+// The differential test of the conversion from a text to an image.
 // Every answer and every byte of the lent image, the library's against the reference's.
 
 use xc9500_differential::library::{xc9500_image_to_text, xc9500_text_to_image};

@@ -1,5 +1,5 @@
-// The differential test of the passage from an image to a text.
-// Every answer and every byte of the lent room, the library's against the reference's.
+// The differential test of the conversion from an image to a text.
+// Every answer and every byte of the lent buffer, the library's against the reference's.
 
 use xc9500_differential::library::xc9500_image_to_text;
 use xc9500_differential::writing::compare_writer;
@@ -62,9 +62,9 @@ fn lengths_beyond_32_bits_agree() {
             })
         );
         assert!(text.iter().all(|byte| *byte == 0x77));
-        for room in [BEYOND, BEYOND + 10] {
+        for buffer in [BEYOND, BEYOND + 10] {
             huge[..needed + 64].fill(0x77);
-            let answer = xc9500_image_to_text(device, &image, &mut huge[..room]);
+            let answer = xc9500_image_to_text(device, &image, &mut huge[..buffer]);
             assert_eq!(answer, Ok(needed as u64));
             assert!(huge[..needed] == expected, "{device:?}");
             assert!(huge[needed..needed + 64].iter().all(|byte| *byte == 0x77));

@@ -1,12 +1,12 @@
--- `main` is safe: what is written was put into its room.
+-- `main` is safe: what is written was put into its buffer.
 -- Assumes nothing.
-use Rattle.report.proofs.Answers.{in-room, room-part}
+use Rattle.report.proofs.Answers.{in-space, buffer-part}
 use borrow.Author.Needs.{needs}
 use Rattle.bench.proofs.main.Statement.{statement}
 use Rattle.bench.proofs.main.Tie as tie
 
-room-for-text-requires : tie.Need-room-for-text-requires
-room-for-text-requires c κs = search needs
+buffer-for-text-requires : tie.Need-buffer-for-text-requires
+buffer-for-text-requires c κs = search needs
 
 slice-aggregate-read-full : tie.Need-slice-aggregate-read-full
 slice-aggregate-read-full c = search needs
@@ -33,10 +33,10 @@ cast-lines : tie.Need-cast-lines
 cast-lines c = search needs
 
 array-share-prefix-lines : tie.Need-array-share-prefix-lines
-array-share-prefix-lines c = search (needs, in-room)
+array-share-prefix-lines c = search (needs, in-space)
 
 slice-aggregate-write-all : tie.Need-slice-aggregate-write-all
-slice-aggregate-write-all c = search (needs, room-part)
+slice-aggregate-write-all c = search (needs, buffer-part)
 
 write-all-requires : tie.Need-write-all-requires
 write-all-requires c κs = search needs
@@ -54,7 +54,7 @@ pub main-spec : {M : Type 1} → statement M
 main-spec =
     tie.close
     (tie.spec
-    room-for-text-requires
+    buffer-for-text-requires
     slice-aggregate-read-full
     read-full-requires
     array-share-prefix-text

@@ -28,20 +28,20 @@ use borrow.Author.Needs.{needs}
 use Rattle.demand.proofs.both_ways.Statement.{statement}
 use Rattle.demand.proofs.both_ways.Tie as tie
 
--- what an accepted call left in its target
+-- What an accepted call left in its target.
 left : {A : Type 0} {o answer : Outcome A} {x : A} {result before after : List ℕ} → Written o answer result before after → o ≡ accepted x
     → after ≡ result
 left {result = result} {before = before} w e = w .holds ∙ ap (λ (p : Outcome _). written p result before) e
 
-module _ (d : Device) (image readout kept its-readout its-image : List ℕ) (s : Setting) (v : Value) (t : Setting) (r : BothAnswer)
-    (readout1 kept1 image2 readout2 its-readout1 its-image1 : List ℕ)
+module _ (d : Device) (image readout kept as-readout as-image : List ℕ) (s : Setting) (v : Value) (t : Setting) (r : BothAnswer)
+    (readout1 kept1 image2 readout2 as-readout1 as-image1 : List ℕ)
     (begun : Begun d image readout readout1 kept kept1 t (r .before))
     (put : SetInBoth d image image2 readout1 readout2 s v (r .set))
-    (converted : BothConverted d image2 readout2 its-readout its-readout1 its-image its-image1 (r .converted))
+    (converted : BothConverted d image2 readout2 as-readout as-readout1 as-image as-image1 (r .converted))
     (reads : ReadInBoth d image2 readout2 s (r .read))
     (others : ReadInBoth d image2 readout2 t (r .other)) where
-  module _ (pattern : ℕ) (taken : Taken d image s v pattern) (lengths : RightLengths d readout kept its-readout its-image) where
-    -- before the change
+  module _ (pattern : ℕ) (taken : Taken d image s v pattern) (lengths : RightLengths d readout kept as-readout as-image) where
+    -- Before the change.
     made-before : readout1 ≡ readoutOf d image
     made-before = left (begun .converted) (passes d image readout (taken .device) (taken .size) (lengths .readout-size))
 
@@ -58,7 +58,7 @@ module _ (d : Device) (image readout kept its-readout its-image : List ℕ) (s :
         passes d image readout (taken .device) (taken .size) (lengths .readout-size)
         ∙ sym (passes d image kept1 (taken .device) (taken .size) (ap length kept-own ∙ its-length d image))
 
-    -- setting
+    -- Setting.
     changed-image : image2 ≡ withValue d Image image s v
     changed-image = left (put .in-image) (not-refused d image s v pattern taken .0)
 
@@ -68,14 +68,14 @@ module _ (d : Device) (image readout kept its-readout its-image : List ℕ) (s :
     changed-readout : readout2 ≡ withValue d Readout kept1 s v
     changed-readout = left put-kept (rw kept-own (not-refused d image s v pattern taken .1))
 
-    -- after the change
+    -- After the change.
     size2 : length image2 ≡ imageBytes d
     size2 = ap length changed-image ∙ changed d image s v pattern taken .size
 
-    image-passes : toReadout d image2 its-readout ≡ accepted tt
-    image-passes = passes d image2 its-readout (taken .device) size2 (lengths .its-readout-size)
+    image-passes : toReadout d image2 as-readout ≡ accepted tt
+    image-passes = passes d image2 as-readout (taken .device) size2 (lengths .as-readout-size)
 
-    its-own-readout : its-readout1 ≡ readoutOf d image2
+    its-own-readout : as-readout1 ≡ readoutOf d image2
     its-own-readout = left (converted .of-image) image-passes
 
     changed-own : readout2 ≡ withValue d Readout (readoutOf d image) s v
@@ -84,18 +84,18 @@ module _ (d : Device) (image readout kept its-readout its-image : List ℕ) (s :
     same : readout2 ≡ readoutOf d image2
     same = changed-own ∙ same-readout d image s v pattern taken ∙ ap (readoutOf d) (sym changed-image)
 
-    readout-passes : toImage d readout2 its-image ≡ accepted tt
-    readout-passes = passes-back d image2 readout2 its-image (taken .device) same (lengths .its-image-size)
+    readout-passes : toImage d readout2 as-image ≡ accepted tt
+    readout-passes = passes-back d image2 readout2 as-image (taken .device) same (lengths .as-image-size)
 
-    its-own-image : its-image1 ≡ imageOf d readout2
+    its-own-image : as-image1 ≡ imageOf d readout2
     its-own-image = left (converted .of-readout) readout-passes
 
-    its-image-size : length its-image1 ≡ imageBytes d
-    its-image-size =
+    as-image-size : length as-image1 ≡ imageBytes d
+    as-image-size =
         ap length (its-own-image ∙ ap (imageOf d) changed-own ∙ same-image d image s v pattern taken)
         ∙ changed d image s v pattern taken .size
 
-    made : Made d image s v t (callsOf r image2 readout2 kept1 its-readout1 its-image1)
+    made : Made d image s v t (callsOf r image2 readout2 kept1 as-readout1 as-image1)
     made = record {
       conversion = (begun .converted .answers ∙ first-answer, kept-own);
       answers = (put .in-image .answers, put-kept .answers);
@@ -103,13 +103,13 @@ module _ (d : Device) (image readout kept its-readout its-image : List ℕ) (s :
       image-converted = (
         converted .of-image .answers
             ∙ image-passes
-            ∙ sym (passes d image2 its-readout1 (taken .device) size2 (ap length its-own-readout ∙ its-length d image2)),
+            ∙ sym (passes d image2 as-readout1 (taken .device) size2 (ap length its-own-readout ∙ its-length d image2)),
         its-own-readout,
       );
       readout-converted = (
         converted .of-readout .answers
             ∙ readout-passes
-            ∙ sym (passes-back d image2 readout2 its-image1 (taken .device) same its-image-size),
+            ∙ sym (passes-back d image2 readout2 as-image1 (taken .device) same as-image-size),
         its-own-image,
       );
       readings = (reads .in-image, reads .in-readout);
@@ -117,7 +117,7 @@ module _ (d : Device) (image readout kept its-readout its-image : List ℕ) (s :
       others-after = (others .in-image, others .in-readout);
     }
 
-  steps : Ran d image readout kept its-readout its-image s v t r image2 readout2 kept1 its-readout1 its-image1
+  steps : Ran d image readout kept as-readout as-image s v t r image2 readout2 kept1 as-readout1 as-image1
   steps = record {
     begun = rw (← begun .converted .holds) begun;
     set = rw (← begun .converted .holds) put;
@@ -126,7 +126,7 @@ module _ (d : Device) (image readout kept its-readout its-image : List ℕ) (s :
     other = others;
   }
 
-  ran : BothWays d image readout kept its-readout its-image s v t r image2 readout2 kept1 its-readout1 its-image1
+  ran : BothWays d image readout kept as-readout as-image s v t r image2 readout2 kept1 as-readout1 as-image1
   ran = (
     steps,
     λ pattern taken lengths.

@@ -20,7 +20,7 @@ use borrow.Author.Needs.{needs}
 use Rattle.image.proofs.zero_count.Statement.{statement}
 use Rattle.image.proofs.zero_count.Tie as tie
 
--- an image of the device: its length, its fuses, its ones
+-- An image of the device: its length, its fuses, its ones.
 module _ (d : Device) (image : List ℕ) (found : ℕ) (k : known d ≡ true) (e : found ≡ imageBytes d) (l : length image ≡ found) where
   short : length image ≤ 65536
   short = omega (arith, image-whole d k, fuses-small d k)

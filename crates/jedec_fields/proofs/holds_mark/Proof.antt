@@ -6,7 +6,7 @@ use native.Mathlib.Omega.{arith}
 use lib.ListN.{length, drop}
 use mathlib.Core.Bool.{_||_}
 use Rattle.jedec.specs.Cut.{holdsMark}
-use Rattle.jedec_fields.proofs.Runs.{marks-again, marks-end}
+use Rattle.jedec_fields.proofs.Runs.{marks-inverse, marks-end}
 use borrow.Author.Needs.{needs}
 use Rattle.jedec_fields.proofs.holds_mark.Statement.{statement}
 use Rattle.jedec_fields.proofs.holds_mark.Tie as tie
@@ -33,7 +33,7 @@ loop-less : tie.Need-loop-less Inv-loop μ-loop
 loop-less c = search needs
 
 loop-again : tie.Need-loop-again Inv-loop μ-loop
-loop-again c = (omega arith, search (needs, marks-again))
+loop-again c = (omega arith, search (needs, marks-inverse))
 
 returns : tie.Need-returns Inv-loop μ-loop
 returns c = search (needs, marks-end)

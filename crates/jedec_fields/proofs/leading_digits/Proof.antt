@@ -1,7 +1,7 @@
 -- `leading_digits` meets its contract: the number that the digits so far write.
 -- Assumes nothing.
 use Prim.Native.Nat.{_-_}
-use Rattle.jedec_fields.proofs.Runs.{Leads, leads-start, leads-there, leads-falls, leads-room, leads-sum, leads-on, leads-stop}
+use Rattle.jedec_fields.proofs.Runs.{Leads, leads-start, leads-there, leads-falls, leads-space, leads-sum, leads-on, leads-stop}
 use Rattle.jedec_fields.proofs.Runs.{leads-end}
 use borrow.Author.Needs.{needs}
 use Rattle.jedec_fields.proofs.leading_digits.Statement.{statement}
@@ -26,7 +26,7 @@ returns : tie.Need-returns Inv-loop μ-loop
 returns c = search (needs, leads-stop)
 
 mul-x : tie.Need-mul-x Inv-loop μ-loop
-mul-x c = record { fits = search (needs, leads-room) }
+mul-x c = record { fits = search (needs, leads-space) }
 
 add-x : tie.Need-add-x Inv-loop μ-loop
 add-x c = record { fits = search (needs, leads-sum) }

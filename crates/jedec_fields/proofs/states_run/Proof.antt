@@ -2,7 +2,7 @@
 -- Assumes nothing.
 use Prim.Native.Nat.{_-_}
 use lib.ListN.{length}
-use Rattle.jedec_fields.proofs.Lists.{Counts, counts-start, counts-stop, counts-again, counts-end, counts-inside}
+use Rattle.jedec_fields.proofs.Lists.{Counts, counts-start, counts-stop, counts-inverse, counts-end, counts-inside}
 use borrow.Author.Needs.{needs}
 use Rattle.jedec_fields.proofs.states_run.Statement.{statement}
 use Rattle.jedec_fields.proofs.states_run.Tie as tie
@@ -41,7 +41,7 @@ loop-less : tie.Need-loop-less Inv-loop μ-loop
 loop-less c = search needs
 
 loop-again : tie.Need-loop-again Inv-loop μ-loop
-loop-again c = search (needs, counts-again)
+loop-again c = search (needs, counts-inverse)
 
 returns-2 : tie.Need-returns-2 Inv-loop μ-loop
 returns-2 c = search (needs, counts-end)

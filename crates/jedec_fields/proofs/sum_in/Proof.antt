@@ -27,8 +27,8 @@ module _ (bytes : List ℕ) where
     small : i < length bytes → x < 65536
     small h = reading-small 16 hexValue bytes x i 4 r (omega arith) (omega arith)
 
-    room : i < length bytes → x * 16 < 2 ^ 32
-    room h = omega (arith, small h)
+    no-overflow : i < length bytes → x * 16 < 2 ^ 32
+    no-overflow h = omega (arith, small h)
 
     all-digits : length bytes ≤ i → some x ≡ sumIn bytes
     all-digits h = reading-ends 16 hexValue bytes x i r h ∙ fits m
@@ -40,8 +40,8 @@ module _ (bytes : List ℕ) where
       one-more : (y ≡ 16 → ⊥) → Reading 16 hexValue bytes (x * 16 + y) (i + 1)
       one-more = reading-goes 16 hexValue bytes x i y r h (hex-digit (getD bytes i 0)) e
 
-      room-for : (y ≡ 16 → ⊥) → x * 16 + y < 2 ^ 32
-      room-for z = let less : y < 16 = rw e (hex-digit (getD bytes i 0) .below (λ w. z (e ∙ w))) in omega (arith, small h)
+      no-overflow-for : (y ≡ 16 → ⊥) → x * 16 + y < 2 ^ 32
+      no-overflow-for z = let less : y < 16 = rw e (hex-digit (getD bytes i 0) .below (λ w. z (e ∙ w))) in omega (arith, small h)
 
 abbrev Inv-loop : tie.InvT-loop
 Inv-loop bytes x₀ i₀ x i = Reading 16 hexValue bytes x i × (length bytes ≡ 4)
@@ -65,10 +65,10 @@ returns-2 : tie.Need-returns-2 Inv-loop μ-loop
 returns-2 c = search (needs, no-digit)
 
 mul-x : tie.Need-mul-x Inv-loop μ-loop
-mul-x c = record { fits = search (needs, room) }
+mul-x c = record { fits = search (needs, no-overflow) }
 
 add-x : tie.Need-add-x Inv-loop μ-loop
-add-x c = record { fits = search (needs, room-for) }
+add-x c = record { fits = search (needs, no-overflow-for) }
 
 add-i : tie.Need-add-i Inv-loop μ-loop
 add-i c = omega arith

@@ -44,26 +44,26 @@ module _ (d : Device) (text before : List ℕ) where
         ∙ sym (the-device d _ k) in
         record { answers = same; holds = read .holds ∙ ap (λ (o : Outcome (Unit {0})). written o (imageIn d text) before) same }
 
--- the room that the image is made in
+-- The buffer that the image is made in.
 module _ (d : Device) (x : ℕ) (e : x ≡ imageBytes d) where
   few-bytes : known d ≡ true → x ≤ 36288
   unfolding imageBytes
   few-bytes k = omega (arith, fuses-small d k)
 
-  in-room : (made : List ℕ) → known d ≡ true → length made ≡ 36288 → x ≤ length made
-  in-room made k l = omega (arith, few-bytes k)
+  in-space : (made : List ℕ) → known d ≡ true → length made ≡ 36288 → x ≤ length made
+  in-space made k l = omega (arith, few-bytes k)
 
   so-long : (made : List ℕ) → known d ≡ true → length made ≡ 36288 → x ≡ length (take x made)
-  so-long made k l = sym (length-take-le x made (in-room made k l))
+  so-long made k l = sym (length-take-le x made (in-space made k l))
 
   image-size : (before : List ℕ) (fuses : ℕ) → length before ≡ x → fuses ≡ fuseCount d → length before ≡ (fuses + 7) / 8
   unfolding imageBytes
   image-size before fuses h f = rw f (h ∙ e)
 
-  room-size : (made : List ℕ) (fuses : ℕ) → known d ≡ true → length made ≡ 36288 → fuses ≡ fuseCount d
+  buffer-size : (made : List ℕ) (fuses : ℕ) → known d ≡ true → length made ≡ 36288 → fuses ≡ fuseCount d
       → length (take x made) ≡ (fuses + 7) / 8
   unfolding imageBytes
-  room-size made fuses k l f = rw f (sym (so-long made k l) ∙ e)
+  buffer-size made fuses k l f = rw f (sym (so-long made k l) ∙ e)
 
 is-known-requires : tie.Need-is-known-requires
 is-known-requires c κs = search needs
@@ -87,13 +87,13 @@ largest-image-requires : tie.Need-largest-image-requires
 largest-image-requires c κs = search needs
 
 array-borrow-prefix-made : tie.Need-array-borrow-prefix-made
-array-borrow-prefix-made c = search (needs, is-known, in-room)
+array-borrow-prefix-made c = search (needs, is-known, in-space)
 
 slice-aggregate-read-beside : tie.Need-slice-aggregate-read-beside
 slice-aggregate-read-beside c = search (needs, is-known, so-long)
 
 read-beside-requires : tie.Need-read-beside-requires
-read-beside-requires c κs = (search (needs, is-known, room-size), search (needs, image-size))
+read-beside-requires c κs = (search (needs, is-known, buffer-size), search (needs, image-size))
 
 same-length : tie.Need-same-length
 same-length c = search needs

@@ -1,6 +1,6 @@
 -- `image_to_text` meets its contract: the tests, 1 before 2 before 12, and the text.
 -- Assumes nothing.
-use Rattle.jedec_writer.proofs.Text.{no-device, wrong-length, too-short, all-passed}
+use Rattle.jedec_writer.proofs.TextParts.{no-device, wrong-length, too-short, all-passed}
 use Rattle.part.proofs.Devices.{is-known, is-unknown}
 use native.Mathlib.Omega.{arith}
 use borrow.Author.Needs.{needs}

@@ -20,7 +20,7 @@ use Rattle.part.proofs.Fuses.{at-fuse, place-in-main, place-in-wire-and
 use Rattle.part.proofs.address_of_fuse.Statement.{statement}
 use Rattle.part.proofs.address_of_fuse.Tie as tie
 
--- what the code has found at each return, and the definition's answer
+-- What the code has found at each return, and the definition's answer.
 no-device : (d : Device) (fuse : ℕ) → known d ≡ false → refused 1 0 ≡ addressOfFuse d fuse
 unfolding addressOfFuse
 no-device d fuse h = rw h
@@ -61,8 +61,8 @@ fuse-count-requires c κs = search (needs, is-known)
 returns-2 : tie.Need-returns-2
 returns-2 c = search (needs, is-known, no-fuse, le-of-lt)
 
-in-its-block-requires : tie.Need-in-its-block-requires
-in-its-block-requires c κs = search (needs, is-known, below)
+block-and-rest-requires : tie.Need-block-and-rest-requires
+block-and-rest-requires c κs = search (needs, is-known, below)
 
 main-place-requires : tie.Need-main-place-requires
 main-place-requires c κs = search needs
@@ -90,7 +90,7 @@ address-of-fuse-spec =
     returns
     fuse-count-requires
     returns-2
-    in-its-block-requires
+    block-and-rest-requires
     main-place-requires
     address-and-bit-requires
     returns-3

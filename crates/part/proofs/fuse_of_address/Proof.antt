@@ -21,7 +21,7 @@ use Rattle.part.proofs.Fuses.{of-place}
 use Rattle.part.proofs.fuse_of_address.Statement.{statement}
 use Rattle.part.proofs.fuse_of_address.Tie as tie
 
--- the answer by cases: what the code has found at each return, and the definition's answer
+-- The answer by cases: what the code has found at each return, and the definition's answer.
 module _ (d : Device) (address bit : ℕ) (k : known d ≡ true) (byte : BytePlace) (named : byte ≡ byteOfAddress address) where
   no-byte : (t : Bool) → t ≡ hasByte d byte → not t ≡ true → refused 3 0 ≡ fuseOfAddress d address bit
   unfolding fuseOfAddress valid

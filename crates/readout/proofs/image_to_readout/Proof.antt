@@ -1,4 +1,4 @@
--- `image_to_readout` meets its contract: the tests, 1 before 2, and the passage.
+-- `image_to_readout` meets its contract: the tests, 1 before 2, and the conversion.
 -- Assumes nothing.
 use mathlib.Core.Path.{_≡_, refl, sym, _∙_}
 use mathlib.Core.Bool.{true, false}
@@ -16,13 +16,13 @@ use Rattle.part.specs.declared.Device.{Device}
 use Rattle.part.proofs.Devices.{is-known, is-unknown}
 use Rattle.readout.specs.Readout.{toReadout, readoutOf}
 use Rattle.readout.specs.Widths.{widths}
-use Rattle.readout.proofs.Passages.{readout-cut, sets-whole, readout-length}
+use Rattle.readout.proofs.Conversions.{readout-cut, sets-whole, readout-length}
 use Rattle.part.proofs.Targets.{unknown, wrong-first, wrong-second, right}
 use borrow.Author.Needs.{needs}
 use Rattle.readout.proofs.image_to_readout.Statement.{statement}
 use Rattle.readout.proofs.image_to_readout.Tie as tie
 
--- the tests, at this function's definition
+-- The tests, at this function's definition.
 module _ (d : Device) (image before : List ℕ) where
   abbrev At : Outcome (Unit {0}) → List ℕ → Type 0
   At answer after = Written (toReadout d image before) answer (readoutOf d image) before after

@@ -1,4 +1,4 @@
--- `readout_to_image` meets its contract: the tests, 1 before 2 before 6, and the passage.
+-- `readout_to_image` meets its contract: the tests, 1 before 2 before 6, and the conversion.
 -- Assumes nothing.
 use mathlib.Core.Path.{_≡_, refl, sym, _∙_}
 use mathlib.Core.Bool.{true, false, cond}
@@ -15,32 +15,32 @@ use Rattle.part.specs.Outcome.Outcome.{accepted, refused}
 use Rattle.part.specs.Device.{known, imageBytes, readoutBytes}
 use Rattle.part.specs.declared.Device.{Device}
 use Rattle.part.proofs.Devices.{is-known, is-unknown}
-use Rattle.readout.specs.Readout.{toImage, imageOf, firstStray}
+use Rattle.readout.specs.Readout.{toImage, imageOf, firstAbove}
 use Rattle.readout.specs.Widths.{widths, bytesIn, fine}
-use Rattle.readout.proofs.Passages.{image-bytes-in, image-length, sets-whole}
-use Rattle.readout.proofs.Strays.{first-stray}
+use Rattle.readout.proofs.Conversions.{image-bytes-in, image-length, sets-whole}
+use Rattle.readout.proofs.AboveWidth.{first-above}
 use Rattle.part.proofs.Targets.{unknown, wrong-first, wrong-second, right}
 use borrow.Author.Needs.{needs}
 use Rattle.readout.proofs.readout_to_image.Statement.{statement}
 use Rattle.readout.proofs.readout_to_image.Tie as tie
 
--- what follows the tests of lengths
+-- What follows the tests of lengths.
 abbrev afterScan : Device → List ℕ → Outcome (Unit {0})
-afterScan d readout = cond (ltb (firstStray d readout) (readoutBytes d)) (refused 6 (firstStray d readout)) (accepted tt)
+afterScan d readout = cond (ltb (firstAbove d readout) (readoutBytes d)) (refused 6 (firstAbove d readout)) (accepted tt)
 
--- what the scan found, and what the definition says of it
-module _ (d : Device) (readout : List ℕ) (stray : ℕ) (k : known d ≡ true) (l : length readout ≡ readoutBytes d)
-    (e : stray ≡ 0 + fine (widths d) (drop 0 readout)) where
-  the-stray : stray ≡ firstStray d readout
-  the-stray = e ∙ zero-add _ ∙ sym (first-stray d readout k)
+-- What the scan found, and what the definition says of it.
+module _ (d : Device) (readout : List ℕ) (above : ℕ) (k : known d ≡ true) (l : length readout ≡ readoutBytes d)
+    (e : above ≡ 0 + fine (widths d) (drop 0 readout)) where
+  the-above : above ≡ firstAbove d readout
+  the-above = e ∙ zero-add _ ∙ sym (first-above d readout k)
 
-  a-stray : stray < length readout → refused 6 stray ≡ afterScan d readout
-  a-stray h = rw (← the-stray, lt-ltb stray (readoutBytes d) (omega arith))
+  one-above : above < length readout → refused 6 above ≡ afterScan d readout
+  one-above h = rw (← the-above, lt-ltb above (readoutBytes d) (omega arith))
 
-  no-stray : length readout ≤ stray → accepted tt ≡ afterScan d readout
-  no-stray h = rw (← the-stray, le-ltb stray (readoutBytes d) (omega arith))
+  no-above : length readout ≤ above → accepted tt ≡ afterScan d readout
+  no-above h = rw (← the-above, le-ltb above (readoutBytes d) (omega arith))
 
--- the tests, at this function's definition
+-- The tests, at this function's definition.
 module _ (d : Device) (readout before : List ℕ) where
   abbrev At : Outcome (Unit {0}) → List ℕ → Type 0
   At answer after = Written (toImage d readout before) answer (imageOf d readout) before after
@@ -75,18 +75,18 @@ whole : (d : Device) (readout before after : List ℕ) → known d ≡ true → 
 whole d readout before after k e f =
     f ∙ rw (image-bytes-in d readout k) (sets-whole before (imageOf d readout) (e ∙ sym (image-length d readout)))
 
-a-stray-refused : (d : Device) (readout before : List ℕ) (x y stray : ℕ) → known d ≡ true → x ≡ readoutBytes d → length readout ≡ x
+one-above-refused : (d : Device) (readout before : List ℕ) (x y above : ℕ) → known d ≡ true → x ≡ readoutBytes d → length readout ≡ x
     → y ≡ imageBytes d → length before ≡ y
-    → stray ≡ 0 + fine (widths d) (drop 0 readout) → stray < length readout → At d readout before (refused 6 stray) before
-a-stray-refused d readout before x y stray k ex hx ey hy e h =
-    passed d readout before k x ex hx y ey hy (refused 6 stray) (a-stray d readout stray k (hx ∙ ex) e h) before refl
+    → above ≡ 0 + fine (widths d) (drop 0 readout) → above < length readout → At d readout before (refused 6 above) before
+one-above-refused d readout before x y above k ex hx ey hy e h =
+    passed d readout before k x ex hx y ey hy (refused 6 above) (one-above d readout above k (hx ∙ ex) e h) before refl
 
-all-passed : (d : Device) (readout before after : List ℕ) (x y stray : ℕ) → known d ≡ true → x ≡ readoutBytes d → length readout ≡ x
+all-passed : (d : Device) (readout before after : List ℕ) (x y above : ℕ) → known d ≡ true → x ≡ readoutBytes d → length readout ≡ x
     → y ≡ imageBytes d → length before ≡ y
-    → stray ≡ 0 + fine (widths d) (drop 0 readout) → length readout ≤ stray → after ≡ sets before 0 (bytesIn (widths d) (drop 0 readout))
+    → above ≡ 0 + fine (widths d) (drop 0 readout) → length readout ≤ above → after ≡ sets before 0 (bytesIn (widths d) (drop 0 readout))
     → At d readout before (accepted tt) after
-all-passed d readout before after x y stray k ex hx ey hy e h f =
-    passed d readout before k x ex hx y ey hy (accepted tt) (no-stray d readout stray k (hx ∙ ex) e h) after
+all-passed d readout before after x y above k ex hx ey hy e h f =
+    passed d readout before k x ex hx y ey hy (accepted tt) (no-above d readout above k (hx ∙ ex) e h) after
     (whole d readout before after k (hy ∙ ey) f)
 
 is-known-requires : tie.Need-is-known-requires
@@ -113,14 +113,14 @@ cast-if3 c = search needs
 returns-3 : tie.Need-returns-3
 returns-3 c = search (needs, is-known, second-length)
 
-first-stray-requires : tie.Need-first-stray-requires
-first-stray-requires c κs = (search (needs, is-known), omega arith)
+first-above-requires : tie.Need-first-above-requires
+first-above-requires c κs = (search (needs, is-known), omega arith)
 
 cast-index : tie.Need-cast-index
 cast-index c = search needs
 
 returns-4 : tie.Need-returns-4
-returns-4 c = search (needs, is-known, a-stray-refused)
+returns-4 c = search (needs, is-known, one-above-refused)
 
 blocks-in-requires : tie.Need-blocks-in-requires
 blocks-in-requires c κs = (search (needs, is-known), omega arith, omega arith)
@@ -143,7 +143,7 @@ readout-to-image-spec =
     image-bytes-requires
     cast-if3
     returns-3
-    first-stray-requires
+    first-above-requires
     cast-index
     returns-4
     blocks-in-requires

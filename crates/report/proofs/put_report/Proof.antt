@@ -1,4 +1,4 @@
--- `put_report` meets its contract: the limit, then the device and room for its image.
+-- `put_report` meets its contract: the limit, then the device and buffer for its image.
 -- Assumes nothing.
 use Rattle.report.proofs.Answers.{device-known, image-fits, image-part, image-size, too-long, not-too-long}
 use borrow.Author.Needs.{needs}
@@ -23,8 +23,8 @@ image-bytes-requires c κs = search (needs, device-known)
 cast-bytes : tie.Need-cast-bytes
 cast-bytes c = search needs
 
-image-room-requires : tie.Need-image-room-requires
-image-room-requires c κs = search needs
+image-buffer-requires : tie.Need-image-buffer-requires
+image-buffer-requires c κs = search needs
 
 array-borrow-prefix-image : tie.Need-array-borrow-prefix-image
 array-borrow-prefix-image c = search (needs, image-fits)
@@ -51,7 +51,7 @@ put-report-spec =
     blocks-for-requires
     image-bytes-requires
     cast-bytes
-    image-room-requires
+    image-buffer-requires
     array-borrow-prefix-image
     slice-aggregate-put-lines
     put-lines-requires

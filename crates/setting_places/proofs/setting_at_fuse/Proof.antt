@@ -19,7 +19,7 @@ use Rattle.settings.proofs.Asked.{has, has-not}
 use Rattle.setting_places.specs.Places.{bitsOf, fuseOf}
 use Rattle.setting_places.specs.Back.{candidateAt, settingAt}
 use Rattle.setting_places.specs.Operations.{settingAtFuse}
-use Rattle.setting_places.specs.declared.internal.Candidate.{Candidate}
+use Rattle.setting_places.specs.declared.candidates.Candidate.{Candidate}
 use borrow.Author.Needs.{needs}
 use Rattle.setting_places.proofs.setting_at_fuse.Statement.{statement}
 use Rattle.setting_places.proofs.setting_at_fuse.Tie as tie
@@ -41,7 +41,7 @@ its-place d f p e h = rw e (at-fuse d f h .0)
 inside : (c : Candidate) (width : ℕ) → width ≡ bitsOf (c .setting) → c .bit < width → c .bit < bitsOf (c .setting)
 inside c width e l = omega arith
 
--- what the code has found at each return, and the definition's answer
+-- What the code has found at each return, and the definition's answer.
 module _ (d : Device) (f : ℕ) (p : Place) (c : Candidate) (k : known d ≡ true) (h : f < fuseCount d) (e : p ≡ placeOfFuse d f)
     (g : c ≡ candidateAt p) where
   not-there : hasSetting d (c .setting) ≡ false → accepted none ≡ settingAtFuse d f

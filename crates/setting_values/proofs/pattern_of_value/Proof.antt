@@ -13,8 +13,8 @@ use Rattle.settings.proofs.Asked.{has, has-not}
 use Rattle.values.specs.Patterns.{patternIn, foundPattern}
 use Rattle.values.specs.declared.Value.{Value}
 use Rattle.values.specs.declared.Kind.{Kind}
-use Rattle.values.specs.declared.internal.Found.{Found}
-use Rattle.values.specs.declared.internal.Found.the-variants.{Pattern, NoSuchValue}
+use Rattle.values.specs.declared.patterns.Found.{Found}
+use Rattle.values.specs.declared.patterns.Found.the-variants.{Pattern, NoSuchValue}
 use Rattle.setting_values.specs.Kinds.{kindOf}
 use Rattle.setting_values.specs.Operations.{patternOfValue}
 use borrow.Author.Needs.{needs}

@@ -8,12 +8,12 @@ use Rattle.edit_vectors.proofs.both.each_device.Statement.{statement}
 use Rattle.edit_vectors.proofs.both.each_device.Tie as tie
 
 abbrev Inv-loop : tie.InvT-loop
-Inv-loop image₀ readout₀ kept₀ its-readout₀ its-image₀ k₀ image readout kept its-readout its-image k =
+Inv-loop image₀ readout₀ kept₀ as-readout₀ as-image₀ k₀ image readout kept as-readout as-image k =
     (length image ≡ length image₀) × (length readout ≡ length readout₀) × (length kept ≡ length kept₀)
-    × (length its-readout ≡ length its-readout₀) × (length its-image ≡ length its-image₀)
+    × (length as-readout ≡ length as-readout₀) × (length as-image ≡ length as-image₀)
 
 abbrev μ-loop : tie.MeasureT-loop
-μ-loop image₀ readout₀ kept₀ its-readout₀ its-image₀ k₀ image readout kept its-readout its-image k =
+μ-loop image₀ readout₀ kept₀ as-readout₀ as-image₀ k₀ image readout kept as-readout as-image k =
     162 - k
 
 loop-holds : tie.Need-loop-holds Inv-loop μ-loop

@@ -1,0 +1,69 @@
+// An image filled with a start state, and states put into it. For the reader.
+// A function here may require that the image has its length and that bytes write states.
+ghost use mathlib.Core.Path.{_≡_};
+ghost use mathlib.Core.List.{[]};
+ghost use mathlib.Core.Option.Option.{some};
+ghost use Prim.Native.Nat.{_+_, _*_, _-_, _/_, _^_, _<_, _≤_};
+ghost use lib.ListN.{length};
+ghost use Rattle.jedec.specs.Judge.{statesIn};
+ghost use Rattle.jedec.specs.Rules.{stateGiven, imageWith};
+ghost use Rattle.jedec_fields.specs.Fields.{statesOf};
+ghost use Rattle.jedec_image.specs.States.{withStates};
+use cells::words::low_bits;
+use jedec_runs::states::bits_at;
+use jedec_runs::states::blank_at;
+use jedec_runs::states::states_at;
+
+// A byte of which the lowest bits have a state, and the others are 0.
+fn byte_of(state: u32, bits: u32) -> u8
+    requires { ⌜ (state < 2) × (bits ≤ 8) ⌝ }
+    ensures { λ r. ⌜ r ≡ state * (2 ^ bits - 1) ⌝ }
+{
+    (state * ((1 << bits) - 1)) as u8
+}
+
+// Every fuse at a start state; bits past the last fuse are 0.
+pub fn fill(image: &mut [u8], fuses: u32, state: u32)
+    requires { ⌜ (length (now image) ≡ (fuses + 7) / 8) × (state < 2) ⌝ }
+    ensures { λ _. ⌜ now (image .exit) ≡ imageWith fuses (stateGiven state []) ⌝ }
+{
+    let whole = (fuses / 8) as usize;
+    let byte = byte_of(state, 8);
+    let mut i: usize = 0;
+    while i < whole {
+        image[i] = byte;
+        i += 1;
+    }
+    if whole < image.len() {
+        image[whole] = byte_of(state, fuses % 8);
+    }
+}
+
+// The states that some bytes write, put in place from a fuse on. A byte of the image is stored when its last bit is
+// known, and at the end; until then its new low bits stand in `low`.
+pub fn put_states(bytes: &[u8], image: &mut [u8], fuse: usize)
+    requires { ⌜ (statesIn (now bytes) ≡ some (statesOf (now bytes))) × (0 < length (statesOf (now bytes)))
+        × (fuse + length (statesOf (now bytes)) ≤ length (now image) * 8) ⌝ }
+    ensures { λ _. ⌜ now (image .exit) ≡ withStates (now (image .entry)) fuse (statesOf (now (bytes .entry))) ⌝ }
+{
+    let mut index = fuse / 8;
+    let mut bit: u32 = (fuse % 8) as u32;
+    let mut low = low_bits(image[index] as u64, bit);
+    let mut i: usize = 0;
+    while i < bytes.len() {
+        let count = states_at(bytes, i);
+        low += bits_at(bytes, i, count) << bit;
+        bit += count as u32;
+        i += count + blank_at(bytes, i + count);
+        if 8 <= bit {
+            image[index] = low_bits(low, 8) as u8;
+            low = low >> 8;
+            index += 1;
+            bit -= 8;
+        }
+    }
+    if 0 < bit {
+        let above = image[index] as u64 >> bit;
+        image[index] = ((above << bit) + low) as u8;
+    }
+}

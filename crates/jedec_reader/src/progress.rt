@@ -1,0 +1,177 @@
+// What the fields of a text gave so far: QF, the start state, the L fields, C; and whether a field may stand.
+// A function here may require that offsets and counts are below the limit of a text.
+ghost use mathlib.Core.Path.{_≡_};
+ghost use Prim.Native.Nat.{_+_, _<_, _≤_};
+ghost use Rattle.jedec.specs.Rules.{has};
+ghost use Rattle.jedec_reader.specs.Progress.{notedOf, seenOf, mayStand, misplacedAfter, withCount, withStart};
+ghost use Rattle.jedec_reader.specs.Progress.{withList, withSum, Few, afterField};
+use jedec_fields::FieldSays;
+
+// A number that a field gave, and where the field starts.
+pub enum Noted {
+    Nothing,
+    At { at: u32, value: u32 },
+}
+
+// A number, if there is one.
+pub enum Seen {
+    Nothing,
+    Number(u32),
+}
+
+// What the fields so far gave: QF, the start state, whether there was an L, where the last one ended, where the
+// first misplaced one starts, C.
+pub struct Progress {
+    pub count: Noted,
+    pub start: Seen,
+    pub listed: bool,
+    pub end: usize,
+    pub misplaced: Seen,
+    pub sum: Noted,
+}
+
+fn is_noted(n: Noted) -> bool
+    ensures { λ r. ⌜ r ≡ has (notedOf n) ⌝ }
+{
+    match n {
+        Noted::Nothing => false,
+        Noted::At { at: _, value: _ } => true,
+    }
+}
+
+fn is_seen(s: Seen) -> bool
+    ensures { λ r. ⌜ r ≡ has (seenOf s) ⌝ }
+{
+    match s {
+        Seen::Nothing => false,
+        Seen::Number(_) => true,
+    }
+}
+
+// Whether a field may stand after the fields so far.
+pub fn may_stand(p: Progress, says: FieldSays) -> bool
+    ensures { λ r. ⌜ r ≡ mayStand p says ⌝ }
+{
+    let count = p.count;
+    let start = p.start;
+    let sum = p.sum;
+    let counted = is_noted(count);
+    let started = is_seen(start);
+    let summed = is_noted(sum);
+    match says {
+        FieldSays::Count(_) => !counted,
+        FieldSays::Start(_) => counted & !started & !p.listed,
+        FieldSays::List {
+            first: _,
+            skip: _,
+            count: _,
+        } => counted & !summed,
+        FieldSays::Sum(_) => counted & !summed,
+        FieldSays::Skipped => true,
+        FieldSays::Bad => false,
+    }
+}
+
+// Where the first misplaced L starts: one before, or this one.
+fn misplaced_after(fuses: u32, before: Seen, end: usize, at: u32, first: u32, count: usize) -> Seen
+    requires { ⌜ count ≤ 1048576 ⌝ }
+    ensures { λ r. ⌜ r ≡ misplacedAfter fuses before end at first count ⌝ }
+{
+    match before {
+        Seen::Number(x) => Seen::Number(x),
+        Seen::Nothing => {
+            let from = first as usize;
+            if (from < end) | ((fuses as usize) < from + count) {
+                return Seen::Number(at);
+            }
+            Seen::Nothing
+        }
+    }
+}
+
+// What is known after QF, F, L and C.
+fn with_count(p: Progress, at: u32, n: u32) -> Progress
+    ensures { λ r. ⌜ r ≡ withCount p at n ⌝ }
+{
+    let start = p.start;
+    let misplaced = p.misplaced;
+    let sum = p.sum;
+    Progress {
+        count: Noted::At { at, value: n },
+        start,
+        listed: p.listed,
+        end: p.end,
+        misplaced,
+        sum,
+    }
+}
+
+fn with_start(p: Progress, s: u32) -> Progress
+    ensures { λ r. ⌜ r ≡ withStart p s ⌝ }
+{
+    let count = p.count;
+    let misplaced = p.misplaced;
+    let sum = p.sum;
+    Progress {
+        count,
+        start: Seen::Number(s),
+        listed: p.listed,
+        end: p.end,
+        misplaced,
+        sum,
+    }
+}
+
+fn with_list(fuses: u32, p: Progress, at: u32, first: u32, n: usize) -> Progress
+    requires { ⌜ n ≤ 1048576 ⌝ }
+    ensures { λ r. ⌜ r ≡ withList fuses p at first n ⌝ }
+{
+    let count = p.count;
+    let start = p.start;
+    let before = p.misplaced;
+    let sum = p.sum;
+    let misplaced = misplaced_after(fuses, before, p.end, at, first, n);
+    Progress {
+        count,
+        start,
+        listed: true,
+        end: first as usize + n,
+        misplaced,
+        sum,
+    }
+}
+
+fn with_sum(p: Progress, at: u32, x: u32) -> Progress
+    ensures { λ r. ⌜ r ≡ withSum p at x ⌝ }
+{
+    let count = p.count;
+    let start = p.start;
+    let misplaced = p.misplaced;
+    Progress {
+        count,
+        start,
+        listed: p.listed,
+        end: p.end,
+        misplaced,
+        sum: Noted::At { at, value: x },
+    }
+}
+
+// What is known after a field that starts at an offset.
+pub fn after_field(fuses: u32, p: Progress, at: u32, says: FieldSays) -> Progress
+    requires { ⌜ Few says ⌝ }
+    ensures { λ r. ⌜ r ≡ afterField fuses p at says ⌝ }
+{
+    match says {
+        FieldSays::Count(n) => with_count(p, at, n),
+        FieldSays::Start(s) => with_start(p, s),
+        FieldSays::List {
+            first,
+            skip: _,
+            count,
+        } => with_list(fuses, p, at, first, count),
+        FieldSays::Sum(x) => with_sum(p, at, x),
+        FieldSays::Skipped => p,
+        FieldSays::Bad => p,
+    }
+}

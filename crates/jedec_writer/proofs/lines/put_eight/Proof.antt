@@ -1,0 +1,62 @@
+-- `put_eight` meets its contract: eight bytes, one after another.
+-- Assumes nothing.
+use Rattle.jedec_writer.proofs.Tokens.{bytes-of}
+use borrow.Author.Needs.{needs}
+use Rattle.jedec_writer.proofs.lines.put_eight.Statement.{statement}
+use Rattle.jedec_writer.proofs.lines.put_eight.Tie as tie
+
+put-byte-requires : tie.Need-put-byte-requires
+put-byte-requires c κs = search needs
+
+put-byte-requires-2 : tie.Need-put-byte-requires-2
+put-byte-requires-2 c κs = search needs
+
+put-byte-requires-3 : tie.Need-put-byte-requires-3
+put-byte-requires-3 c κs = search needs
+
+put-byte-requires-4 : tie.Need-put-byte-requires-4
+put-byte-requires-4 c κs = search needs
+
+put-byte-requires-5 : tie.Need-put-byte-requires-5
+put-byte-requires-5 c κs = search needs
+
+put-byte-requires-6 : tie.Need-put-byte-requires-6
+put-byte-requires-6 c κs = search needs
+
+put-byte-requires-7 : tie.Need-put-byte-requires-7
+put-byte-requires-7 c κs = search needs
+
+put-byte-requires-8 : tie.Need-put-byte-requires-8
+put-byte-requires-8 c κs = search needs
+
+same-length : tie.Need-same-length
+same-length c = search needs
+
+returns : tie.Need-returns
+returns c =
+    bytes-of _ _ _ _ _ _ _ _ _ _ _
+    (c .before .before .before .before .before .before .before .before .before .before .before .before .before .before .before .before
+    .before .before .before .before .before .before .before .before .before .before .before .before .before .before .put-byte .ensures)
+    (c .before .before .before .before .before .before .before .before .before .before .before .before .before .before .before .before
+    .before .before .before .before .before .before .before .before .before .before .put-byte2 .ensures)
+    (c .before .before .before .before .before .before .before .before .before .before .before .before .before .before .before .before
+    .before .before .before .before .before .before .put-byte3 .ensures) (c .before .before .before .before .before .before .before .before
+    .before .before .before .before .before .before .before .before .before .before .put-byte4 .ensures)
+    (c .before .before .before .before .before .before .before .before .before .before .before .before .before .before .put-byte5 .ensures)
+    (c .before .before .before .before .before .before .before .before .before .before .put-byte6 .ensures)
+    (c .before .before .before .before .before .before .put-byte7 .ensures) (c .before .before .put-byte8 .ensures)
+
+pub put-eight-spec : {M : Type 1} → statement M
+put-eight-spec =
+    tie.close
+    (tie.spec
+    put-byte-requires
+    put-byte-requires-2
+    put-byte-requires-3
+    put-byte-requires-4
+    put-byte-requires-5
+    put-byte-requires-6
+    put-byte-requires-7
+    put-byte-requires-8
+    same-length
+    returns)

@@ -1,0 +1,61 @@
+-- `block_in` meets its contract: the pairs of main rows, and the pairs of wire-AND rows behind them.
+-- Assumes nothing.
+use mathlib.Core.Path.{refl}
+use mathlib.Core.Bool.{true, false}
+use native.Mathlib.Omega.{arith}
+use borrow.Author.Needs.{needs}
+use Rattle.readout.proofs.Sizes.{block-size, block-whole, main-pair, wire-and-pair}
+use Rattle.readout.proofs.RowsIn.{block-of-pairs}
+use Rattle.readout.proofs.rows_in.block_in.Statement.{statement}
+use Rattle.readout.proofs.rows_in.block_in.Tie as tie
+
+pairs-in-requires : tie.Need-pairs-in-requires
+pairs-in-requires c κs =
+    omega (
+      arith,
+      block-size (c .before .before .before .args .d),
+      block-whole (c .before .before .before .args .d),
+      main-pair true refl,
+      c .before .before .before .pre,
+    )
+
+cast-pairs : tie.Need-cast-pairs
+cast-pairs c = search needs
+
+mul-pairs : tie.Need-mul-pairs
+mul-pairs c = search needs
+
+add-pairs-in : tie.Need-add-pairs-in
+add-pairs-in c = search needs
+
+add-pairs-in-2 : tie.Need-add-pairs-in-2
+add-pairs-in-2 c = search needs
+
+pairs-in-requires-2 : tie.Need-pairs-in-requires-2
+pairs-in-requires-2 c κs =
+    rw (wire-and-pair false refl .0, wire-and-pair false refl .1) (omega (
+      arith,
+      block-size (c .before .before .before .before .before .before .before .before .args .d),
+      block-whole (c .before .before .before .before .before .before .before .before .args .d),
+      c .before .before .before .before .before .before .before .before .pre,
+      c .before .before .before .before .pairs-in .kept,
+    ))
+
+same-length : tie.Need-same-length
+same-length c = search needs
+
+returns : tie.Need-returns
+returns c = search (needs, block-of-pairs)
+
+pub block-in-spec : {M : Type 1} → statement M
+block-in-spec =
+    tie.close
+    (tie.spec
+    pairs-in-requires
+    cast-pairs
+    mul-pairs
+    add-pairs-in
+    add-pairs-in-2
+    pairs-in-requires-2
+    same-length
+    returns)

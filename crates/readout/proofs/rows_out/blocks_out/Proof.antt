@@ -1,0 +1,87 @@
+-- `blocks_out` meets its contract: the loop of `pairs_out`, over blocks.
+-- Assumes nothing.
+use mathlib.Core.Path.{_≡_}
+use Prim.Native.Nat.{_*_}
+use native.Mathlib.Omega.{arith}
+use borrow.Author.Needs.{needs}
+use Rattle.cells.specs.Cells.{total}
+use Rattle.part.specs.declared.Device.{Device}
+use Rattle.readout.specs.Widths.{blockWidths, wholeBytes}
+use Rattle.readout.proofs.Sizes.{block-whole}
+use Rattle.readout.proofs.RowsOut.{Left, next-image, next-cells, turned, blocks-begun, blocks-ended}
+use Rattle.readout.proofs.rows_out.blocks_out.Statement.{statement}
+use Rattle.readout.proofs.rows_out.blocks_out.Tie as tie
+
+whole : (d : Device) → total (blockWidths d) ≡ wholeBytes (blockWidths d) * 8
+whole d = block-whole d .1
+
+abbrev Inv-loop : tie.InvT-loop
+Inv-loop d image out₀ whole bytes b₀ a₀ left₀ out b a left =
+    Left (blockWidths d) image out₀ out 0 0 (d .blocks) b a left
+
+abbrev μ-loop : tie.MeasureT-loop
+μ-loop d image out₀ whole bytes b₀ a₀ left₀ out b a left = left
+
+block-image-bytes-requires : tie.Need-block-image-bytes-requires Inv-loop μ-loop
+block-image-bytes-requires c κs = search needs
+
+block-bytes-requires : tie.Need-block-bytes-requires Inv-loop μ-loop
+block-bytes-requires c κs = search needs
+
+loop-holds : tie.Need-loop-holds Inv-loop μ-loop
+loop-holds c = search (needs, blocks-begun)
+
+block-out-requires : tie.Need-block-out-requires Inv-loop μ-loop
+block-out-requires c κs = search (needs, next-image, next-cells)
+
+add-b : tie.Need-add-b Inv-loop μ-loop
+add-b c =
+    omega (
+      arith,
+      next-image (c .before .before .before .before .before .loop .inv) (c .before .before .before .before .loop-test .taken),
+      c .before .before .before .before .before .before .before .block-image-bytes .ensures,
+      c .before .before .before .before .before .before .before .before .before .before .good,
+    )
+
+add-a : tie.Need-add-a Inv-loop μ-loop
+add-a c =
+    omega (
+      arith,
+      next-cells (c .before .before .before .before .before .loop .inv) (c .before .before .before .before .loop-test .taken),
+      c .before .before .before .before .before .loop .inv .same,
+      c .before .before .before .before .before .before .block-bytes .ensures,
+      c .before .before .before .before .before .before .before .before .before .before .good,
+    )
+
+sub-left : tie.Need-sub-left Inv-loop μ-loop
+sub-left c = omega arith
+
+loop-less : tie.Need-loop-less Inv-loop μ-loop
+loop-less c = omega arith
+
+loop-again : tie.Need-loop-again Inv-loop μ-loop
+loop-again c = search (needs, turned, whole)
+
+same-length : tie.Need-same-length Inv-loop μ-loop
+same-length c = search needs
+
+returns : tie.Need-returns Inv-loop μ-loop
+returns c = search (needs, blocks-ended)
+
+pub blocks-out-spec : {M : Type 1} → statement M
+blocks-out-spec =
+    tie.close
+    (tie.spec
+    Inv-loop
+    μ-loop
+    block-image-bytes-requires
+    block-bytes-requires
+    loop-holds
+    block-out-requires
+    add-b
+    add-a
+    sub-left
+    loop-less
+    loop-again
+    same-length
+    returns)

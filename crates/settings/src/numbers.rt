@@ -1,0 +1,241 @@
+// The number of a setting and the setting of a number: groups, the first number of each, positions in them.
+// For the crates above: a function here may require that the device is known or has the setting.
+ghost use mathlib.Core.Path.{_≡_};
+ghost use mathlib.Core.Bool.{true};
+ghost use Prim.Native.Nat.{_<_};
+ghost use Rattle.part.specs.Device.{known};
+ghost use Rattle.settings.specs.Settings.{hasSetting};
+ghost use Rattle.settings.specs.Order.{start, countOf, numberOf};
+ghost use Rattle.settings.specs.Order.{inGroup, settingOf};
+ghost use Rattle.settings.specs.Order.Group.{literals, wireAnds, macrocellSettings, blockSettings, globals};
+ghost use Rattle.settings.specs.declared.GlobalField.the-variants.{Usercode};
+ghost use Rattle.settings.specs.declared.Setting.the-variants.{Literal, Global};
+use super::Polarity;
+use super::Setting;
+use super::SettingNumber;
+use super::fields::BLOCK_FIELDS;
+use super::fields::INPUTS;
+use super::fields::MACROCELL_FIELDS;
+use super::fields::MACROCELLS;
+use super::fields::TERMS;
+use super::fields::block_field_at;
+use super::fields::block_index;
+use super::fields::global_field_at;
+use super::fields::global_fields;
+use super::fields::global_index;
+use super::fields::macrocell_field_at;
+use super::fields::macrocell_index;
+use super::fields::polarity_at;
+use super::fields::polarity_index;
+use part::Device;
+
+const TERM_LITERALS: u32 = INPUTS * 2;
+
+const MACROCELL_LITERALS: u32 = TERMS * TERM_LITERALS;
+
+const BLOCK_LITERALS: u32 = MACROCELLS * MACROCELL_LITERALS;
+
+// The first number of each group after the literals.
+pub fn start_of_wire_ands(d: Device) -> u32
+    requires { ⌜ known d ≡ true ⌝ }
+    ensures { λ r. ⌜ r ≡ start d wireAnds ⌝ }
+{
+    part::geometry::blocks_of(d) * BLOCK_LITERALS
+}
+
+fn start_of_macrocells(d: Device) -> u32
+    requires { ⌜ known d ≡ true ⌝ }
+    ensures { λ r. ⌜ r ≡ start d macrocellSettings ⌝ }
+{
+    let n = part::geometry::blocks_of(d);
+    start_of_wire_ands(d) + n * (INPUTS * (n * MACROCELLS))
+}
+
+fn start_of_blocks(d: Device) -> u32
+    requires { ⌜ known d ≡ true ⌝ }
+    ensures { λ r. ⌜ r ≡ start d blockSettings ⌝ }
+{
+    start_of_macrocells(d) + part::geometry::blocks_of(d) * (MACROCELLS * MACROCELL_FIELDS)
+}
+
+fn start_of_globals(d: Device) -> u32
+    requires { ⌜ known d ≡ true ⌝ }
+    ensures { λ r. ⌜ r ≡ start d globals ⌝ }
+{
+    start_of_blocks(d) + part::geometry::blocks_of(d) * BLOCK_FIELDS
+}
+
+// How many settings the device has.
+pub fn count_of(d: Device) -> u32
+    requires { ⌜ known d ≡ true ⌝ }
+    ensures { λ r. ⌜ r ≡ countOf d ⌝ }
+{
+    start_of_globals(d) + global_fields(d)
+}
+
+// The number of USERCODE, which is the last.
+pub fn number_of_usercode(d: Device) -> u32
+    requires { ⌜ known d ≡ true ⌝ }
+    ensures { λ r. ⌜ r ≡ numberOf d (Global Usercode) ⌝ }
+{
+    count_of(d) - 1
+}
+
+// The number of a setting.
+pub fn number_of(d: Device, s: Setting) -> SettingNumber
+    requires { ⌜ (known d ≡ true) × (hasSetting d s ≡ true) ⌝ }
+    ensures { λ r. ⌜ r .0 ≡ numberOf d s ⌝ }
+{
+    match s {
+        Setting::Literal {
+            block,
+            macrocell,
+            term,
+            input,
+            polarity,
+        } => {
+            let p = polarity_index(polarity);
+            let in_macrocell = term * TERM_LITERALS + (input * 2 + p);
+            SettingNumber(block * BLOCK_LITERALS + (macrocell * MACROCELL_LITERALS + in_macrocell))
+        }
+        Setting::WireAnd {
+            block,
+            input,
+            source,
+            macrocell,
+        } => {
+            let n = part::geometry::blocks_of(d);
+            let in_input = source * MACROCELLS + macrocell;
+            let in_block = input * (n * MACROCELLS) + in_input;
+            SettingNumber(start_of_wire_ands(d) + (block * (INPUTS * (n * MACROCELLS)) + in_block))
+        }
+        Setting::Macrocell {
+            block,
+            macrocell,
+            field,
+        } => {
+            let index = macrocell_index(field);
+            let in_block = macrocell * MACROCELL_FIELDS + index;
+            SettingNumber(
+                start_of_macrocells(d) + (block * (MACROCELLS * MACROCELL_FIELDS) + in_block),
+            )
+        }
+        Setting::Block { block, field } => {
+            let index = block_index(field);
+            SettingNumber(start_of_blocks(d) + (block * BLOCK_FIELDS + index))
+        }
+        Setting::Global(field) => {
+            let index = global_index(d, field);
+            SettingNumber(start_of_globals(d) + index)
+        }
+    }
+}
+
+// The indices of a literal.
+pub struct LiteralIndices {
+    pub block: u32,
+    pub macrocell: u32,
+    pub term: u32,
+    pub input: u32,
+    pub polarity: Polarity,
+}
+
+// The indices of the literal at a position.
+pub fn literal_indices(d: Device, x: u32) -> LiteralIndices
+    ensures { λ r. ⌜ Literal (r .block) (r .macrocell) (r .term) (r .input) (r .polarity) ≡ inGroup d literals x ⌝ }
+{
+    let in_term = x % TERM_LITERALS;
+    let polarity = polarity_at(in_term % 2);
+    LiteralIndices {
+        block: x / BLOCK_LITERALS,
+        macrocell: x % BLOCK_LITERALS / MACROCELL_LITERALS,
+        term: x % MACROCELL_LITERALS / TERM_LITERALS,
+        input: in_term / 2,
+        polarity,
+    }
+}
+
+// The setting of each group at a position in it.
+fn literal_at(d: Device, x: u32) -> Setting
+    ensures { λ r. ⌜ r ≡ inGroup d literals x ⌝ }
+{
+    let at = literal_indices(d, x);
+    let polarity = at.polarity;
+    Setting::Literal {
+        block: at.block,
+        macrocell: at.macrocell,
+        term: at.term,
+        input: at.input,
+        polarity,
+    }
+}
+
+fn wire_and_at(d: Device, x: u32) -> Setting
+    requires { ⌜ known d ≡ true ⌝ }
+    ensures { λ r. ⌜ r ≡ inGroup d wireAnds x ⌝ }
+{
+    let n = part::geometry::blocks_of(d);
+    let per_input = n * MACROCELLS;
+    let per_block = INPUTS * per_input;
+    let in_block = x % per_block;
+    let in_input = in_block % per_input;
+    Setting::WireAnd {
+        block: x / per_block,
+        input: in_block / per_input,
+        source: in_input / MACROCELLS,
+        macrocell: in_input % MACROCELLS,
+    }
+}
+
+fn macrocell_at(d: Device, x: u32) -> Setting
+    ensures { λ r. ⌜ r ≡ inGroup d macrocellSettings x ⌝ }
+{
+    let in_block = x % (MACROCELLS * MACROCELL_FIELDS);
+    let field = macrocell_field_at(in_block % MACROCELL_FIELDS);
+    Setting::Macrocell {
+        block: x / (MACROCELLS * MACROCELL_FIELDS),
+        macrocell: in_block / MACROCELL_FIELDS,
+        field,
+    }
+}
+
+fn block_setting_at(d: Device, x: u32) -> Setting
+    ensures { λ r. ⌜ r ≡ inGroup d blockSettings x ⌝ }
+{
+    let field = block_field_at(x % BLOCK_FIELDS);
+    Setting::Block {
+        block: x / BLOCK_FIELDS,
+        field,
+    }
+}
+
+fn global_at(d: Device, x: u32) -> Setting
+    ensures { λ r. ⌜ r ≡ inGroup d globals x ⌝ }
+{
+    Setting::Global(global_field_at(d, x))
+}
+
+// The setting of a number.
+pub fn setting_of(d: Device, number: SettingNumber) -> Setting
+    requires { ⌜ (known d ≡ true) × (number .0 < countOf d) ⌝ }
+    ensures { λ r. ⌜ r ≡ settingOf d (number .0) ⌝ }
+{
+    let x = number.0;
+    let wire_ands = start_of_wire_ands(d);
+    if x < wire_ands {
+        return literal_at(d, x);
+    }
+    let macrocells = start_of_macrocells(d);
+    if x < macrocells {
+        return wire_and_at(d, x - wire_ands);
+    }
+    let blocks = start_of_blocks(d);
+    if x < blocks {
+        return macrocell_at(d, x - macrocells);
+    }
+    let globals = start_of_globals(d);
+    if x < globals {
+        return block_setting_at(d, x - blocks);
+    }
+    global_at(d, x - globals)
+}
