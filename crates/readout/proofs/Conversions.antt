@@ -6,38 +6,25 @@ use mathlib.Core.List.{List, append-nil}
 use Prim.Native.Nat.{ℕ, _+_, _*_, _/_, _^_, _<_}
 use native.Mathlib.Omega.{arith}
 use native.Mathlib.Nat.{zero-add, le-of-eq}
-use lib.Dec.{ltb}
 use lib.ListN.{length, getD, replicate, length-replicate, drop-of-length-le}
 use lib.Seq.{sets, sets-eq, ext-getD}
-use borrow.Author.Tests.{lt-ltb, ltb-true}
 use Rattle.cells.specs.Cells.{cut, join, number}
 use Rattle.cells.proofs.Laws.{cut-at, cut-length, total-repeat}
 use Rattle.part.specs.Device.{known, fuseCount, imageBytes, readoutBytes}
-use Rattle.part.specs.Place.{hasByte, hasPlace, widthOf, firstFuse, placeOfFuse, indexOfByte, byteOfIndex}
+use Rattle.part.specs.Place.{firstFuse, byteOfIndex}
 use Rattle.part.specs.declared.Device.{Device}
-use Rattle.part.specs.declared.BytePlace.{BytePlace}
-use Rattle.part.proofs.Facts.{and-iff}
 use Rattle.part.proofs.Devices.{image-whole}
-use Rattle.part.proofs.Fuses.{at-fuse, of-place}
-use Rattle.part.proofs.Readouts.{at-index, of-byte}
 use Rattle.image.specs.Bits.{bitOf, bitAt}
 use Rattle.image.specs.Image.{state, imageFrom}
-use Rattle.image.proofs.Numbers.{At, at-replicate, joined-bit, number-bit}
+use Rattle.image.proofs.Numbers.{at-replicate, joined-bit, number-bit}
 use Rattle.image.proofs.Bits.{bit-high, gathered-same, gathered-own, tabulate-length, tabulate-at}
-use Rattle.readout.specs.Readout.{widthAt, fuseAt, readoutFrom, readoutOf, stateIn, imageOf}
-use Rattle.readout.specs.Widths.{blockWidths, widths, wholeBytes, bytesIn}
-use Rattle.readout.proofs.Sizes.{device-size}
+use Rattle.readout.specs.Readout.{widthAt, fuseAt, readoutFrom, readoutOf, indexInReadout, bitInReadout, stateIn, imageOf}
+use Rattle.readout_rows.specs.Widths.{blockWidths, widths, wholeBytes, bytesIn}
+use Rattle.readout_rows.proofs.RowSizes.{device-size}
 use Rattle.readout.proofs.Widths.{widths-at, widths-length}
+use Rattle.readout.proofs.States.{lying, fuse-below}
 
--- A place of the byte at an index, and its fuse.
-pub place-at : (d : Device) (index bit : ℕ) → index < readoutBytes d → bit < widthAt d index
-    → hasPlace d (record { byte = byteOfIndex d index; bit = bit }) ≡ true
-unfolding hasPlace
-place-at d index bit h hb = and-iff _ _ .1 (at-index d index h .0, lt-ltb bit (widthAt d index) hb)
-
-pub fuse-below : (d : Device) (index bit : ℕ) → index < readoutBytes d → bit < widthAt d index → fuseAt d index bit < fuseCount d
-fuse-below d index bit h hb = of-place d (record { byte = byteOfIndex d index; bit = bit }) (place-at d index bit h hb) .0
-
+-- The readout of an image is cut from its number.
 pub readout-cut : (d : Device) (image : List ℕ) → known d ≡ true → length image ≡ imageBytes d
     → cut (widths d) (number image) ≡ readoutOf d image
 unfolding readoutOf readoutFrom
@@ -56,10 +43,7 @@ readout-cut d image k e =
     ∙ number-bit image (first + bit) (omega (arith, fuse-below d index bit below hb, image-whole d k)))
     ∙ sym (tabulate-at (readoutBytes d) _ index below)))
 
-pub readout-length : (d : Device) (image : List ℕ) → length (readoutOf d image) ≡ readoutBytes d
-unfolding readoutOf readoutFrom
-readout-length d image = tabulate-length (readoutBytes d) _
-
+-- Stores that fill a slice.
 pub sets-whole : (out cells : List ℕ) → length out ≡ length cells → sets out 0 cells ≡ cells
 sets-whole out cells e =
     sets-eq cells out 0 (omega arith)
@@ -68,17 +52,14 @@ sets-whole out cells e =
 -- The state of a fuse in a readout is a bit of the number that its bytes join to.
 pub readout-number-bit : (d : Device) (readout : List ℕ) → known d ≡ true → (fuse : ℕ) → fuse < fuseCount d
     → bitOf (join (widths d) readout) fuse ≡ stateIn d readout fuse
-unfolding stateIn bitAt hasPlace
+unfolding stateIn bitAt
 readout-number-bit d readout k fuse h =
-    let p = placeOfFuse d fuse in
-    let lies = at-fuse d fuse h in
-    let facts = and-iff (hasByte d (p .byte)) (ltb (p .bit) (widthOf (p .byte))) .0 (lies .0) in
-    let index = indexOfByte d (p .byte) in
-    let found = of-byte d (p .byte) (facts .0) in
-    let at = subst (λ (b : BytePlace). At (widths d) index (widthOf b) (firstFuse d b)) (found .1) (widths-at d index (found .0)) in
-    subst (λ (f : ℕ). bitOf (join (widths d) readout) f ≡ bitOf (getD readout index 0) (p .bit)) (lies .1)
-    (joined-bit (widths d) readout index (widthOf (p .byte)) (firstFuse d (p .byte)) (p .bit)
-    (rw (widths-length d k) (found .0)) at (ltb-true _ _ (facts .1)))
+    let kept = lying d fuse h in
+    let index = indexInReadout d fuse in
+    let bit = bitInReadout d fuse in
+    subst (λ (f : ℕ). bitOf (join (widths d) readout) f ≡ bitOf (getD readout index 0) bit) (kept .same-fuse)
+    (joined-bit (widths d) readout index (widthAt d index) (firstFuse d (byteOfIndex d index)) bit
+    (rw (widths-length d k) (kept .index-below)) (widths-at d index (kept .index-below)) (kept .bit-below))
 
 pub image-cut : (d : Device) (readout : List ℕ) → known d ≡ true
     → cut (replicate (imageBytes d) 8) (join (widths d) readout) ≡ imageOf d readout

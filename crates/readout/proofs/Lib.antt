@@ -1,10 +1,8 @@
--- The laws of `readout` that belong to no one function.
+-- The laws of `readout` that belong to no one function; Laws has those that other crates and readers cite.
 -- Assumes nothing.
-pub mod Sizes
-pub mod RowsOut
 pub mod Widths
+pub mod States
 pub mod Conversions
-pub mod Fields
-pub mod RowsIn
-pub mod AboveWidth
+pub mod FirstAbove
+pub mod Change
 pub mod Laws

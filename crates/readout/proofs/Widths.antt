@@ -1,7 +1,7 @@
 -- The list of widths is that of the device's bytes: `widths-at` says that the width at an index is the byte's, and that the bits
 -- before it are the fuses before the byte's first.
 use mathlib.Core.Path.{_≡_, refl, sym, _∙_, ap, subst}
-use mathlib.Core.Bool.{true, false}
+use mathlib.Core.Bool.{true}
 use mathlib.Core.List.{List, _++_}
 use Prim.Native.Nat.{ℕ, zero, suc, _+_, _*_, _-_, _/_, _%_, _<_}
 use native.Mathlib.Omega.{arith}
@@ -11,15 +11,18 @@ use lib.ListN.{length, take, replicate, length-replicate, List·getD-append}
 use lib.Seq.{take-append-le, take-append-add, getD-append-add}
 use borrow.Author.Tests.{lt-ltb, le-ltb}
 use Rattle.cells.specs.Cells.{total, repeat}
-use Rattle.cells.proofs.Laws.{total-append, total-repeat, total-replicate, length-repeat}
+use Rattle.cells.proofs.Laws.{total-append, total-replicate, length-repeat}
 use Rattle.part.specs.Device.{known, readoutBytes, blockBytes, blockFuses, columnWidth, columnStart}
+use Rattle.part.specs.Device.{mainRows, mainColumns, mainWidth, mainStart, mainRowFuses, mainFuses, mainBytes}
+use Rattle.part.specs.Device.{wireAndRows, wireAndColumns, wireAndWidth, wireAndStart, wireAndRowFuses, subareaBytes}
 use Rattle.part.specs.Place.{widthOf, firstFuse, byteOfIndex, byteInBlock}
+use Rattle.part.specs.declared.Area.the-variants.{Main, WireAnd}
 use Rattle.part.specs.declared.Device.{Device}
 use Rattle.part.specs.declared.BytePlace.{BytePlace}
 use Rattle.part.proofs.Facts.{compared, by-cases}
 use Rattle.image.proofs.Numbers.{At, at-replicate}
-use Rattle.readout.specs.Widths.{rowWidths, blockWidths, widths}
-use Rattle.readout.proofs.Sizes.{main-size, wire-and-size, block-size, device-size}
+use Rattle.readout_rows.specs.Widths.{rowWidths, blockWidths, widths}
+use Rattle.readout_rows.proofs.RowSizes.{main-size, wire-and-size, main-rows-size, block-size, device-size}
 
 at-left : (ws vs : List ℕ) (i w b : ℕ) → i < length ws → At ws i w b → At (ws ++ vs) i w b
 at-left ws vs i w b h a =
@@ -63,32 +66,35 @@ InBlock d block rest byte = (x : ℕ) × At (blockWidths d) rest (widthOf byte) 
 at-block : (d : Device) (block rest : ℕ) → rest < blockBytes d → InBlock d block rest (byteInBlock block rest)
 unfolding blockWidths rowWidths
 at-block d block rest h =
-    let ms = rowWidths true in
-    let vs = rowWidths false in
-    let m = main-size true refl in
-    let w = wire-and-size false refl in
-    let rows = repeat 72 ms in
-    let rows-length : length rows ≡ 1080 = length-repeat 72 ms ∙ ap (λ (k : ℕ). 72 * k) (m .1) in
-    let rows-total : total rows ≡ 7776 = total-repeat 72 ms ∙ ap (λ (k : ℕ). 72 * k) (m .0) in
-    by-cases (InBlock d block rest) rest 1080
+    let ms = rowWidths Main in
+    let vs = rowWidths WireAnd in
+    let m = main-size Main refl in
+    let w = wire-and-size WireAnd refl in
+    let rows = repeat mainRows ms in
+    by-cases (InBlock d block rest) rest mainBytes
     (λ l.
-    let c = rest % 15 in
-    let here = at-repeat 72 ms (rest / 15) c (columnWidth 9 6 c) (columnStart 9 6 c) (omega arith) (omega (arith, m .1))
+    let c = rest % mainColumns in
+    let here = at-repeat mainRows ms (rest / mainColumns) c (mainWidth c) (mainStart c) (omega arith) (omega (arith, m .1))
     (at-row 9 6 6 c (omega arith)) in
     let there = rw (m .0, m .1) at here in
-    let e : rest / 15 * 15 + c ≡ rest = omega arith in
-    (rest / 15 * 108 + columnStart 9 6 c, at-left rows (repeat (d .blocks * 18) vs) rest _ _ (rw rows-length l) (rw e at there), refl))
+    let e : rest / mainColumns * mainColumns + c ≡ rest = omega arith in (
+      rest / mainColumns * mainRowFuses + mainStart c,
+      at-left rows (repeat (d .blocks * wireAndRows) vs) rest _ _ (rw (main-rows-size .1) l) (rw e at there),
+      refl,
+    ))
     (λ g.
-    let r = rest - 1080 in
-    let c = r % 5 in
-    let here = at-repeat (d .blocks * 18) vs (r / 5) c (columnWidth 1 7 c) (columnStart 1 7 c) (omega arith) (omega (arith, w .1))
-    (at-row 1 7 4 c (omega arith)) in
+    let r = rest - mainBytes in
+    let c = r % wireAndColumns in
+    let here = at-repeat (d .blocks * wireAndRows) vs (r / wireAndColumns) c (wireAndWidth c) (wireAndStart c) (omega arith)
+    (omega (arith, w .1)) (at-row 1 7 4 c (omega arith)) in
     let there = rw (w .0, w .1) at here in
-    let e : r / 5 * 5 + c ≡ r = omega arith in
-    let past : 1080 + r ≡ rest = omega arith in
-    let c' : r % 90 % 5 ≡ c = omega arith in
-    let right = rw (rows-length, rows-total, past) at (at-right rows (repeat (d .blocks * 18) vs) r _ _ (rw e at there)) in
-    (7776 + (r / 5 * 36 + columnStart 1 7 c), rw c' right, rw c' (omega arith)))
+    let e : r / wireAndColumns * wireAndColumns + c ≡ r = omega arith in
+    let past : mainBytes + r ≡ rest = omega arith in
+    let c' : r % subareaBytes % wireAndColumns ≡ c = omega arith in
+    let right =
+    rw (main-rows-size .1, main-rows-size .0, past) at
+    (at-right rows (repeat (d .blocks * wireAndRows) vs) r _ _ (rw e at there)) in
+    (mainFuses + (r / wireAndColumns * wireAndRowFuses + wireAndStart c), rw c' right, rw c' (omega arith)))
 
 -- The width at an index is that of its byte, and the bits before it are the fuses before it.
 pub widths-at : (d : Device) (index : ℕ) → index < readoutBytes d

@@ -1,4 +1,3 @@
--- The definitions that the contracts of `readout` cite: Readout has those to believe, Widths what the proofs work with.
+-- The definitions that the contracts of `readout` cite.
 -- Assumes nothing.
 pub mod Readout
-pub mod Widths

@@ -7,10 +7,6 @@ use part::Device;
 use part::DoneAnswer;
 use part::Refusal;
 
-pub mod above_width;
-pub mod rows_in;
-pub mod rows_out;
-
 // The readout of an image, put into `readout`. Refused: 1, 2.
 pub fn image_to_readout(d: Device, image: &[u8], readout: &mut [u8]) -> DoneAnswer
     ensures { λ r. ⌜ Written (toReadout d (now (image .entry)) (now (readout .entry))) (doneOutcome r)
@@ -25,7 +21,7 @@ pub fn image_to_readout(d: Device, image: &[u8], readout: &mut [u8]) -> DoneAnsw
     if readout.len() != part::geometry::readout_bytes(d) as usize {
         return DoneAnswer::Refused(Refusal::WrongLength);
     }
-    rows_out::blocks_out(d, image, readout);
+    readout_writer::rows_out::blocks_out(d, image, readout);
     DoneAnswer::Done
 }
 
@@ -43,11 +39,11 @@ pub fn readout_to_image(d: Device, readout: &[u8], image: &mut [u8]) -> DoneAnsw
     if image.len() != part::geometry::image_bytes(d) as usize {
         return DoneAnswer::Refused(Refusal::WrongLength);
     }
-    let above = above_width::first_above(d, readout);
+    let above = readout_rows::above_width::first_above(d, readout);
     if above < readout.len() {
         let index = above as u32;
         return DoneAnswer::Refused(Refusal::BitAboveWidth(index));
     }
-    rows_in::blocks_in(d, readout, image);
+    readout_reader::rows_in::blocks_in(d, readout, image);
     DoneAnswer::Done
 }

@@ -43,7 +43,7 @@ inside d Readout f k h = lying d f h .index-below
 pub one-fuse : (d : Device) (layout : Layout) (f g : ℕ) → f < fuseCount d → g < fuseCount d → byteOf d layout f ≡ byteOf d layout g
     → bitIn d layout f ≡ bitIn d layout g → f ≡ g
 one-fuse d Image f g hf hg e b = omega arith
-one-fuse d Readout f g hf hg e b = sym (lying d f hf .its-own) ∙ ap₂ (fuseAt d) e b ∙ lying d g hg .its-own
+one-fuse d Readout f g hf hg e b = sym (lying d f hf .same-fuse) ∙ ap₂ (fuseAt d) e b ∙ lying d g hg .same-fuse
 
 -- A bit of a setting is one of its fuses, and lies below the count.
 listed : (d : Device) (t : Setting) → hasSetting d t ≡ true → (b : ℕ) → b < bitsOf t → lists d t b ≡ true

@@ -14,9 +14,11 @@ use Rattle.part.specs.Outcome.Outcome.{accepted, refused}
 use Rattle.part.specs.Device.{known, imageBytes, readoutBytes}
 use Rattle.part.specs.declared.Device.{Device}
 use Rattle.part.proofs.Devices.{is-known, is-unknown}
+use Rattle.image.specs.Image.{state}
 use Rattle.readout.specs.Readout.{toReadout, readoutOf}
-use Rattle.readout.specs.Widths.{widths}
-use Rattle.readout.proofs.Conversions.{readout-cut, sets-whole, readout-length}
+use Rattle.readout_rows.specs.Widths.{widths}
+use Rattle.readout.proofs.Conversions.{readout-cut, sets-whole}
+use Rattle.readout.proofs.States.{from-length}
 use Rattle.part.proofs.Targets.{unknown, wrong-first, wrong-second, right}
 use borrow.Author.Needs.{needs}
 use Rattle.readout.proofs.image_to_readout.Statement.{statement}
@@ -52,8 +54,10 @@ module _ (d : Device) (image before : List ℕ) where
 
 whole : (d : Device) (image before after : List ℕ) → known d ≡ true → length image ≡ imageBytes d → length before ≡ readoutBytes d
     → after ≡ sets before 0 (cut (widths d) (number image / 2 ^ (0 * 8))) → after ≡ readoutOf d image
+unfolding readoutOf
 whole d image before after k ei er e =
-    e ∙ rw (div-one (number image), readout-cut d image k ei) (sets-whole before (readoutOf d image) (er ∙ sym (readout-length d image)))
+    e ∙ rw (div-one (number image), readout-cut d image k ei)
+    (sets-whole before (readoutOf d image) (er ∙ sym (from-length d (state image))))
 
 all-passed : (d : Device) (image before after : List ℕ) (x y : ℕ) → known d ≡ true → x ≡ imageBytes d → length image ≡ x
     → y ≡ readoutBytes d → length before ≡ y

@@ -16,9 +16,9 @@ use Rattle.part.specs.Device.{known, imageBytes, readoutBytes}
 use Rattle.part.specs.declared.Device.{Device}
 use Rattle.part.proofs.Devices.{is-known, is-unknown}
 use Rattle.readout.specs.Readout.{toImage, imageOf, firstAbove}
-use Rattle.readout.specs.Widths.{widths, bytesIn, fine}
+use Rattle.readout_rows.specs.Widths.{widths, bytesIn, fine}
 use Rattle.readout.proofs.Conversions.{image-bytes-in, image-length, sets-whole}
-use Rattle.readout.proofs.AboveWidth.{first-above}
+use Rattle.readout.proofs.FirstAbove.{first-above}
 use Rattle.part.proofs.Targets.{unknown, wrong-first, wrong-second, right}
 use borrow.Author.Needs.{needs}
 use Rattle.readout.proofs.readout_to_image.Statement.{statement}
