@@ -6,8 +6,8 @@ use native.Mathlib.Omega.{arith}
 use lib.Dec.{ltb}
 use lib.Pow.{pow-lt}
 use borrow.Author.Needs.{needs}
-use Rattle.values.proofs.patterns.fits.Statement.{statement}
-use Rattle.values.proofs.patterns.fits.Tie as tie
+use Rattle.patterns.proofs.of_values.fits.Statement.{statement}
+use Rattle.patterns.proofs.of_values.fits.Tie as tie
 
 counted : (bits pattern : ℕ) → bits ≤ 32 → ltb pattern (1 * 2 ^ bits % 2 ^ 64) ≡ ltb pattern (2 ^ bits)
 counted bits pattern l =

@@ -1,10 +1,10 @@
--- `of_two` meets its contract: its tests are those of the list.
+-- `out_mux` meets its contract: its tests are those of the list.
 -- Assumes nothing.
 use borrow.Author.Needs.{needs}
 use Rattle.values.specs.Values.{named}
 use Rattle.values.proofs.Facts.{equal, unequal}
-use Rattle.values.proofs.lists.of_two.Statement.{statement}
-use Rattle.values.proofs.lists.of_two.Tie as tie
+use Rattle.values.proofs.lists.out_mux.Statement.{statement}
+use Rattle.values.proofs.lists.out_mux.Tie as tie
 
 returns : tie.Need-returns
 unfolding named
@@ -18,5 +18,5 @@ returns-3 : tie.Need-returns-3
 unfolding named
 returns-3 c = search (needs, unequal)
 
-pub of-two-spec : {M : Type 1} → statement M
-of-two-spec = tie.close (tie.spec returns returns-2 returns-3)
+pub out-mux-spec : {M : Type 1} → statement M
+out-mux-spec = tie.close (tie.spec returns returns-2 returns-3)

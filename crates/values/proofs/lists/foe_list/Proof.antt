@@ -1,10 +1,10 @@
--- `of_three` meets its contract: its tests are those of the list.
+-- `foe_list` meets its contract: its tests are those of the list.
 -- Assumes nothing.
 use borrow.Author.Needs.{needs}
 use Rattle.values.specs.Values.{named}
 use Rattle.values.proofs.Facts.{equal, unequal}
-use Rattle.values.proofs.lists.of_three.Statement.{statement}
-use Rattle.values.proofs.lists.of_three.Tie as tie
+use Rattle.values.proofs.lists.foe_list.Statement.{statement}
+use Rattle.values.proofs.lists.foe_list.Tie as tie
 
 returns : tie.Need-returns
 unfolding named
@@ -22,5 +22,5 @@ returns-4 : tie.Need-returns-4
 unfolding named
 returns-4 c = search (needs, unequal)
 
-pub of-three-spec : {M : Type 1} → statement M
-of-three-spec = tie.close (tie.spec returns returns-2 returns-3 returns-4)
+pub foe-list-spec : {M : Type 1} → statement M
+foe-list-spec = tie.close (tie.spec returns returns-2 returns-3 returns-4)

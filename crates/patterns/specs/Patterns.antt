@@ -1,42 +1,42 @@
--- The pattern of each value, found from the value and accepted only if it stands for that value by specs/Values.antt.
+-- The pattern of each value, found from the value and accepted only if it stands for that value (`valueIn`).
 -- What it is does not rest on how it is found: `pattern-iff` in proofs/Laws.antt.
 use Prim.Native.Nat.{ℕ, _-_, _^_}
 use mathlib.Core.Bool.{Bool, true, false, cond, _&&_, _||_}
 use mathlib.Core.Option.{Option}
 use mathlib.Core.Option.Option.{none, some}
 use lib.Dec.{eqb, ltb}
 use Rattle.values.specs.Values.{bitsIn, valueIn}
 use Rattle.values.specs.declared.TermAlloc.{TermAlloc}
 use Rattle.values.specs.declared.TermAlloc.the-variants as termAlloc
 use Rattle.values.specs.declared.ImportAlloc.{ImportAlloc}
 use Rattle.values.specs.declared.ImportAlloc.the-variants as importAlloc
 use Rattle.values.specs.declared.ExportDir.{ExportDir}
 use Rattle.values.specs.declared.ExportDir.the-variants as exportDir
 use Rattle.values.specs.declared.IobOeMux.{IobOeMux}
 use Rattle.values.specs.declared.IobOeMux.the-variants as iobOeMux
 use Rattle.values.specs.declared.OutMux.{OutMux}
 use Rattle.values.specs.declared.OutMux.the-variants as outMux
 use Rattle.values.specs.declared.OeMux.{OeMux}
 use Rattle.values.specs.declared.OeMux.the-variants as oeMux
 use Rattle.values.specs.declared.ClkMux.{ClkMux}
 use Rattle.values.specs.declared.ClkMux.the-variants as clkMux
 use Rattle.values.specs.declared.RegMode.{RegMode}
 use Rattle.values.specs.declared.RegMode.the-variants as regMode
 use Rattle.values.specs.declared.RstSetMux.{RstSetMux}
 use Rattle.values.specs.declared.RstSetMux.the-variants as rstSetMux
 use Rattle.values.specs.declared.UimOeMux.{UimOeMux}
 use Rattle.values.specs.declared.UimOeMux.the-variants as uimOeMux
 use Rattle.values.specs.declared.IobSlew.{IobSlew}
 use Rattle.values.specs.declared.IobSlew.the-variants as iobSlew
 use Rattle.values.specs.declared.FclkMux.{FclkMux}
 use Rattle.values.specs.declared.FclkMux.the-variants as fclkMux
 use Rattle.values.specs.declared.FoeMux.{FoeMux}
 use Rattle.values.specs.declared.FoeMux.the-variants as foeMux
 use Rattle.values.specs.declared.Value.{Value}
 use Rattle.values.specs.declared.Value.the-variants as value
 use Rattle.values.specs.declared.Kind.{Kind}
-use Rattle.values.specs.declared.patterns.Found.{Found}
-use Rattle.values.specs.declared.patterns.Found.the-variants as found
+use Rattle.patterns.specs.declared.Found.{Found}
+use Rattle.patterns.specs.declared.Found.the-variants as found
 
 -- Two values are the same if they are of one case, and the same in it (`same-iff` in proofs/Laws.antt): the case.
 abbrev pub caseOf : Value → ℕ

@@ -1,46 +1,34 @@
-// The pattern that stands for a value in settings of a kind: the only candidate, and whether it stands for it.
-// For the crates above: nothing here is part of the public interface.
+// The case of a value and its number in that case: two values are the same if both agree.
+// For `of_values`: nothing here is part of the public interface.
 ghost use mathlib.Core.Path.{_≡_};
-ghost use Prim.Native.Nat.{_^_, _≤_};
-ghost use lib.Dec.{ltb};
-ghost use Rattle.values.specs.Values.{valueIn};
-ghost use Rattle.values.specs.Patterns.{caseOf, inCase, flagNumber, termAllocNumber, importAllocNumber};
-ghost use Rattle.values.specs.Patterns.{exportDirNumber, iobOeMuxNumber, outMuxNumber, oeMuxNumber, clkMuxNumber};
-ghost use Rattle.values.specs.Patterns.{regModeNumber, rstSetMuxNumber, uimOeMuxNumber, iobSlewNumber};
-ghost use Rattle.values.specs.Patterns.{fclkMuxNumber, foeMuxNumber, same, candidate, patternIn, foundPattern};
-use super::ClkMux;
-use super::ExportDir;
-use super::FclkMux;
-use super::FoeMux;
-use super::ImportAlloc;
-use super::IobOeMux;
-use super::IobSlew;
-use super::Kind;
-use super::OeMux;
-use super::OutMux;
-use super::RegMode;
-use super::RstSetMux;
-use super::TermAlloc;
-use super::UimOeMux;
-use super::Value;
-use super::lists::bits_in;
-use super::lists::value_in;
+ghost use Rattle.patterns.specs.Patterns.{caseOf, inCase, flagNumber, termAllocNumber, importAllocNumber};
+ghost use Rattle.patterns.specs.Patterns.{exportDirNumber, iobOeMuxNumber, outMuxNumber, oeMuxNumber};
+ghost use Rattle.patterns.specs.Patterns.{clkMuxNumber, regModeNumber, rstSetMuxNumber, uimOeMuxNumber};
+ghost use Rattle.patterns.specs.Patterns.{iobSlewNumber, fclkMuxNumber, foeMuxNumber, same};
+use values::ClkMux;
+use values::ExportDir;
+use values::FclkMux;
+use values::FoeMux;
+use values::ImportAlloc;
+use values::IobOeMux;
+use values::IobSlew;
+use values::OeMux;
+use values::OutMux;
+use values::RegMode;
+use values::RstSetMux;
+use values::TermAlloc;
+use values::UimOeMux;
+use values::Value;
 
 // The cases of a value whose patterns are not its numbers in them: see `candidate`.
-const FCLK_MUX: u32 = 12;
+pub const FCLK_MUX: u32 = 12;
 
-const FOE_MUX: u32 = 13;
+pub const FOE_MUX: u32 = 13;
 
-const USERCODE: u32 = 14;
-
-// The pattern that stands for a value, or that none does.
-pub enum Found {
-    Pattern(u32),
-    NoSuchValue,
-}
+pub const USERCODE: u32 = 14;
 
 // The case of a value, and its number in that case.
-fn case_of(v: Value) -> u32
+pub fn case_of(v: Value) -> u32
     ensures { λ r. ⌜ r ≡ caseOf v ⌝ }
 {
     match v {
@@ -200,7 +188,7 @@ fn flag_number(x: bool) -> u32
     if x { 0 } else { 1 }
 }
 
-fn in_case(v: Value) -> u32
+pub fn in_case(v: Value) -> u32
     ensures { λ r. ⌜ r ≡ inCase v ⌝ }
 {
     match v {
@@ -223,50 +211,8 @@ fn in_case(v: Value) -> u32
     }
 }
 
-fn same(v: Value, w: Value) -> bool
+pub fn same(v: Value, w: Value) -> bool
     ensures { λ r. ⌜ r ≡ same v w ⌝ }
 {
     (case_of(v) == case_of(w)) & (in_case(v) == in_case(w))
-}
-
-// The only pattern that can stand for a value.
-fn candidate(kind: Kind, v: Value) -> u32
-    ensures { λ r. ⌜ r ≡ candidate (valueIn kind) v ⌝ }
-{
-    let case = case_of(v);
-    let number = in_case(v);
-    if case == USERCODE {
-        return !number;
-    }
-    if (case == FCLK_MUX) | (case == FOE_MUX) {
-        if same(value_in(kind, 1), v) {
-            return 1;
-        }
-        if same(value_in(kind, 2), v) {
-            return 2;
-        }
-        return 3;
-    }
-    number
-}
-
-// Whether a pattern has no bit at or over a width.
-pub fn fits(bits: u32, pattern: u32) -> bool
-    requires { ⌜ bits ≤ 32 ⌝ }
-    ensures { λ r. ⌜ r ≡ ltb pattern (2 ^ bits) ⌝ }
-{
-    (pattern as u64) < 1u64 << bits
-}
-
-// The pattern that stands for a value.
-pub fn pattern_in(kind: Kind, v: Value) -> Found
-    ensures { λ r. ⌜ foundPattern r ≡ patternIn kind v ⌝ }
-{
-    let pattern = candidate(kind, v);
-    let stands = value_in(kind, pattern);
-    let bits = bits_in(kind);
-    if fits(bits, pattern) & same(stands, v) {
-        return Found::Pattern(pattern);
-    }
-    Found::NoSuchValue
 }

@@ -5,10 +5,10 @@ use mathlib.Core.Bool.{_&&_}
 use Prim.Native.Nat.{ℕ}
 use lib.Dec.{eqb}
 use borrow.Author.Needs.{needs}
-use Rattle.values.specs.Patterns.{caseOf, inCase, same}
+use Rattle.patterns.specs.Patterns.{caseOf, inCase, same}
 use Rattle.values.specs.declared.Value.{Value}
-use Rattle.values.proofs.patterns.same.Statement.{statement}
-use Rattle.values.proofs.patterns.same.Tie as tie
+use Rattle.patterns.proofs.cases.same.Statement.{statement}
+use Rattle.patterns.proofs.cases.same.Tie as tie
 
 compared : (v w : Value) (a b x y : ℕ) → a ≡ caseOf v → b ≡ caseOf w → x ≡ inCase v → y ≡ inCase w → (eqb a b && eqb x y) ≡ same v w
 unfolding same

@@ -6,12 +6,12 @@ use Prim.Native.Nat.{ℕ, _-_, _^_}
 use lib.Dec.{eqb}
 use borrow.Author.Tests.{eq-eqb, ne-eqb}
 use borrow.Author.Needs.{needs}
 use Rattle.values.specs.Values.{valueIn}
-use Rattle.values.specs.Patterns.{caseOf, inCase, same, candidate}
+use Rattle.patterns.specs.Patterns.{caseOf, inCase, same, candidate}
 use Rattle.values.specs.declared.Value.{Value}
 use Rattle.values.specs.declared.Kind.{Kind}
-use Rattle.values.proofs.patterns.candidate.Statement.{statement}
-use Rattle.values.proofs.patterns.candidate.Tie as tie
+use Rattle.patterns.proofs.of_values.candidate.Statement.{statement}
+use Rattle.patterns.proofs.of_values.candidate.Tie as tie
 
 module _ (k : Kind) (v : Value) (case number : ℕ) (e : case ≡ caseOf v) (n : number ≡ inCase v) where
   inverted : case ≡ 14 → 2 ^ 32 - 1 - number ≡ candidate (valueIn k) v

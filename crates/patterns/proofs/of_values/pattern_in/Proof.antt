@@ -6,13 +6,13 @@ use mathlib.Core.Option.Option.{none, some}
 use Prim.Native.Nat.{ℕ, _^_}
 use lib.Dec.{ltb}
 use borrow.Author.Needs.{needs}
 use Rattle.values.specs.Values.{bitsIn, valueIn}
-use Rattle.values.specs.Patterns.{same, candidate, patternIn}
+use Rattle.patterns.specs.Patterns.{same, candidate, patternIn}
 use Rattle.values.specs.declared.Value.{Value}
 use Rattle.values.specs.declared.Kind.{Kind}
 use Rattle.values.proofs.Laws.{few-bits}
-use Rattle.values.proofs.patterns.pattern_in.Statement.{statement}
-use Rattle.values.proofs.patterns.pattern_in.Tie as tie
+use Rattle.patterns.proofs.of_values.pattern_in.Statement.{statement}
+use Rattle.patterns.proofs.of_values.pattern_in.Tie as tie
 
 module _ (k : Kind) (v : Value) (p : ℕ) (w : Value) (bits : ℕ) (fits matches : Bool) (e : p ≡ candidate (valueIn k) v) (f : w ≡ valueIn k p)
     (b : bits ≡ bitsIn k) (g : fits ≡ ltb p (2 ^ bits)) (s : matches ≡ same w v) where
