@@ -48,16 +48,13 @@ rows-few i h = le (below-all (λ i. ltb (rows (macrocellFieldAt i)) 4) macrocell
     le : ltb (rows (macrocellFieldAt i)) 4 ≡ true → rows (macrocellFieldAt i) ≤ 3
     le e = let l : rows (macrocellFieldAt i) < 4 = ltb-true _ 4 e in omega arith
 
-pub rows-some : (i : ℕ) → i < macrocellFields → 0 < rows (macrocellFieldAt i)
-rows-some i h = ltb-true _ _ (below-all (λ i. ltb 0 (rows (macrocellFieldAt i))) macrocellFields refl i h)
-
 -- What holds of a row of a field.
 pub record OnRow (f : MacrocellField) (bit : ℕ) : Type 0 where
   pub from : 12 ≤ firstRow f
   pub upTo : firstRow f + bit < 55
   pub again : fieldIndexAtRow (firstRow f + bit) ≡ macrocellIndex f
 
-on-row-at : (i bit : ℕ) → i < macrocellFields → bit < rows (macrocellFieldAt i) → OnRow (macrocellFieldAt i) bit
+pub on-row-at : (i bit : ℕ) → i < macrocellFields → bit < rows (macrocellFieldAt i) → OnRow (macrocellFieldAt i) bit
 on-row-at i bit h hb =
     let few = rows-few i h in
     let test = below-all (rowsRight i) 3 (below-all (λ i. allBelow (rowsRight i) 3) macrocellFields rows-all i h) bit (omega arith) in

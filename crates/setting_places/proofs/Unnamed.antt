@@ -1,207 +1,64 @@
--- The number of the unnamed fuses: whether a fuse of a main area is unnamed is told by its row, column and bit, by the class, and by
--- whether the block is the first, so each block's number is computed; no wire-AND fuse is unnamed. Law `unnamed-count`.
-use mathlib.Core.Path.{_≡_, refl, sym, _∙_, ap, ap₂, subst}
-use mathlib.Core.Bool.{Bool, true, false, cond, _&&_, true≢false}
-use mathlib.Core.Option.Option.{none, some}
+-- The number of the unnamed fuses: of the main area of a block it is computed, over the bits that no literal has; no wire-AND fuse is
+-- unnamed. Law `unnamed-count`.
+use mathlib.Core.Path.{_≡_, refl, sym, _∙_, ap, ap₂}
+use mathlib.Core.Bool.{Bool, true, false, cond}
 use Prim.Native.Nat.{ℕ, zero, suc, _+_, _*_, _-_, _/_, _%_, _<_}
 use native.Mathlib.Omega.{arith}
-use native.Mathlib.Nat.{add-zero, mul-zero}
+use native.Mathlib.Nat.{add-zero, zero-add, mul-zero}
 use lib.Arith.{digits-div, digits-mod, digits-lt}
-use lib.Dec.{ltb, eqb}
-use borrow.Author.Tests.{lt-ltb, eqb-true, eq-eqb, ne-eqb}
-use Rattle.part.specs.Device.{known, blocksOf, isLarge, fuseCount, blockFuses, wireAndWidth}
-use Rattle.part.specs.Place.{hasPlace, columnInRow, bitInRow, fuseOfPlace, placeOfFuse}
+use lib.Dec.{eqb}
+use borrow.Author.Tests.{lt-ltb, le-ltb, ne-eqb}
+use Rattle.part.specs.Device.{known, blocksOf, isLarge, mainRows, mainColumns, mainRowFuses, mainFuses, subareaFuses, blockFuses, fuseCount}
+use Rattle.part.specs.Place.{columnInRow, bitInRow}
 use Rattle.part.specs.declared.Device.{Device}
-use Rattle.part.specs.declared.Place.{Place}
-use Rattle.part.specs.declared.BytePlace.{BytePlace}
-use Rattle.part.specs.declared.BytePlace.the-variants as byte
-use Rattle.part.proofs.Facts.{and-iff, by-cases, tests}
-use Rattle.part.proofs.Fuses.{at-fuse, of-place, place-in-main, place-in-wire-and}
-use Rattle.settings.specs.Fields.{macrocells, terms, inputs, foes, macrocellFields, macrocellIndex, globalFields, globalIndex}
-use Rattle.settings.specs.Settings.{hasSetting}
-use Rattle.settings.specs.declared.Polarity.{Polarity}
-use Rattle.settings.specs.declared.MacrocellField.{MacrocellField}
-use Rattle.settings.specs.declared.BlockField.{BlockField}
-use Rattle.settings.specs.declared.BlockField.the-variants.{Enable, ExportEnable, PullupDisable, ReadProtA, ReadProtB, WriteProt}
-use Rattle.settings.specs.declared.GlobalField.{GlobalField}
-use Rattle.settings.specs.declared.GlobalField.the-variants.{FsrInv, FclkInv, FoeInv, FclkMux, FoeMux, Usercode}
-use Rattle.settings.specs.declared.Setting.{Setting}
-use Rattle.settings.specs.declared.Setting.the-variants.{Literal, WireAnd, Macrocell, Block, Global}
-use Rattle.settings.proofs.Numbering.{block-0}
-use Rattle.setting_places.specs.Places.{main, wireAnd, bitsOf, blockPlace, globalPlace, placeOf, fuseOf, lists}
-use Rattle.setting_places.specs.Back.{candidateInMain, candidateAt, fieldIndexAtRow, lastUpTo, ifListed, settingAt}
-use Rattle.setting_places.specs.Unnamed.{oneIfNone, unnamedBelow, UnnamedCount}
-use Rattle.setting_places.specs.declared.candidates.Candidate.{Candidate}
-use Rattle.setting_places.proofs.OnePlaceEach.{has-place}
-use Rattle.setting_places.proofs.Laws.{listed, left-inverse}
+use Rattle.part.proofs.Fuses.{place-in-main, place-in-wire-and}
 use Rattle.part.proofs.Sums.{sum, sum-same, sum-all, sum-add, sum-first, sum-times}
+use Rattle.settings.specs.Fields.{foes}
+use Rattle.settings.proofs.Numbering.{block-0}
+use Rattle.setting_places.specs.Places.{bitsOf, placeOf}
+use Rattle.setting_places.specs.Back.{candidateInMain, fieldIndexAtRow, lastUpTo, settingAt}
+use Rattle.setting_places.specs.Unnamed.{oneIfNone, unnamedBelow, UnnamedCount}
+use Rattle.setting_places.proofs.NamedFuses.{named, literal-named, main-unnamed, wire-and-named}
 
--- Whether a place of a main area is this one: its block, and the rest of it.
-abbrev ofBlock : ℕ → BytePlace → Bool
-ofBlock block (byte.Main b r c) = eqb b block
-ofBlock block (byte.WireAnd b s r c) = false
+-- The sum over a row of a main area, if what stands below bit 6 counts 0: columns 9 to 14 have no other bits, columns 0 to 8 have two.
+module _ (fuse : ℕ → ℕ) (at : (column bit : ℕ) → ℕ)
+    (same : (x : ℕ) → x < mainRowFuses → fuse x ≡ at (columnInRow 9 6 x) (bitInRow 9 6 x))
+    (low : (column bit : ℕ) → column < mainColumns → bit < 6 → at column bit ≡ 0) where
+  in-wide : (column bit : ℕ) → column < 9 → bit < 8 → fuse (column * 8 + bit) ≡ at column bit
+  in-wide column bit hc hb =
+      let x = column * 8 + bit in
+      let there : x < 72 = omega arith in
+      let left : x / 8 ≡ column = omega arith in
+      let up : x % 8 ≡ bit = omega arith in
+      same x (omega arith) ∙ rw (lt-ltb x 72 there, left, up)
 
-abbrev inColumn : (row column : ℕ) → BytePlace → Bool
-inColumn row column (byte.Main b r c) = eqb r row && eqb c column
-inColumn row column (byte.WireAnd b s r c) = false
+  in-narrow : (x : ℕ) → x < 36 → fuse (72 + x) ≡ 0
+  in-narrow x h =
+      same (72 + x) (omega arith) ∙ rw (le-ltb (72 + x) 72 (omega arith)) (low (9 + (72 + x - 72) / 6) ((72 + x - 72) % 6) (omega arith) (omega arith))
 
-abbrev atBit : (row column bit : ℕ) → Place → Bool
-atBit row column bit p = inColumn row column (p .byte) && eqb (p .bit) bit
+  wide-column : (column : ℕ) → column < 9 → sum (λ bit. fuse (column * 8 + bit)) 8 ≡ sum (λ i. at column (6 + i)) 2
+  wide-column column h =
+      sum-add (λ bit. fuse (column * 8 + bit)) 6 2
+      ∙ ap₂ _+_
+      (sum-all (λ bit. fuse (column * 8 + bit)) 0 6 (λ bit l. in-wide column bit h (omega arith) ∙ low column bit (omega arith) l))
+      (sum-same _ (λ i. at column (6 + i)) 2 (λ i l. in-wide column (6 + i) h (omega arith)))
+      ∙ zero-add _
 
-abbrev isMain : (block row column bit : ℕ) → Place → Bool
-isMain block row column bit p = ofBlock block (p .byte) && atBit row column bit p
+  row-sum : sum fuse mainRowFuses ≡ sum (λ column. sum (λ i. at column (6 + i)) 2) 9
+  row-sum =
+      sum-add fuse 72 36
+      ∙ ap₂ _+_
+      (sum-times fuse 9 8 ∙ sum-same _ _ 9 wide-column)
+      (sum-all (λ x. fuse (72 + x)) 0 36 in-narrow)
+      ∙ add-zero _
 
-module _ (block row column bit : ℕ) where
-  is-itself : isMain block row column bit (main block row column bit) ≡ true
-  is-itself = simp tests (refl, ((refl, refl), refl))
-
-  is-main : (b : BytePlace) (k : ℕ) → isMain block row column bit (record { byte = b; bit = k }) ≡ true
-      → record { byte = b; bit = k } ≡ main block row column bit
-  is-main (byte.Main b r c) k h =
-      let facts = simp tests at h in rw (facts .0, facts .1 .0 .0, facts .1 .0 .1, facts .1 .1)
-  is-main (byte.WireAnd b s r c) k h = absurd (true≢false (sym h))
-
--- The settings of a main area, whatever its block: whether there is such a one, with so many FOE.
-abbrev hasWith : (foeCount : ℕ) → Setting → Bool
-hasWith e (Literal block j k l polarity) = ltb j macrocells && ltb k terms && ltb l inputs
-hasWith e (WireAnd i j k l) = false
-hasWith e (Macrocell block m field) = ltb m macrocells && ltb (macrocellIndex field) macrocellFields
-hasWith e (Block block field) = true
-hasWith e (Global field) = ltb (globalIndex e field) (globalFields e)
-
--- Whether it stands in this block: a global one stands in the first only.
-abbrev stands : (first : Bool) → Setting → Bool
-stands first (Literal block j k l polarity) = true
-stands first (WireAnd i j k l) = false
-stands first (Macrocell block m field) = true
-stands first (Block block field) = true
-stands first (Global field) = first
-
--- Whether the candidate at a row, column and bit is one that lies there.
-abbrev named : (foeCount : ℕ) (first : Bool) (row column bit : ℕ) → Candidate → Bool
-named e first row column bit c =
-    (stands first (c .setting) && atBit row column bit (placeOf (c .setting) (c .bit)))
-    && (hasWith e (c .setting) && ltb (c .bit) (bitsOf (c .setting)))
-
--- What may be a candidate in the main area of a block.
-data InMain (block : ℕ) : Setting → Type 0 where
-  literal : (j k l : ℕ) (polarity : Polarity) → InMain block (Literal block j k l polarity)
-  macrocell : (m : ℕ) (field : MacrocellField) → InMain block (Macrocell block m field)
-  blocks : (field : BlockField) → InMain block (Block block field)
-  global : (field : GlobalField) → InMain block (Global field)
-
-abbrev CandidateInMain : ℕ → Candidate → Type 0
-CandidateInMain block c = InMain block (c .setting)
-
-candidate-in-main : (block row column bit : ℕ) → CandidateInMain block (candidateInMain block row column bit)
-candidate-in-main block row column bit =
-    by-cases (CandidateInMain block) bit 6 (λ l. literal _ _ _ _)
-    (λ g. by-cases (CandidateInMain block) row 11 (λ l. global _)
-    (λ g. by-cases (CandidateInMain block) row 12 (λ l. blocks _)
-    (λ g. by-cases (CandidateInMain block) row 55 (λ l. macrocell _ _) (λ g. blocks _))))
-
-block-and-rest : (block : ℕ) (f : BlockField) → ofBlock block (blockPlace block f .byte) ≡ true
-block-and-rest block Enable = eq-eqb block block refl
-block-and-rest block ExportEnable = eq-eqb block block refl
-block-and-rest block PullupDisable = eq-eqb block block refl
-block-and-rest block ReadProtA = eq-eqb block block refl
-block-and-rest block ReadProtB = eq-eqb block block refl
-block-and-rest block WriteProt = eq-eqb block block refl
-
-in-first : (block : ℕ) (f : GlobalField) (bit : ℕ) → ofBlock block (globalPlace f bit .byte) ≡ eqb 0 block
-in-first block FsrInv bit = refl
-in-first block (FclkInv c) bit = refl
-in-first block (FoeInv e) bit = refl
-in-first block (FclkMux c) bit = refl
-in-first block (FoeMux e) bit = refl
-in-first block Usercode bit = refl
-
-module _ (block : ℕ) where
-  stands-here : {s : Setting} (bit : ℕ) → InMain block s → ofBlock block (placeOf s bit .byte) ≡ stands (eqb 0 block) s
-  unfolding placeOf
-  stands-here bit (literal j k l polarity) = eq-eqb block block refl
-  stands-here bit (macrocell m field) = eq-eqb block block refl
-  stands-here bit (blocks field) = block-and-rest block field
-  stands-here bit (global field) = in-first block field bit
-
-  has-with : (d : Device) → block < blocksOf d → {s : Setting} → InMain block s → hasSetting d s ≡ hasWith (foes d) s
-  unfolding hasSetting
-  has-with d h (literal j k l polarity) = rw (lt-ltb block (blocksOf d) h)
-  has-with d h (macrocell m field) = rw (lt-ltb block (blocksOf d) h)
-  has-with d h (blocks field) = lt-ltb block (blocksOf d) h
-  has-with d h (global field) = refl
-
--- Two tests that pass together.
-same-test : (a b : Bool) → (a ≡ true → b ≡ true) → (b ≡ true → a ≡ true) → a ≡ b
-same-test true b to from = sym (to refl)
-same-test false true to from = from refl
-same-test false false to from = refl
-
-one-unless : (t : Bool) (x : Setting × ℕ) → oneIfNone (cond t (some x) none) ≡ cond t 0 1
-one-unless true x = refl
-one-unless false x = refl
-
--- The bits of a wire-AND row are its inputs.
-input-of : (column bit : ℕ) → column < 5 → bit < wireAndWidth column → column + 5 * bit < 36
-input-of column bit h =
-    by-cases (λ w. bit < w → column + 5 * bit < 36) column 1 (λ l b. omega arith) (λ g b. omega arith)
-
-module _ (d : Device) (k : known d ≡ true) (f : ℕ) (below : f < fuseCount d) where
-  -- A setting lists a fuse of a main area exactly if the place of its bit is the fuse's.
-  lists-at : (block row column bit : ℕ) → main block row column bit ≡ placeOfFuse d f → (s : Setting) (b : ℕ)
-      → (lists d s b && eqb (fuseOf d s b) f) ≡ (isMain block row column bit (placeOf s b) && lists d s b)
-  unfolding fuseOf
-  lists-at block row column bit e s b =
-      let p = placeOf s b in
-      let is = isMain block row column bit in
-      let on = and-iff (lists d s b) (eqb (fuseOf d s b) f) in
-      let at = and-iff (is p) (lists d s b) in
-      same-test _ _
-      (λ h.
-      let l = listed d k s b (on .0 h .0) in
-      let place = of-place d p (has-place d s b k (l .0) (l .1)) .1 in
-      let same : main block row column bit ≡ p = e ∙ sym (ap (placeOfFuse d) (eqb-true _ f (on .0 h .1))) ∙ place in
-      at .1 (subst (λ q. is q ≡ true) same (is-itself block row column bit), on .0 h .0))
-      (λ h.
-      let same : p ≡ main block row column bit = is-main block row column bit (p .byte) (p .bit) (at .0 h .0) in
-      on .1 (at .0 h .1, eq-eqb _ f (ap (fuseOfPlace d) (same ∙ e) ∙ at-fuse d f below .1)))
-
-  -- A fuse of a main area is unnamed where the candidate does not lie there.
-  main-unnamed : (block row column bit : ℕ) → block < blocksOf d → main block row column bit ≡ placeOfFuse d f
-      → oneIfNone (settingAt d f) ≡ cond (named (foes d) (eqb 0 block) row column bit (candidateInMain block row column bit)) 0 1
-  unfolding settingAt candidateAt
-  main-unnamed block row column bit h e =
-      rw (← e) (its (candidateInMain block row column bit) (candidate-in-main block row column bit))
-    where
-      its : (c : Candidate) → CandidateInMain block c
-          → oneIfNone (ifListed d f c) ≡ cond (named (foes d) (eqb 0 block) row column bit c) 0 1
-      its c i =
-          rw (lists-at block row column bit e (c .setting) (c .bit), stands-here block (c .bit) i, has-with block d h i)
-          (one-unless (named (foes d) (eqb 0 block) row column bit c) (c .setting, c .bit))
-
-  -- Every fuse of a wire-AND area is named.
-  wire-and-named : (block subarea row column bit : ℕ) → wireAnd block subarea row column bit ≡ placeOfFuse d f
-      → oneIfNone (settingAt d f) ≡ 0
-  unfolding hasPlace hasSetting bitsOf placeOf fuseOf
-  wire-and-named block subarea row column bit e =
-      let lies = at-fuse d f below in
-      let facts = simp tests at (subst (λ p. hasPlace d p ≡ true) (sym e) (lies .0)) in
-      let s = WireAnd block (column + 5 * bit) subarea row in
-      let input : column + 5 * bit < 36 = input-of column bit (facts .0 .1) (facts .1) in
-      let has : hasSetting d s ≡ true = simp tests (((facts .0 .0 .0 .0, input), facts .0 .0 .0 .1), facts .0 .0 .1) in
-      let left : (column + 5 * bit) % 5 ≡ column = omega arith in
-      let up : (column + 5 * bit) / 5 ≡ bit = omega arith in
-      let on : fuseOf d s 0 ≡ f = rw (left, up) (ap (fuseOfPlace d) e ∙ lies .1) in
-      ap oneIfNone (ap (settingAt d) (sym on) ∙ left-inverse d k .again s 0 (and-iff (hasSetting d s) true .1 (has, refl)))
+-- 1 for a fuse of a main area that is unnamed.
+abbrev unnamedCell : (foeCount : ℕ) (first : Bool) (block row column bit : ℕ) → ℕ
+unnamedCell e first block row column bit = cond (named e first row column bit (candidateInMain block row column bit)) 0 1
 
 -- How many are unnamed in a main area, computed row by row.
-abbrev unnamedInRow : (foeCount : ℕ) (first : Bool) (block row rest : ℕ) → ℕ
-unnamedInRow e first block row rest =
-    cond (named e first row (columnInRow 9 6 rest) (bitInRow 9 6 rest)
-    (candidateInMain block row (columnInRow 9 6 rest) (bitInRow 9 6 rest))) 0 1
-
 abbrev unnamedInMain : (foeCount : ℕ) (first : Bool) (block : ℕ) → ℕ
-unnamedInMain e first block = sum (λ row. sum (unnamedInRow e first block row) 108) 72
+unnamedInMain e first block = sum (λ row. sum (λ column. sum (λ i. unnamedCell e first block row column (6 + i)) 2) 9) mainRows
 
 in-first-block : (large : Bool) → unnamedInMain (cond large 4 2) true 0 ≡ cond large 570 576
 unfolding sum bitsOf placeOf fieldIndexAtRow lastUpTo
@@ -227,20 +84,26 @@ module _ (d : Device) (k : known d ≡ true) (block : ℕ) (h : block < blocksOf
   unfolding fuseCount
   in-device rest l = digits-lt {q = block} {m = blocksOf d} {r = rest} {c = blockFuses d} h l
 
-  main-part : sum (λ rest. unnamedAt d (fuse rest)) 7776 ≡ unnamedInBlock d block
-  main-part =
-      sum-times (λ rest. unnamedAt d (fuse rest)) 72 108
-      ∙ sum-same _ _ 72 (λ row hr. sum-same _ _ 108 (λ x hx.
-      let rest = row * 108 + x in
+  row-part : (row : ℕ) → row < mainRows
+      → sum (λ x. unnamedAt d (fuse (row * mainRowFuses + x))) mainRowFuses
+      ≡ sum (λ column. sum (λ i. unnamedCell (foes d) (eqb 0 block) block row column (6 + i)) 2) 9
+  row-part row hr =
+      row-sum _ (unnamedCell (foes d) (eqb 0 block) block row)
+      (λ x hx.
+      let rest = row * mainRowFuses + x in
       let l : rest < blockFuses d = omega arith in
       main-unnamed d k (fuse rest) (in-device rest l) block row (columnInRow 9 6 x) (bitInRow 9 6 x) h
       (place-in-main d (fuse rest) block rest (sym (digits-div block l)) (sym (digits-mod block l)) _
-      (rw (digits-div row hx, digits-mod row hx)) (omega arith))))
+      (rw (digits-div row hx, digits-mod row hx)) (omega arith)))
+      (λ column bit hc hb. rw (literal-named (foes d) (eqb 0 block) block row column bit hr hc hb))
 
-  wire-and-part : sum (λ i. unnamedAt d (fuse (7776 + i))) (blocksOf d * 648) ≡ 0
+  main-part : sum (λ rest. unnamedAt d (fuse rest)) mainFuses ≡ unnamedInBlock d block
+  main-part = sum-times (λ rest. unnamedAt d (fuse rest)) mainRows mainRowFuses ∙ sum-same _ _ mainRows row-part
+
+  wire-and-part : sum (λ i. unnamedAt d (fuse (mainFuses + i))) (blocksOf d * subareaFuses) ≡ 0
   wire-and-part =
       sum-all _ 0 _ (λ i hi.
-      let rest = 7776 + i in
+      let rest = mainFuses + i in
       let l : rest < blockFuses d = omega arith in
       wire-and-named d k (fuse rest) (in-device rest l) _ _ _ _ _
       (place-in-wire-and d (fuse rest) block rest (sym (digits-div block l)) (sym (digits-mod block l)) _ refl (omega arith)))
@@ -248,7 +111,7 @@ module _ (d : Device) (k : known d ≡ true) (block : ℕ) (h : block < blocksOf
 
   in-block : sum (λ rest. unnamedAt d (fuse rest)) (blockFuses d) ≡ unnamedInBlock d block
   in-block =
-      sum-add (λ rest. unnamedAt d (fuse rest)) 7776 (blocksOf d * 648) ∙ rw (main-part, wire-and-part) (add-zero _)
+      sum-add (λ rest. unnamedAt d (fuse rest)) mainFuses (blocksOf d * subareaFuses) ∙ rw (main-part, wire-and-part) (add-zero _)
 
 below-sum : (d : Device) (n : ℕ) → unnamedBelow d n ≡ sum (unnamedAt d) n
 unfolding unnamedBelow sum

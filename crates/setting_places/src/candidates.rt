@@ -7,7 +7,7 @@ ghost use Rattle.part.specs.Place.{hasPlace};
 ghost use Rattle.settings.specs.declared.Setting.the-variants.{Literal};
 ghost use Rattle.setting_places.specs.Back.{polarityOfRow, fieldIndexAtRow, blockFieldNear, globalFieldNear};
 ghost use Rattle.setting_places.specs.Back.{globalBitNear, candidateInMain, candidateAt};
-use super::places::row_of;
+use super::places::first_row;
 use part::BytePlace;
 use part::Device;
 use part::Place;
@@ -180,7 +180,7 @@ fn candidate_in_main(block: u32, row: u32, column: u32, bit: u32) -> Candidate
     if row < 55 {
         let index = field_index_at_row(row);
         let field = settings::fields::macrocell_field_at(index);
-        let first = row_of(index, 0);
+        let first = first_row(index);
         return Candidate {
             setting: Setting::Macrocell {
                 block,

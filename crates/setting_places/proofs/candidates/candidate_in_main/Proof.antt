@@ -4,22 +4,23 @@ use mathlib.Core.Path.{_≡_, ap}
 use Prim.Native.Nat.{ℕ, _+_, _<_, _≤_}
 use native.Mathlib.Omega.{arith}
 use borrow.Author.Tests.{lt-ltb, le-ltb}
+use Rattle.settings.specs.Fields.{macrocellFields}
 use Rattle.settings.specs.Order.{macrocellFieldAt}
-use Rattle.setting_places.specs.Places.{firstRow, rows}
+use Rattle.setting_places.specs.Places.{firstRow}
 use Rattle.setting_places.specs.Back.{fieldIndexAtRow, fieldAtRow}
-use Rattle.setting_places.proofs.OnePlaceEach.{at-row, rows-some}
+use Rattle.setting_places.proofs.OnePlaceEach.{at-row}
 use borrow.Author.Needs.{needs}
 use Rattle.setting_places.proofs.candidates.candidate_in_main.Statement.{statement}
 use Rattle.setting_places.proofs.candidates.candidate_in_main.Tie as tie
 
 module _ (row i : ℕ) (e : i ≡ fieldIndexAtRow row) where
-  starts : 12 ≤ row → row < 55 → (i < 27) × (0 < rows (macrocellFieldAt i))
-  starts low high = let there = at-row row low high in (omega arith, rows-some i (omega arith))
+  starts : 12 ≤ row → row < 55 → i < macrocellFields
+  starts low high = omega (arith, at-row row low high)
 
-  first : (r : ℕ) → r ≡ firstRow (macrocellFieldAt i) + 0 → r ≡ firstRow (fieldAtRow row)
+  first : (r : ℕ) → r ≡ firstRow (macrocellFieldAt i) → r ≡ firstRow (fieldAtRow row)
   first r g = let same = ap firstRow (ap macrocellFieldAt e) in omega arith
 
-  not-before : (r : ℕ) → r ≡ firstRow (macrocellFieldAt i) + 0 → 12 ≤ row → row < 55 → r ≤ row
+  not-before : (r : ℕ) → r ≡ firstRow (macrocellFieldAt i) → 12 ≤ row → row < 55 → r ≤ row
   not-before r g low high = omega (arith, first r g, at-row row low high)
 
 polarity-of-row-requires : tie.Need-polarity-of-row-requires
@@ -61,8 +62,8 @@ macrocell-field-at-requires c κs = omega (
   at-row (c .before .before .before .before .before .args .row) (c .before .before .if3 .left) (c .before .if4 .taken),
 )
 
-row-of-requires : tie.Need-row-of-requires
-row-of-requires c κs =
+first-row-requires : tie.Need-first-row-requires
+first-row-requires c κs =
     starts (c .before .before .before .before .before .before .args .row) _ (c .before .field-index-at-row .ensures)
     (c .before .before .before .if3 .left) (c .before .before .if4 .taken)
 
@@ -75,7 +76,7 @@ add-t24 c = search needs
 sub-t26 : tie.Need-sub-t26
 sub-t26 c =
     not-before (c .before .before .before .before .before .before .before .args .row) _ (c .before .before .field-index-at-row .ensures) _
-    (c .row-of .ensures) (c .before .before .before .before .if3 .left) (c .before .before .before .if4 .taken)
+    (c .first-row .ensures) (c .before .before .before .before .if3 .left) (c .before .before .before .if4 .taken)
 
 returns-4 : tie.Need-returns-4
 returns-4 c = rw (
@@ -84,7 +85,7 @@ returns-4 c = rw (
   le-ltb _ _ (c .before .before .before .before .if3 .left),
   lt-ltb _ _ (c .before .before .before .if4 .taken),
   first (c .before .before .before .before .before .before .before .args .row) _
-      (c .before .before .field-index-at-row .ensures) _ (c .row-of .ensures),
+      (c .before .before .field-index-at-row .ensures) _ (c .first-row .ensures),
   c .before .macrocell-field-at .ensures,
   c .before .before .field-index-at-row .ensures,
 )
@@ -115,7 +116,7 @@ candidate-in-main-spec =
     returns-3
     field-index-at-row-requires
     macrocell-field-at-requires
-    row-of-requires
+    first-row-requires
     mul-t23
     add-t24
     sub-t26
