@@ -1,8 +1,8 @@
 -- `global_field_near` meets its contract: each branch rewrites with the tests that led there.
 -- Assumes nothing.
 use borrow.Author.Tests.{eq-eqb, le-ltb, lt-ltb, ne-eqb}
-use Rattle.setting_places.proofs.candidates.global_field_near.Statement.{statement}
-use Rattle.setting_places.proofs.candidates.global_field_near.Tie as tie
+use Rattle.fuse_settings.proofs.candidates.global_field_near.Statement.{statement}
+use Rattle.fuse_settings.proofs.candidates.global_field_near.Tie as tie
 
 returns : tie.Need-returns
 returns c = rw (lt-ltb _ _ (c .if1 .taken))

@@ -12,10 +12,10 @@ use Rattle.part.specs.declared.Place.{Place}
 use Rattle.part.specs.declared.BytePlace.the-variants.{Main, WireAnd}
 use Rattle.part.proofs.Facts.{and-iff, tests}
 use Rattle.part.proofs.Laws.{width-small}
-use Rattle.setting_places.specs.Back.{candidateAt}
+use Rattle.fuse_settings.specs.Back.{candidateAt}
 use borrow.Author.Needs.{needs}
-use Rattle.setting_places.proofs.candidates.candidate_at.Statement.{statement}
-use Rattle.setting_places.proofs.candidates.candidate_at.Tie as tie
+use Rattle.fuse_settings.proofs.candidates.candidate_at.Statement.{statement}
+use Rattle.fuse_settings.proofs.candidates.candidate_at.Tie as tie
 
 in-main : (d : Device) (p : Place) (block row column : ℕ) → hasPlace d p ≡ true → p .byte ≡ Main block row column
     → (p .bit < 8) × (column < 15)

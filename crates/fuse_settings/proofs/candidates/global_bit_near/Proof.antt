@@ -8,8 +8,8 @@ use lib.Dec.{ltb}
 use borrow.Author.Tests.{lt-ltb, le-ltb}
 use borrow.Author.Needs.{needs}
 use Rattle.part.proofs.Facts.{tests}
-use Rattle.setting_places.proofs.candidates.global_bit_near.Statement.{statement}
-use Rattle.setting_places.proofs.candidates.global_bit_near.Tie as tie
+use Rattle.fuse_settings.proofs.candidates.global_bit_near.Statement.{statement}
+use Rattle.fuse_settings.proofs.candidates.global_bit_near.Tie as tie
 
 inside : (row column : ℕ) → (ltb row 8 && ltb column 8) ≡ true → (row ≤ 7) × (column ≤ 7)
 inside row column h = let facts = simp tests at h in (omega arith, omega arith)

@@ -1,16 +1,16 @@
-// The only setting and bit that can lie at a place, by the tables of `places` read the other way.
+// The only setting and bit that can lie at a place, by the rows and columns of `setting_places` read the other way.
 // For the crates above: a function here may require that the device has the place.
 ghost use mathlib.Core.Path.{_≡_};
 ghost use mathlib.Core.Bool.{true};
 ghost use Prim.Native.Nat.{_+_, _<_, _≤_};
 ghost use Rattle.part.specs.Place.{hasPlace};
 ghost use Rattle.settings.specs.declared.Setting.the-variants.{Literal};
-ghost use Rattle.setting_places.specs.Back.{polarityOfRow, fieldIndexAtRow, blockFieldNear, globalFieldNear};
-ghost use Rattle.setting_places.specs.Back.{globalBitNear, candidateInMain, candidateAt};
-use super::places::first_row;
+ghost use Rattle.fuse_settings.specs.Back.{polarityOfRow, fieldIndexAtRow, blockFieldNear, globalFieldNear};
+ghost use Rattle.fuse_settings.specs.Back.{globalBitNear, candidateInMain, candidateAt};
 use part::BytePlace;
 use part::Device;
 use part::Place;
+use setting_places::places::first_row;
 use settings::BlockField;
 use settings::GlobalField;
 use settings::Polarity;

@@ -1,8 +1,8 @@
 -- `polarity_of_row` meets its contract, by the two cases of the test.
 -- Assumes nothing.
 use borrow.Author.Tests.{eq-eqb, ne-eqb}
-use Rattle.setting_places.proofs.candidates.polarity_of_row.Statement.{statement}
-use Rattle.setting_places.proofs.candidates.polarity_of_row.Tie as tie
+use Rattle.fuse_settings.proofs.candidates.polarity_of_row.Statement.{statement}
+use Rattle.fuse_settings.proofs.candidates.polarity_of_row.Tie as tie
 
 returns : tie.Need-returns
 returns c = rw (eq-eqb _ _ (c .if1 .taken))

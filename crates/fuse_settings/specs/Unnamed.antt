@@ -8,7 +8,7 @@ use Prim.Native.Nat.{ℕ, zero, suc, _+_, _*_, _-_}
 use Rattle.part.specs.Device.{known, blocksOf, isLarge, fuseCount}
 use Rattle.part.specs.declared.Device.{Device}
 use Rattle.settings.specs.declared.Setting.{Setting}
-use Rattle.setting_places.specs.Back.{settingAt}
+use Rattle.fuse_settings.specs.Back.{settingAt}
 
 -- 1 for a fuse that has no setting.
 abbrev pub oneIfNone : Option (Setting × ℕ) → ℕ

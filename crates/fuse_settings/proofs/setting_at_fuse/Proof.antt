@@ -16,13 +16,13 @@ use Rattle.part.specs.declared.Place.{Place}
 use Rattle.part.proofs.Fuses.{at-fuse}
 use Rattle.settings.specs.Settings.{hasSetting}
 use Rattle.settings.proofs.Asked.{has, has-not}
 use Rattle.setting_places.specs.Places.{bitsOf, fuseOf}
-use Rattle.setting_places.specs.Back.{candidateAt, settingAt}
-use Rattle.setting_places.specs.Operations.{settingAtFuse}
-use Rattle.setting_places.specs.declared.candidates.Candidate.{Candidate}
+use Rattle.fuse_settings.specs.Back.{candidateAt, settingAt}
+use Rattle.fuse_settings.specs.Operations.{settingAtFuse}
+use Rattle.fuse_settings.specs.declared.candidates.Candidate.{Candidate}
 use borrow.Author.Needs.{needs}
-use Rattle.setting_places.proofs.setting_at_fuse.Statement.{statement}
-use Rattle.setting_places.proofs.setting_at_fuse.Tie as tie
+use Rattle.fuse_settings.proofs.setting_at_fuse.Statement.{statement}
+use Rattle.fuse_settings.proofs.setting_at_fuse.Tie as tie
 
 no-device : (d : Device) (f : ℕ) → known d ≡ false → refused 1 0 ≡ settingAtFuse d f
 unfolding settingAtFuse

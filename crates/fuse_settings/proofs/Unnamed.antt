@@ -15,10 +15,10 @@ use Rattle.part.proofs.Fuses.{place-in-main, place-in-wire-and}
 use Rattle.part.proofs.Sums.{sum, sum-same, sum-all, sum-add, sum-first, sum-times}
 use Rattle.settings.specs.Fields.{foes}
 use Rattle.settings.proofs.Numbering.{block-0}
 use Rattle.setting_places.specs.Places.{bitsOf, placeOf}
-use Rattle.setting_places.specs.Back.{candidateInMain, fieldIndexAtRow, lastUpTo, settingAt}
-use Rattle.setting_places.specs.Unnamed.{oneIfNone, unnamedBelow, UnnamedCount}
-use Rattle.setting_places.proofs.NamedFuses.{named, literal-named, main-unnamed, wire-and-named}
+use Rattle.fuse_settings.specs.Back.{candidateInMain, fieldIndexAtRow, lastUpTo, settingAt}
+use Rattle.fuse_settings.specs.Unnamed.{oneIfNone, unnamedBelow, UnnamedCount}
+use Rattle.fuse_settings.proofs.NamedFuses.{named, literal-named, main-unnamed, wire-and-named}
 
 -- The sum over a row of a main area, if what stands below bit 6 counts 0: columns 9 to 14 have no other bits, columns 0 to 8 have two.
 module _ (fuse : ℕ → ℕ) (at : (column bit : ℕ) → ℕ)

@@ -1,17 +1,17 @@
 -- `candidate_in_main` meets its contract: each branch rewrites with the tests that led there.
 -- Assumes nothing.
 use mathlib.Core.Path.{_≡_, ap}
-use Prim.Native.Nat.{ℕ, _+_, _<_, _≤_}
+use Prim.Native.Nat.{ℕ, _<_, _≤_}
 use native.Mathlib.Omega.{arith}
 use borrow.Author.Tests.{lt-ltb, le-ltb}
 use Rattle.settings.specs.Fields.{macrocellFields}
 use Rattle.settings.specs.Order.{macrocellFieldAt}
 use Rattle.setting_places.specs.Places.{firstRow}
-use Rattle.setting_places.specs.Back.{fieldIndexAtRow, fieldAtRow}
-use Rattle.setting_places.proofs.OnePlaceEach.{at-row}
+use Rattle.fuse_settings.specs.Back.{fieldIndexAtRow, fieldAtRow}
+use Rattle.fuse_settings.proofs.CandidateInverse.{at-row}
 use borrow.Author.Needs.{needs}
-use Rattle.setting_places.proofs.candidates.candidate_in_main.Statement.{statement}
-use Rattle.setting_places.proofs.candidates.candidate_in_main.Tie as tie
+use Rattle.fuse_settings.proofs.candidates.candidate_in_main.Statement.{statement}
+use Rattle.fuse_settings.proofs.candidates.candidate_in_main.Tie as tie
 
 module _ (row i : ℕ) (e : i ≡ fieldIndexAtRow row) where
   starts : 12 ≤ row → row < 55 → i < macrocellFields

@@ -26,12 +26,13 @@ use Rattle.settings.specs.declared.GlobalField.{GlobalField}
 use Rattle.settings.specs.declared.GlobalField.the-variants.{FsrInv, FclkInv, FoeInv, FclkMux, FoeMux, Usercode}
 use Rattle.settings.specs.declared.Setting.{Setting}
 use Rattle.settings.specs.declared.Setting.the-variants.{Literal, WireAnd, Macrocell, Block, Global}
 use Rattle.setting_places.specs.Places.{main, wireAnd, literalRow, bitsOf, blockPlace, globalPlace, placeOf, fuseOf, lists}
-use Rattle.setting_places.specs.Back.{polarityOfRow, candidateInMain, candidateAt, ifListed, settingAt}
-use Rattle.setting_places.specs.Unnamed.{oneIfNone}
-use Rattle.setting_places.specs.declared.candidates.Candidate.{Candidate}
+use Rattle.fuse_settings.specs.Back.{polarityOfRow, candidateInMain, candidateAt, ifListed, settingAt}
+use Rattle.fuse_settings.specs.Unnamed.{oneIfNone}
+use Rattle.fuse_settings.specs.declared.candidates.Candidate.{Candidate}
 use Rattle.setting_places.proofs.OnePlaceEach.{has-place}
-use Rattle.setting_places.proofs.Laws.{listed, left-inverse}
+use Rattle.setting_places.proofs.Laws.{listed}
+use Rattle.fuse_settings.proofs.Laws.{left-inverse}
 
 -- Whether a place of a main area is this one: its block, and the rest of it.
 abbrev ofBlock : ℕ → BytePlace → Bool
@@ -177,7 +178,7 @@ module _ (d : Device) (k : known d ≡ true) (f : ℕ) (below : f < fuseCount d)
       let at = and-iff (is p) (lists d s b) in
       same-test _ _
       (λ h.
-      let l = listed d k s b (on .0 h .0) in
+      let l = listed d s b (on .0 h .0) in
       let place = of-place d p (has-place d s b k (l .0) (l .1)) .1 in
       let same : main block row column bit ≡ p = e ∙ sym (ap (placeOfFuse d) (eqb-true _ f (on .0 h .1))) ∙ place in
       at .1 (subst (λ q. is q ≡ true) same (is-itself block row column bit), on .0 h .0))

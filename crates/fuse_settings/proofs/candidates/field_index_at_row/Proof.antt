@@ -5,11 +5,11 @@ use mathlib.Core.List.{List, [], _∷_}
 use Prim.Native.Nat.{ℕ, _+_, _-_, _<_, _≤_}
 use native.Mathlib.Omega.{arith}
 use lib.ListN.{getD}
-use Rattle.setting_places.specs.Back.{lastUpTo, fieldIndexAtRow}
+use Rattle.fuse_settings.specs.Back.{lastUpTo, fieldIndexAtRow}
 use Rattle.setting_places.proofs.TableEntries.{entries}
 use borrow.Author.Needs.{needs}
-use Rattle.setting_places.proofs.candidates.field_index_at_row.Statement.{statement}
-use Rattle.setting_places.proofs.candidates.field_index_at_row.Tie as tie
+use Rattle.fuse_settings.proofs.candidates.field_index_at_row.Statement.{statement}
+use Rattle.fuse_settings.proofs.candidates.field_index_at_row.Tie as tie
 
 table : List ℕ
 table =

@@ -22,8 +22,8 @@ use Rattle.settings.specs.declared.GlobalField.{GlobalField}
 use Rattle.settings.specs.declared.GlobalField.the-variants.{FsrInv, FclkInv, FoeInv, FclkMux, FoeMux, Usercode}
 use Rattle.settings.specs.declared.Setting.{Setting}
 use Rattle.settings.specs.declared.Setting.the-variants.{Literal, WireAnd, Macrocell, Block, Global}
 use Rattle.setting_places.specs.Places.{firstRow, fuseOf, lists}
-use Rattle.setting_places.specs.declared.candidates.Candidate.{Candidate}
+use Rattle.fuse_settings.specs.declared.candidates.Candidate.{Candidate}
 
 abbrev pub polarityOfRow : ℕ → Polarity
 polarityOfRow row = cond (eqb (row % 2) 1) P N
