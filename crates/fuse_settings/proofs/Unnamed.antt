@@ -34,7 +34,9 @@ module _ (fuse : ℕ → ℕ) (at : (column bit : ℕ) → ℕ)
 
   in-narrow : (x : ℕ) → x < 36 → fuse (72 + x) ≡ 0
   in-narrow x h =
-      same (72 + x) (omega arith) ∙ rw (le-ltb (72 + x) 72 (omega arith)) (low (9 + (72 + x - 72) / 6) ((72 + x - 72) % 6) (omega arith) (omega arith))
+      let column = 9 + (72 + x - 72) / 6 in
+      let bit = (72 + x - 72) % 6 in
+      same (72 + x) (omega arith) ∙ rw (le-ltb (72 + x) 72 (omega arith)) (low column bit (omega arith) (omega arith))
 
   wide-column : (column : ℕ) → column < 9 → sum (λ bit. fuse (column * 8 + bit)) 8 ≡ sum (λ i. at column (6 + i)) 2
   wide-column column h =

@@ -1,5 +1,6 @@
 -- Laws about the definitions of `settings`.
 -- Assumes nothing.
+pub mod Arms
 pub mod Order
 pub mod Numbering
 pub mod Asked

@@ -1,6 +1,9 @@
--- What holds of the lists of specs/Values.antt: flag-true (a flag is true at 0 and false at 1), usercode-inverted (USERCODE's pattern is the
--- complement of its number), usercode-bits (bit by bit), fclk-rule and foe-rule (10 is GCLK[c + 1] or GOE[e + 1], where the first follows
--- the last, and 01 is GCLK[c] or GOE[e]), bits-small (no kind has more than 32 bits).
+-- What holds of the lists of specs/Values.antt:
+--   flag-true             a flag is true at 0 and false at 1
+--   usercode-inverted     USERCODE's pattern is the complement of its number
+--   usercode-bits         each bit of USERCODE is stored inverted
+--   fclk-rule, foe-rule   10 is GCLK[c + 1] or GOE[e + 1], where the first follows the last, and 01 is GCLK[c] or GOE[e]
+--   bits-small            no kind has more than 32 bits
 use mathlib.Core.Path.{_≡_, refl, sym, _∙_, ap}
 use mathlib.Core.Bool.{Bool, true, false, cond}
 use Prim.Native.Nat.{ℕ, _+_, _*_, _-_, _/_, _%_, _^_, _≤_, _<_}

@@ -13,7 +13,9 @@ use Rattle.setting_places.proofs.places.first_row.Statement.{statement}
 use Rattle.setting_places.proofs.places.first_row.Tie as tie
 
 table : List ℕ
-table = 12 ∷ 14 ∷ 16 ∷ 18 ∷ 20 ∷ 22 ∷ 23 ∷ 24 ∷ 25 ∷ 26 ∷ 27 ∷ 29 ∷ 35 ∷ 36 ∷ 40 ∷ 41 ∷ 42 ∷ 43 ∷ 44 ∷ 46 ∷ 48 ∷ 49 ∷ 50 ∷ 51 ∷ 52 ∷ 53 ∷ 54 ∷ []
+table =
+    12 ∷ 14 ∷ 16 ∷ 18 ∷ 20 ∷ 22 ∷ 23 ∷ 24 ∷ 25 ∷ 26 ∷ 27 ∷ 29 ∷ 35 ∷ 36 ∷ 40 ∷ 41 ∷ 42 ∷ 43
+    ∷ 44 ∷ 46 ∷ 48 ∷ 49 ∷ 50 ∷ 51 ∷ 52 ∷ 53 ∷ 54 ∷ []
 
 right : (i : ℕ) → i < macrocellFields → getD table i 0 ≡ firstRow (macrocellFieldAt i)
 unfolding table
