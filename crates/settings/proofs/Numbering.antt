@@ -418,34 +418,36 @@ count-small d k =
 pub whole : (x : ℕ) → x / 1 ≡ x
 whole x = omega arith
 
--- The number of a setting as the code adds it up, which therefore fits.
-module _ (d : Device) (s : Setting) (k : known d ≡ true) (h : hasSetting d s ≡ true) where
-  numbered-small : (r : ℕ) → r ≡ numberOf d s → (r ≡ numberOf d s) × (r ≤ 277456)
-  numbered-small r e = (e, omega (arith, number-below d s h, count-small d k))
+-- The number of a setting as the code adds it up, which therefore fits: with the first number of its group and its index as the code has
+-- them.
+module _ (d : Device) (k : known d ≡ true) where
+  abbrev pub Numbered : ℕ → Setting → Type 0
+  Numbered r s = (r ≡ numberOf d s) × (r ≤ 277456)
 
-  pub literal-number : (block j t l : ℕ) (p : Polarity) (i : ℕ) → s ≡ Literal block j t l p → i ≡ polarityIndex p
-      → (block * 6480 + (j * 360 + (t * 72 + (l * 2 + i))) ≡ numberOf d s) × (block * 6480 + (j * 360 + (t * 72 + (l * 2 + i))) ≤ 277456)
-  unfolding numberOf
-  literal-number block j t l p i e g = numbered-small _ (rw (e, g) (omega arith))
+  numbered-small : (s : Setting) (r : ℕ) → hasSetting d s ≡ true → r ≡ numberOf d s → Numbered r s
+  numbered-small s r h e = (e, omega (arith, number-below d s h, count-small d k))
 
-  pub wire-and-number : (i j t l n : ℕ) → s ≡ WireAnd i j t l → n ≡ blocksOf d
-      → (start d wireAnds + (i * (36 * (n * 18)) + (j * (n * 18) + (t * 18 + l))) ≡ numberOf d s)
-      × (start d wireAnds + (i * (36 * (n * 18)) + (j * (n * 18) + (t * 18 + l))) ≤ 277456)
+  pub literal-number : (block j t l : ℕ) (p : Polarity) (i : ℕ) → hasSetting d (Literal block j t l p) ≡ true → i ≡ polarityIndex p
+      → Numbered (block * 6480 + (j * 360 + (t * 72 + (l * 2 + i)))) (Literal block j t l p)
   unfolding numberOf
-  wire-and-number i j t l n e g = numbered-small _ (rw (e, g) (omega arith))
+  literal-number block j t l p i h g = numbered-small (Literal block j t l p) _ h (rw g (omega arith))
 
-  pub macrocell-number : (block m : ℕ) (f : MacrocellField) (i : ℕ) → s ≡ Macrocell block m f → i ≡ macrocellIndex f
-      → (start d macrocellSettings + (block * 486 + (m * 27 + i)) ≡ numberOf d s)
-      × (start d macrocellSettings + (block * 486 + (m * 27 + i)) ≤ 277456)
+  pub wire-and-number : (i j t l n first : ℕ) → hasSetting d (WireAnd i j t l) ≡ true → n ≡ blocksOf d → first ≡ start d wireAnds
+      → Numbered (first + (i * (36 * (n * 18)) + (j * (n * 18) + (t * 18 + l)))) (WireAnd i j t l)
   unfolding numberOf
-  macrocell-number block m f i e g = numbered-small _ (rw (e, g) (omega arith))
+  wire-and-number i j t l n first h g f = numbered-small (WireAnd i j t l) _ h (rw (f, g) (omega arith))
 
-  pub block-number : (block : ℕ) (f : BlockField) (i : ℕ) → s ≡ Block block f → i ≡ blockIndex f
-      → (start d blockSettings + (block * 6 + i) ≡ numberOf d s) × (start d blockSettings + (block * 6 + i) ≤ 277456)
+  pub macrocell-number : (block m : ℕ) (f : MacrocellField) (i first : ℕ) → hasSetting d (Macrocell block m f) ≡ true
+      → i ≡ macrocellIndex f → first ≡ start d macrocellSettings → Numbered (first + (block * 486 + (m * 27 + i))) (Macrocell block m f)
   unfolding numberOf
-  block-number block f i e g = numbered-small _ (rw (e, g) (omega arith))
+  macrocell-number block m f i first h g e = numbered-small (Macrocell block m f) _ h (rw (e, g) (omega arith))
 
-  pub global-number : (f : GlobalField) (i : ℕ) → s ≡ Global f → i ≡ globalIndex (foes d) f
-      → (start d globals + i ≡ numberOf d s) × (start d globals + i ≤ 277456)
+  pub block-number : (block : ℕ) (f : BlockField) (i first : ℕ) → hasSetting d (Block block f) ≡ true
+      → i ≡ blockIndex f → first ≡ start d blockSettings → Numbered (first + (block * 6 + i)) (Block block f)
   unfolding numberOf
-  global-number f i e g = numbered-small _ (rw (e, g) (omega arith))
+  block-number block f i first h g e = numbered-small (Block block f) _ h (rw (e, g) (omega arith))
+
+  pub global-number : (f : GlobalField) (i first : ℕ) → hasSetting d (Global f) ≡ true
+      → i ≡ globalIndex (foes d) f → first ≡ start d globals → Numbered (first + i) (Global f)
+  unfolding numberOf
+  global-number f i first h g e = numbered-small (Global f) _ h (rw (e, g) (omega arith))
