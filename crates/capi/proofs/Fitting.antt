@@ -28,7 +28,8 @@ use Rattle.settings.specs.Settings.{hasSetting}
 use Rattle.settings.specs.Order.{settingOf, countOf}
 use Rattle.settings.specs.Operations.{countOfSettings, settingOfNumber}
 use Rattle.settings.specs.declared.Setting.{Setting}
-use Rattle.settings.proofs.Numbering.{number-below, number-inverse, count-small}
+use Rattle.settings.proofs.Numbering.{number-below, number-inverse}
+use Rattle.settings.proofs.CodeNumbers.{count-small}
 use Rattle.setting_places.specs.Places.{bitsOf, fuseOf}
 use Rattle.fuse_settings.specs.Back.{settingAt}
 use Rattle.setting_places.specs.Operations.{fuseOfBit}

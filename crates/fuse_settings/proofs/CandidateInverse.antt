@@ -26,7 +26,7 @@ use Rattle.fuse_settings.specs.Back.{polarityOfRow, lastUpTo, fieldIndex
 use Rattle.fuse_settings.specs.Back.{candidateAt}
 use Rattle.fuse_settings.specs.declared.candidates.Candidate.{Candidate}
 use Rattle.part.proofs.Tables.{allBelow, below-all, Each, each-below}
-use Rattle.settings.proofs.Numbering.{few, numbered, macrocell-at}
+use Rattle.settings.proofs.FieldIndices.{few, numbered, macrocell-at}
 use Rattle.setting_places.proofs.OnePlaceEach.{rows-few, on-row}
 
 -- A macrocell field is found at each of its rows.
@@ -146,8 +146,8 @@ at-global d (FoeMux e) bit h hb =
 at-global d Usercode bit h hb =
     let facts = and-iff (ltb (7 - bit / 16) 8 && ltb 5 (7 - bit / 16)) _ .0 (usercode-right bit hb) in
     let range = simp tests at (facts .0) in
-    let again : globalBitNear (7 - bit / 16) (7 - bit % 16 / 2) (6 + bit % 2) ≡ bit = eqb-true _ bit (facts .1) in
-    rw (le-ltb (6 + bit % 2) 6 (omega arith), lt-ltb (7 - bit / 16) 11 (omega arith), lt-ltb 5 (7 - bit / 16) (range .1), again)
+    let same : globalBitNear (7 - bit / 16) (7 - bit % 16 / 2) (6 + bit % 2) ≡ bit = eqb-true _ bit (facts .1) in
+    rw (le-ltb (6 + bit % 2) 6 (omega arith), lt-ltb (7 - bit / 16) 11 (omega arith), lt-ltb 5 (7 - bit / 16) (range .1), same)
 
 -- The candidate at the place of a bit of a setting is that setting and that bit.
 pub candidate-inverse : (d : Device) (s : Setting) (bit : ℕ) → hasSetting d s ≡ true → bit < bitsOf s

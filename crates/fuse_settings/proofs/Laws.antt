@@ -49,7 +49,7 @@ module _ (d : Device) (k : known d ≡ true) where
   unfolding settingAt fuseOf
   left-inverse = record {
     below = λ s bit h. let l = listed d s bit h in fuse-below d s bit k (l .0) (l .1);
-    again = λ s bit h.
+    inverse = λ s bit h.
         let l = listed d s bit h in
         let place = of-place d (placeOf s bit) (has-place d s bit k (l .0) (l .1)) .1 in
         rw (place, candidate-inverse d s bit (l .0) (l .1), h, eq-eqb (fuseOf d s bit) (fuseOf d s bit) refl);
@@ -63,9 +63,9 @@ module _ (d : Device) (k : known d ≡ true) where
           → _≡_ {A = Option (Setting × ℕ)} (cond (lists d t b && eqb (fuseOf d t b) f) (some (t, b)) none) (some (s, bit))
           → (lists d s bit ≡ true) × (fuseOf d s bit ≡ f)
       checked t b e =
-          let its = given (lists d t b && eqb (fuseOf d t b) f) (t, b) (s, bit) e in
-          let both = and-iff (lists d t b) (eqb (fuseOf d t b) f) .0 (its .0) in
-          subst (λ (p : Setting × ℕ). (lists d (p .0) (p .1) ≡ true) × (fuseOf d (p .0) (p .1) ≡ f)) (its .1)
+          let listed-so = given (lists d t b && eqb (fuseOf d t b) f) (t, b) (s, bit) e in
+          let both = and-iff (lists d t b) (eqb (fuseOf d t b) f) .0 (listed-so .0) in
+          subst (λ (p : Setting × ℕ). (lists d (p .0) (p .1) ≡ true) × (fuseOf d (p .0) (p .1) ≡ f)) (listed-so .1)
           (both .0, eqb-true _ f (both .1))
 
   -- No two settings share a fuse, and no setting has a fuse twice.
@@ -82,20 +82,20 @@ unfolding fuseOfBit settingAtFuse
 fuses-to d s bit f e =
     let outer = passed (known d) _ 1 0 e in
     let inner = passed (hasSetting d s) _ 4 0 (outer .1) in
-    let its = given (ltb bit (bitsOf s)) (fuseOf d s bit) f (result (inner .1)) in
-    let l = and-iff (hasSetting d s) (ltb bit (bitsOf s)) .1 (inner .0, its .0) in
+    let listed-so = given (ltb bit (bitsOf s)) (fuseOf d s bit) f (result (inner .1)) in
+    let l = and-iff (hasSetting d s) (ltb bit (bitsOf s)) .1 (inner .0, listed-so .0) in
     let left = left-inverse d (outer .0) in
     let below : ltb (fuseOf d s bit) (fuseCount d) ≡ true = lt-ltb _ _ (left .below s bit l) in
-    rw (outer .0, ← its .1, below, left .again s bit l)
+    rw (outer .0, ← listed-so .1, below, left .inverse s bit l)
 
 fuses-from : (d : Device) (s : Setting) (bit f : ℕ) → settingAtFuse d f ≡ accepted (some (s, bit)) → fuseOfBit d s bit ≡ accepted (some f)
 unfolding fuseOfBit settingAtFuse
 fuses-from d s bit f e =
     let outer = passed (known d) _ 1 0 e in
     let inner = passed (ltb f (fuseCount d)) _ 3 0 (outer .1) in
-    let its = sound d (outer .0) f s bit (result (inner .1)) in
-    let both = and-iff (hasSetting d s) (ltb bit (bitsOf s)) .0 (its .0) in
-    rw (outer .0, both .0, both .1, its .1)
+    let listed-so = sound d (outer .0) f s bit (result (inner .1)) in
+    let both = and-iff (hasSetting d s) (ltb bit (bitsOf s)) .0 (listed-so .0) in
+    rw (outer .0, both .0, both .1, listed-so .1)
 
 pub fuses-inverse : (d : Device) (s : Setting) (bit f : ℕ)
     → (fuseOfBit d s bit ≡ accepted (some f)) ↔ (settingAtFuse d f ≡ accepted (some (s, bit)))

@@ -191,11 +191,11 @@ module _ (d : Device) (k : known d ≡ true) (f : ℕ) (below : f < fuseCount d)
       → oneIfNone (settingAt d f) ≡ cond (named (foes d) (eqb 0 block) row column bit (candidateInMain block row column bit)) 0 1
   unfolding settingAt candidateAt
   main-unnamed block row column bit h e =
-      rw (← e) (its (candidateInMain block row column bit) (candidate-in-main block row column bit))
+      rw (← e) (at-candidate (candidateInMain block row column bit) (candidate-in-main block row column bit))
     where
-      its : (c : Candidate) → CandidateInMain block c
+      at-candidate : (c : Candidate) → CandidateInMain block c
           → oneIfNone (ifListed d f c) ≡ cond (named (foes d) (eqb 0 block) row column bit c) 0 1
-      its c i =
+      at-candidate c i =
           rw (lists-at block row column bit e (c .setting) (c .bit), stands-here block (c .bit) i, has-with block d h i)
           (one-unless (named (foes d) (eqb 0 block) row column bit c) (c .setting, c .bit))
 
@@ -212,4 +212,4 @@ module _ (d : Device) (k : known d ≡ true) (f : ℕ) (below : f < fuseCount d)
       let left : (column + 5 * bit) % 5 ≡ column = omega arith in
       let up : (column + 5 * bit) / 5 ≡ bit = omega arith in
       let on : fuseOf d s 0 ≡ f = rw (left, up) (ap (fuseOfPlace d) e ∙ lies .1) in
-      ap oneIfNone (ap (settingAt d) (sym on) ∙ left-inverse d k .again s 0 (and-iff (hasSetting d s) true .1 (has, refl)))
+      ap oneIfNone (ap (settingAt d) (sym on) ∙ left-inverse d k .inverse s 0 (and-iff (hasSetting d s) true .1 (has, refl)))

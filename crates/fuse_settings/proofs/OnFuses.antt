@@ -12,7 +12,7 @@ module _ {S : Type 0} (count : ℕ) (lists : S → ℕ → Bool) (fuse : S → �
   -- Each bit that a setting lists has a fuse below the count, from which the way back leads to it.
   pub record LeftInverse : Type 0 where
     pub below : (s : S) (bit : ℕ) → lists s bit ≡ true → fuse s bit < count
-    pub again : (s : S) (bit : ℕ) → lists s bit ≡ true → back (fuse s bit) ≡ some (s, bit)
+    pub inverse : (s : S) (bit : ℕ) → lists s bit ≡ true → back (fuse s bit) ≡ some (s, bit)
 
   -- The way back leads nowhere else.
   abbrev pub Sound : Type 0
@@ -23,14 +23,17 @@ module _ {S : Type 0} (count : ℕ) (lists : S → ℕ → Bool) (fuse : S → �
   apart left s t b c hs ht e = (ap (λ (p : S × ℕ). p .0) one, ap (λ (p : S × ℕ). p .1) one)
     where
       both : _≡_ {A = Option (S × ℕ)} (some (s, b)) (some (t, c))
-      both = sym (left .again s b hs) ∙ ap back e ∙ left .again t c ht
+      both = sym (left .inverse s b hs) ∙ ap back e ∙ left .inverse t c ht
 
       one : _≡_ {A = S × ℕ} (s, b) (t, c)
       one = cc both
 
   -- A fuse is unnamed exactly if no setting lists it.
   pub unnamed-iff : LeftInverse → Sound → (f : ℕ) → (back f ≡ none) ↔ ((s : S) (bit : ℕ) → lists s bit ≡ true → fuse s bit ≡ f → ⊥)
-  unnamed-iff left sound f = (λ e s bit h at. differ (sym (left .again s bit h) ∙ ap back at ∙ e), λ never. named (back f) never (sound f))
+  unnamed-iff left sound f = (
+    λ e s bit h at. differ (sym (left .inverse s bit h) ∙ ap back at ∙ e),
+    λ never. named (back f) never (sound f),
+  )
     where
       differ : {s : S} {bit : ℕ} → _≡_ {A = Option (S × ℕ)} (some (s, bit)) none → ⊥
       differ e = let z : _≡_ {A = ℕ} 0 1 = cc in omega arith

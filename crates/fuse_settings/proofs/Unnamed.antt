@@ -14,7 +14,7 @@ use Rattle.part.specs.declared.Device.{Device}
 use Rattle.part.proofs.Fuses.{place-in-main, place-in-wire-and}
 use Rattle.part.proofs.Sums.{sum, sum-same, sum-all, sum-add, sum-first, sum-times}
 use Rattle.settings.specs.Fields.{foes}
-use Rattle.settings.proofs.Numbering.{block-0}
+use Rattle.settings.proofs.FieldIndices.{block-0}
 use Rattle.setting_places.specs.Places.{bitsOf, placeOf}
 use Rattle.fuse_settings.specs.Back.{candidateInMain, fieldIndexAtRow, lastUpTo, settingAt}
 use Rattle.fuse_settings.specs.Unnamed.{oneIfNone, unnamedBelow, UnnamedCount}

@@ -5,6 +5,8 @@ use Prim.Native.Nat.{ℕ, suc, _+_, _*_}
 use mathlib.Core.List.{List, [], _∷_, _++_, map}
 use mathlib.Core.Option.Option.{some}
 use Rattle.part.specs.Outcome.Outcome.{accepted}
+use Rattle.part.specs.Cases.{twoSmall}
+use Rattle.part.specs.Device.{mainRowFuses, blockFuses}
 use Rattle.part.specs.declared.Device.{Device}
 use Rattle.settings.specs.declared.Polarity.the-variants.{P, N}
 use Rattle.settings.specs.declared.MacrocellField.the-variants.{Alloc, Inv, ImportUpAlloc, ImportDownAlloc, ExportDir}
@@ -69,7 +71,7 @@ bits s fuses = bitsFrom 0 s fuses
 
 -- The fuse at a block, a main row, a column of 8 bits and a bit.
 abbrev pub at : (block row column bit : ℕ) → ℕ
-at block row column bit = block * 9072 + row * 108 + column * 8 + bit
+at block row column bit = block * blockFuses twoSmall + row * mainRowFuses + column * 8 + bit
 
 -- Every field of macrocell 10, which has column 1 and bit 7, and of block 1.
 abbrev pub ofMacrocellAndBlock : List Case

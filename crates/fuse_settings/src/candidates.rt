@@ -3,6 +3,7 @@
 ghost use mathlib.Core.Path.{_≡_};
 ghost use mathlib.Core.Bool.{true};
 ghost use Prim.Native.Nat.{_+_, _<_, _≤_};
+ghost use Rattle.part.specs.Device.{mainColumns};
 ghost use Rattle.part.specs.Place.{hasPlace};
 ghost use Rattle.settings.specs.declared.Setting.the-variants.{Literal};
 ghost use Rattle.fuse_settings.specs.Back.{polarityOfRow, fieldIndexAtRow, blockFieldNear, globalFieldNear};
@@ -144,7 +145,7 @@ fn global_bit_near(row: u32, column: u32, bit: u32) -> u32
 }
 
 fn candidate_in_main(block: u32, row: u32, column: u32, bit: u32) -> Candidate
-    requires { ⌜ (bit < 8) × (column < 15) ⌝ }
+    requires { ⌜ (bit < 8) × (column < mainColumns) ⌝ }
     ensures { λ r. ⌜ r ≡ candidateInMain block row column bit ⌝ }
 {
     if bit < 6 {

@@ -57,8 +57,8 @@ caseOf (value.FoeMux x) = 13
 caseOf (value.Usercode x) = 14
 caseOf (value.Unassigned x) = 15
 
--- A number for each value of a case: of a name its pattern, but for FCLK.MUX and FOE.MUX, where a name has
--- another pattern for each c and e: there g for GCLK[g] and GOE[g]
+-- A number for each value of a case. A name has its pattern, except in FCLK.MUX and FOE.MUX, where a name has another
+-- pattern for each c and e: there GCLK[g] and GOE[g] have g.
 abbrev pub termAllocNumber : TermAlloc → ℕ
 termAllocNumber termAlloc.None = 3
 termAllocNumber termAlloc.Sum = 2

@@ -25,7 +25,7 @@ use Rattle.settings.specs.declared.Setting.the-variants.{Literal, WireAnd, Macr
 use Rattle.setting_places.specs.Places.{main, wireAnd, literalRow, firstRow, rows, blockPlace, globalPlace, globalBits, placeOf}
 use Rattle.setting_places.specs.Places.{bitsOf}
 use Rattle.part.proofs.Tables.{allBelow, below-all, Each}
-use Rattle.settings.proofs.Numbering.{block-0, few, numbered, macrocell-at}
+use Rattle.settings.proofs.FieldIndices.{block-0, few, numbered, macrocell-at}
 
 -- The macrocell fields' rows: from 12 to 54.
 abbrev rowsRight : ℕ → ℕ → Bool

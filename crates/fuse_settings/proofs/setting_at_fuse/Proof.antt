@@ -35,8 +35,8 @@ no-fuse d f count k e h = rw (k, le-ltb f (fuseCount d) (omega arith))
 below : (d : Device) (f count : ℕ) → count ≡ fuseCount d → f < count → f < fuseCount d
 below d f count e h = omega arith
 
-its-place : (d : Device) (f : ℕ) (p : Place) → p ≡ placeOfFuse d f → f < fuseCount d → hasPlace d p ≡ true
-its-place d f p e h = rw e (at-fuse d f h .0)
+place-there : (d : Device) (f : ℕ) (p : Place) → p ≡ placeOfFuse d f → f < fuseCount d → hasPlace d p ≡ true
+place-there d f p e h = rw e (at-fuse d f h .0)
 
 inside : (c : Candidate) (width : ℕ) → width ≡ bitsOf (c .setting) → c .bit < width → c .bit < bitsOf (c .setting)
 inside c width e l = omega arith
@@ -49,9 +49,9 @@ module _ (d : Device) (f : ℕ) (p : Place) (c : Candidate) (k : known d ≡ tru
   not-there n = rw (k, lt-ltb f (fuseCount d) h, ← e, ← g, n)
 
   module _ (s : hasSetting d (c .setting) ≡ true) (width : ℕ) (q : width ≡ bitsOf (c .setting)) where
-    not-its-bit : width ≤ c .bit → accepted none ≡ settingAtFuse d f
+    no-such-bit : width ≤ c .bit → accepted none ≡ settingAtFuse d f
     unfolding settingAtFuse settingAt
-    not-its-bit n = rw (k, lt-ltb f (fuseCount d) h, ← e, ← g, s, le-ltb (c .bit) (bitsOf (c .setting)) (omega arith))
+    no-such-bit n = rw (k, lt-ltb f (fuseCount d) h, ← e, ← g, s, le-ltb (c .bit) (bitsOf (c .setting)) (omega arith))
 
     another : (found : ℕ) → c .bit < width → found ≡ fuseOf d (c .setting) (c .bit) → (found ≡ f → ⊥) → accepted none ≡ settingAtFuse d f
     unfolding settingAtFuse settingAt
@@ -96,7 +96,7 @@ place-of-fuse-requires : tie.Need-place-of-fuse-requires
 place-of-fuse-requires c κs = search (needs, is-known, below)
 
 candidate-at-requires : tie.Need-candidate-at-requires
-candidate-at-requires c κs = search (needs, below, its-place)
+candidate-at-requires c κs = search (needs, below, place-there)
 
 has-setting-requires : tie.Need-has-setting-requires
 has-setting-requires c κs = search needs
@@ -108,15 +108,16 @@ bits-of-requires : tie.Need-bits-of-requires
 bits-of-requires c κs = has _ _ _ (c .before .has-setting .ensures) (c .if3 .left)
 
 returns-4 : tie.Need-returns-4
-returns-4 c = search (needs, is-known, has, below, not-its-bit)
+returns-4 c = search (needs, is-known, has, below, no-such-bit)
 
 fuse-of-requires : tie.Need-fuse-of-requires
-fuse-of-requires c κs = (
-  is-known _ _ (c .before .before .before .before .before .before .before .before .before .before .before .is-known .ensures)
-      (c .before .before .before .before .before .before .before .before .before .before .if1 .left),
-  has _ _ _ (c .before .before .before .before .has-setting .ensures) (c .before .before .before .if3 .left),
-  inside (c .before .before .before .before .before .candidate-at .result) _ (c .before .before .bits-of .ensures) (c .if4 .left),
-)
+fuse-of-requires c κs =
+    let asked = c .before .before .before .before in
+    let device = asked .before .before .before .before .before in (
+      is-known _ _ (device .before .before .is-known .ensures) (device .before .if1 .left),
+      has _ _ _ (asked .has-setting .ensures) (c .before .before .before .if3 .left),
+      inside (asked .before .candidate-at .result) _ (c .before .before .bits-of .ensures) (c .if4 .left),
+    )
 
 returns-5 : tie.Need-returns-5
 returns-5 c = search (needs, is-known, has, below, another)

@@ -64,8 +64,9 @@ macrocell-field-at-requires c κs = omega (
 
 first-row-requires : tie.Need-first-row-requires
 first-row-requires c κs =
-    starts (c .before .before .before .before .before .before .args .row) _ (c .before .field-index-at-row .ensures)
-    (c .before .before .before .if3 .left) (c .before .before .if4 .taken)
+    let at = c .before .before .before in
+    starts (at .before .before .before .args .row) _ (c .before .field-index-at-row .ensures) (at .if3 .left)
+    (c .before .before .if4 .taken)
 
 mul-t23 : tie.Need-mul-t23
 mul-t23 c = search needs
@@ -75,20 +76,22 @@ add-t24 c = search needs
 
 sub-t26 : tie.Need-sub-t26
 sub-t26 c =
-    not-before (c .before .before .before .before .before .before .before .args .row) _ (c .before .before .field-index-at-row .ensures) _
-    (c .first-row .ensures) (c .before .before .before .before .if3 .left) (c .before .before .before .if4 .taken)
+    let at = c .before .before .before in
+    not-before (at .before .before .before .before .args .row) _ (c .before .before .field-index-at-row .ensures) _
+    (c .first-row .ensures) (at .before .if3 .left) (at .if4 .taken)
 
 returns-4 : tie.Need-returns-4
-returns-4 c = rw (
-  le-ltb _ _ (c .before .before .before .before .before .before .if1 .left),
-  le-ltb _ _ (c .before .before .before .before .before .if2 .left),
-  le-ltb _ _ (c .before .before .before .before .if3 .left),
-  lt-ltb _ _ (c .before .before .before .if4 .taken),
-  first (c .before .before .before .before .before .before .before .args .row) _
-      (c .before .before .field-index-at-row .ensures) _ (c .first-row .ensures),
-  c .before .macrocell-field-at .ensures,
-  c .before .before .field-index-at-row .ensures,
-)
+returns-4 c =
+    let at = c .before .before .before in
+    rw (
+      le-ltb _ _ (at .before .before .before .if1 .left),
+      le-ltb _ _ (at .before .before .if2 .left),
+      le-ltb _ _ (at .before .if3 .left),
+      lt-ltb _ _ (at .if4 .taken),
+      first (at .before .before .before .before .args .row) _ (c .before .before .field-index-at-row .ensures) _ (c .first-row .ensures),
+      c .before .macrocell-field-at .ensures,
+      c .before .before .field-index-at-row .ensures,
+    )
 
 block-field-near-requires : tie.Need-block-field-near-requires
 block-field-near-requires c κs = search needs

@@ -1,7 +1,7 @@
 -- `literal_number` meets its contract: the number as the code adds it up is the definition's, and fits.
 -- Assumes nothing.
 use native.Mathlib.Omega.{arith}
-use Rattle.settings.proofs.Numbering.{literal-number}
+use Rattle.settings.proofs.CodeNumbers.{literal-number}
 use borrow.Author.Needs.{needs}
 use Rattle.settings.proofs.numbers.literal_number.Statement.{statement}
 use Rattle.settings.proofs.numbers.literal_number.Tie as tie
