@@ -28,11 +28,13 @@ use Rattle.settings.specs.Settings.{hasSetting}
 use Rattle.settings.specs.Order.{settingOf, countOf}
 use Rattle.settings.specs.Operations.{countOfSettings, settingOfNumber}
 use Rattle.settings.specs.declared.Setting.{Setting}
-use Rattle.settings.proofs.Numbering.{number-below, number-inverse, count-small}
+use Rattle.settings.proofs.Numbering.{number-below, number-inverse}
+use Rattle.settings.proofs.CodeNumbers.{count-small}
 use Rattle.setting_places.specs.Places.{bitsOf, fuseOf}
-use Rattle.setting_places.specs.Back.{settingAt}
-use Rattle.setting_places.specs.Operations.{fuseOfBit, settingAtFuse}
-use Rattle.setting_places.proofs.Laws.{sound}
+use Rattle.fuse_settings.specs.Back.{settingAt}
+use Rattle.setting_places.specs.Operations.{fuseOfBit}
+use Rattle.fuse_settings.specs.Operations.{settingAtFuse}
+use Rattle.fuse_settings.proofs.Laws.{sound}
 use Rattle.setting_bits.specs.declared.Layout.{Layout}
 use Rattle.setting_bits.specs.declared.Layout.the-variants.{Readout}
 use Rattle.setting_bits.specs.SettingBits.{bytesOf, stateOf, patternAt}

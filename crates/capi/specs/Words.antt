@@ -7,7 +7,8 @@ use Rattle.part.specs.declared.Device.{Device}
 use Rattle.image.specs.Image.{fuseSum, zeroCount}
 use Rattle.readout.specs.Readout.{toReadout, toImage}
 use Rattle.settings.specs.Operations.{countOfSettings, settingOfNumber}
-use Rattle.setting_places.specs.Operations.{fuseOfBit, settingAtFuse}
+use Rattle.setting_places.specs.Operations.{fuseOfBit}
+use Rattle.fuse_settings.specs.Operations.{settingAtFuse}
 use Rattle.jedec_writer.specs.Pattern.{toText}
 use Rattle.jedec_reader.specs.Reader.{toImageFromText}
 use Rattle.edit_by_number.specs.ByNumber.{readPattern, setPattern}

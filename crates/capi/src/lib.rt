@@ -10,13 +10,15 @@ ghost use Rattle.part.specs.Outcome.{written};
 ghost use Rattle.readout.specs.Readout.{toReadout, readoutOf, toImage, imageOf};
 ghost use Rattle.settings.specs.Operations.{countOfSettings, settingOfNumber};
 ghost use Rattle.setting_places.specs.Answer.{bitOutcome};
-ghost use Rattle.setting_places.specs.Operations.{fuseOfBit, settingAtFuse};
+ghost use Rattle.setting_places.specs.Operations.{fuseOfBit};
+ghost use Rattle.fuse_settings.specs.Operations.{settingAtFuse};
 ghost use Rattle.jedec_writer.specs.Pattern.{toText, withText};
 ghost use Rattle.jedec_reader.specs.Reader.{toImageFromText, imageIn};
 ghost use Rattle.setting_bits.specs.declared.Layout.the-variants.{Image, Readout};
 ghost use Rattle.edit_by_number.specs.ByNumber.{readPattern, setPattern, withNumbered};
 ghost use Rattle.capi.specs.Packed.{packed, refusalWord, device, addressAndBit, itself, noResult, orNone};
 ghost use Rattle.capi.specs.Packed.{settingAndBit, through};
+use fuse_settings::NamedAnswer;
 use part::AddressAnswer;
 use part::Device;
 use part::DeviceAddress;
@@ -26,7 +28,6 @@ use part::FuseNumber;
 use part::NumberAnswer;
 use part::Refusal;
 use setting_places::BitAnswer;
-use setting_places::NamedAnswer;
 use settings::SettingAnswer;
 use settings::SettingNumber;
 
@@ -213,7 +214,7 @@ pub extern "C" fn xc9500_setting_at_fuse(blocks: u32, class: u32, fuse: u32) -> 
         ⌜ w ≡ packed (orNone (settingAndBit (device blocks class))) (settingAtFuse (device blocks class) fuse) ⌝ }
 {
     let d = Device { blocks, class };
-    let answer = setting_places::setting_at_fuse(d, FuseNumber(fuse));
+    let answer = fuse_settings::setting_at_fuse(d, FuseNumber(fuse));
     match answer {
         NamedAnswer::Bit(s, bit) => {
             let number = settings::numbers::number_of(d, s);

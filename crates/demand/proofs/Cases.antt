@@ -9,7 +9,7 @@ use Rattle.readout.specs.Readout.{aboveAt}
 use Rattle.settings.specs.Settings.{hasSetting}
 use Rattle.setting_places.specs.Places.{bitsOf, placeOf, fuseOf}
 use Rattle.values.specs.Values.{named}
-use Rattle.values.specs.Patterns.{same, candidate, patternIn}
+use Rattle.patterns.specs.Patterns.{same, candidate, patternIn}
 use Rattle.setting_values.specs.Kinds.{kindOf}
 use Rattle.setting_bits.specs.SettingBits.{patternAt, withBits, withPattern, aboveAmong}
 use Rattle.edit.specs.Edit.{aboveIn, readIn, setIn, withValue}

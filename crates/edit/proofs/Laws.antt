@@ -20,7 +20,7 @@ use Rattle.readout.specs.Readout.{widthAt}
 use Rattle.settings.specs.Settings.{hasSetting}
 use Rattle.settings.specs.declared.Setting.{Setting}
 use Rattle.setting_places.specs.Places.{bitsOf, fuseOf}
-use Rattle.values.specs.Patterns.{patternIn}
+use Rattle.patterns.specs.Patterns.{patternIn}
 use Rattle.values.specs.declared.Value.{Value}
 use Rattle.setting_values.specs.Kinds.{kindOf}
 use Rattle.setting_bits.specs.declared.Layout.{Layout}

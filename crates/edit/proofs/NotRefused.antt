@@ -17,9 +17,9 @@ use Rattle.readout.proofs.Laws.{from-length, readout-accepted}
 use Rattle.settings.specs.Settings.{hasSetting}
 use Rattle.settings.specs.declared.Setting.{Setting}
 use Rattle.setting_places.specs.Places.{bitsOf, fuseOf}
-use Rattle.values.specs.Patterns.{patternIn}
+use Rattle.patterns.specs.Patterns.{patternIn}
 use Rattle.values.specs.declared.Value.{Value}
-use Rattle.values.proofs.Laws as values
+use Rattle.patterns.proofs.Laws as patterns
 use Rattle.setting_values.specs.Kinds.{kindOf, valueOf}
 use Rattle.setting_values.proofs.Widths.{kind-bits}
 use Rattle.setting_bits.specs.declared.Layout.{Layout}
@@ -32,7 +32,7 @@ use Rattle.edit.specs.Demand.{Taken}
 -- The pattern of a value of a setting.
 pub value-iff : (d : Device) (s : Setting) (v : Value) (pattern : ℕ) → hasSetting d s ≡ true
     → (patternIn (kindOf d s) v ≡ some pattern) ↔ ((pattern < 2 ^ bitsOf s) × (valueOf d s pattern ≡ v))
-value-iff d s v pattern h = rw (← kind-bits d s h) (values.pattern-iff (kindOf d s) v pattern)
+value-iff d s v pattern h = rw (← kind-bits d s h) (patterns.pattern-iff (kindOf d s) v pattern)
 
 pub its-pattern : {d : Device} {image : List ℕ} {s : Setting} {v : Value} {pattern : ℕ} → Taken d image s v pattern
     → patternIn (kindOf d s) v ≡ some pattern

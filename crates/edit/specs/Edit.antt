@@ -14,7 +14,7 @@ use Rattle.part.specs.Convert.{ifKnown, ifLength}
 use Rattle.part.specs.declared.Device.{Device}
 use Rattle.settings.specs.Settings.{hasSetting}
 use Rattle.settings.specs.declared.Setting.{Setting}
-use Rattle.values.specs.Patterns.{patternIn}
+use Rattle.patterns.specs.Patterns.{patternIn}
 use Rattle.values.specs.declared.Value.{Value}
 use Rattle.setting_values.specs.Kinds.{kindOf, valueOf}
 use Rattle.setting_bits.specs.declared.Layout.{Layout}

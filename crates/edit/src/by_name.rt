@@ -13,11 +13,11 @@ ghost use Rattle.edit.specs.Edit.{aboveIn, readIn, setIn, withValue};
 use part::Device;
 use part::DoneAnswer;
 use part::Refusal;
+use patterns::Found;
 use setting_bits::Layout;
 use setting_values::ValueAnswer;
 use settings::Setting;
 use values::Value;
-use values::patterns::Found;
 
 // The lowest index of a byte that holds the setting and has a bit above its width, or the
 // length: an image has no such bits.
@@ -69,7 +69,7 @@ pub fn set(d: Device, layout: Layout, bytes: &mut [u8], s: Setting, v: Value) ->
         return DoneAnswer::Refused(Refusal::NoSuchSetting);
     }
     let kind = setting_values::kinds::kind_of(d, s);
-    let found = values::patterns::pattern_in(kind, v);
+    let found = patterns::of_values::pattern_in(kind, v);
     match found {
         Found::Pattern(pattern) => {
             let first_above = above_in(d, layout, bytes, s);

@@ -17,8 +17,8 @@ use Rattle.settings.specs.Order.{countOf, settingOf}
 use Rattle.settings.specs.declared.Setting.{Setting}
 use Rattle.settings.proofs.Numbering.{number-inverse}
 use Rattle.setting_places.specs.Places.{bitsOf}
-use Rattle.values.specs.Patterns.{patternIn}
-use Rattle.values.proofs.Laws as values
+use Rattle.patterns.specs.Patterns.{patternIn}
+use Rattle.patterns.proofs.Laws as patterns
 use Rattle.setting_values.specs.Kinds.{kindOf, valueOf}
 use Rattle.setting_values.proofs.Widths.{kind-bits}
 use Rattle.setting_bits.specs.declared.Layout.{Layout}
@@ -63,5 +63,5 @@ module _ (d : Device) (k : known d ≡ true) (layout : Layout) (bytes : List ℕ
   unfolding setPattern setIn withNumbered withValue s
   sets-numbered pattern fits =
       let value : patternIn (kindOf d (settingOf d number)) (valueOf d (settingOf d number) pattern) ≡ some pattern =
-      values.pattern-iff (kindOf d (settingOf d number)) _ pattern .1 (rw (kind-bits d (settingOf d number) there) fits, refl) in
+      patterns.pattern-iff (kindOf d (settingOf d number)) _ pattern .1 (rw (kind-bits d (settingOf d number) there) fits, refl) in
       (rw (lt-ltb number (countOf d) below, there, lt-ltb pattern (2 ^ bitsOf (settingOf d number)) fits, value), rw value)

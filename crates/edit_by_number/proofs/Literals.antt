@@ -21,7 +21,7 @@ use Rattle.settings.specs.Settings.{hasSetting}
 use Rattle.settings.specs.Order.{start, countOf, settingOf}
 use Rattle.settings.specs.Order.Group.{literals, wireAnds}
 use Rattle.settings.specs.declared.Setting.{Setting}
-use Rattle.settings.proofs.Numbering.{ends, in-its-group, number-inverse}
+use Rattle.settings.proofs.Numbering.{ends, setting-in-group, number-inverse}
 use Rattle.setting_places.specs.Places.{placeOf, bitsOf, fuseOf}
 use Rattle.setting_places.proofs.OnePlaceEach.{has-place}
 use Rattle.setting_bits.specs.declared.Layout.{Layout}
@@ -48,7 +48,9 @@ module _ (d : Device) (x : ℕ) (l : x < start d wireAnds) where
 
   one-bit : bitsOf (settingOf d x) ≡ 1
   unfolding bitsOf
-  one-bit = let at : 0 + x ≡ x = omega arith in ap (λ (y : ℕ). bitsOf (settingOf d y)) (sym at) ∙ ap bitsOf (in-its-group d literals x l)
+  one-bit =
+      let at : 0 + x ≡ x = omega arith in
+      ap (λ (y : ℕ). bitsOf (settingOf d y)) (sym at) ∙ ap bitsOf (setting-in-group d literals x l)
 
   its : hasSetting d (settingOf d x) ≡ true
   its = number-inverse d x number-there .0

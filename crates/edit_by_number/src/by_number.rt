@@ -159,7 +159,7 @@ pub fn set_numbered(
     }
     let s = settings::numbers::setting_of(d, number);
     let bits = setting_places::places::bits_of(d, s);
-    if !values::patterns::fits(bits, pattern) {
+    if !patterns::of_values::fits(bits, pattern) {
         return DoneAnswer::Refused(Refusal::NoSuchValue);
     }
     let above = edit::by_name::above_in(d, layout, bytes, s);

@@ -24,7 +24,7 @@ use Rattle.readout.proofs.Laws.{lying, readout-state, change-agrees}
 use Rattle.settings.specs.Settings.{hasSetting}
 use Rattle.settings.specs.declared.Setting.{Setting}
 use Rattle.setting_places.specs.Places.{bitsOf, fuseOf, lists}
-use Rattle.setting_places.proofs.Laws as places
+use Rattle.fuse_settings.proofs.Laws as places
 use Rattle.values.specs.Values.{bitsIn}
 use Rattle.values.specs.declared.Kind.{Kind}
 use Rattle.values.specs.declared.Kind.the-variants as kind

@@ -22,7 +22,8 @@ use Rattle.settings.specs.Settings.{hasSetting}
 use Rattle.settings.specs.declared.GlobalField.the-variants.{FsrInv, FclkInv, FoeInv, FclkMux, FoeMux, Usercode}
 use Rattle.settings.specs.declared.Setting.{Setting}
 use Rattle.settings.specs.declared.Setting.the-variants.{Literal, WireAnd, Macrocell, Block, Global}
-use Rattle.settings.proofs.Numbering.{has-macrocell, macrocell-at}
+use Rattle.settings.proofs.CodeNumbers.{has-macrocell}
+use Rattle.settings.proofs.FieldIndices.{macrocell-at}
 use Rattle.setting_places.specs.Places.{placeOf, rows, bitsOf, fuseOf}
 use Rattle.setting_places.proofs.OnePlaceEach.{rows-few}
 use Rattle.setting_bits.specs.declared.Layout.{Layout}

@@ -1,6 +1,5 @@
--- Laws about the definitions of `setting_places`.
+-- Laws about the places and the fuses of settings.
 -- Assumes nothing.
+pub mod TableEntries
 pub mod OnePlaceEach
-pub mod OnFuses
 pub mod Laws
-pub mod Unnamed

@@ -1,23 +1,15 @@
 -- What each answer of the code says: document 01's number and value for every refusal, and the result.
--- A bit that a setting does not have, and a fuse that no setting has, are no refusals: they are `none`.
+-- A bit that a setting does not have is no refusal: it is `none`.
 use Prim.Native.Nat.{ℕ}
 use mathlib.Core.Option.{Option}
 use mathlib.Core.Option.Option.{none, some}
 use Rattle.part.specs.Outcome.{Outcome}
 use Rattle.part.specs.Outcome.Outcome.{accepted, refused}
 use Rattle.part.specs.Answer.{refusalNumber, refusalValue}
-use Rattle.settings.specs.declared.Setting.{Setting}
 use Rattle.setting_places.specs.declared.BitAnswer.{BitAnswer}
 use Rattle.setting_places.specs.declared.BitAnswer.the-variants as bit
-use Rattle.setting_places.specs.declared.NamedAnswer.{NamedAnswer}
-use Rattle.setting_places.specs.declared.NamedAnswer.the-variants as named
 
 abbrev pub bitOutcome : BitAnswer → Outcome (Option ℕ)
 bitOutcome (bit.Fuse f) = accepted (some (f .0))
 bitOutcome bit.NoSuchBit = accepted none
 bitOutcome (bit.Refused r) = refused (refusalNumber r) (refusalValue r)
-
-abbrev pub namedOutcome : NamedAnswer → Outcome (Option (Setting × ℕ))
-namedOutcome (named.Bit s b) = accepted (some (s, b))
-namedOutcome named.Unnamed = accepted none
-namedOutcome (named.Refused r) = refused (refusalNumber r) (refusalValue r)

@@ -5,7 +5,7 @@ ghost use mathlib.Core.Bool.{true};
 ghost use Prim.Native.Nat.{_+_, _<_};
 ghost use Rattle.part.specs.Device.{known};
 ghost use Rattle.settings.specs.Settings.{hasSetting};
-ghost use Rattle.settings.specs.Fields.{foes, globalFields, globalIndex};
+ghost use Rattle.settings.specs.Fields.{inputs, terms, foes, macrocellFields, globalFields, globalIndex};
 ghost use Rattle.settings.specs.Order.{macrocellFieldAt, start, settingOf};
 ghost use Rattle.settings.specs.Order.Group.{wireAnds};
 ghost use Rattle.settings.specs.declared.Setting.the-variants.{Literal};
@@ -21,35 +21,35 @@ use settings::Polarity;
 use settings::Setting;
 use settings::SettingNumber;
 
-// The rows of each macrocell field's bits, in the order listed; 0 where it has no such bit.
-const ROW_OF_BIT: [[u8; 3]; 27] = [
-    [12 + 2 * 0, 13 + 2 * 0, 0],
-    [12 + 2 * 1, 13 + 2 * 1, 0],
-    [12 + 2 * 2, 13 + 2 * 2, 0],
-    [12 + 2 * 3, 13 + 2 * 3, 0],
-    [12 + 2 * 4, 13 + 2 * 4, 0],
-    [22, 0, 0],
-    [23, 0, 0],
-    [24, 0, 0],
-    [25, 0, 0],
-    [26, 0, 0],
-    [27, 28, 0],
-    [29, 30, 31],
-    [35, 0, 0],
-    [36, 37, 0],
-    [40, 0, 0],
-    [41, 0, 0],
-    [42, 0, 0],
-    [43, 0, 0],
-    [44, 45, 0],
-    [46, 0, 0],
-    [48, 0, 0],
-    [49, 0, 0],
-    [50 + 0, 0, 0],
-    [50 + 1, 0, 0],
-    [50 + 2, 0, 0],
-    [50 + 3, 0, 0],
-    [50 + 4, 0, 0],
+// The first row of each macrocell field, which holds its bit 0, in the order listed.
+const FIRST_ROW: [u32; 27] = [
+    12,
+    14,
+    16,
+    18,
+    20,
+    22,
+    23,
+    24,
+    25,
+    26,
+    27,
+    29,
+    35,
+    36,
+    40,
+    41,
+    42,
+    43,
+    44,
+    46,
+    48,
+    49,
+    50,
+    51,
+    52,
+    53,
+    54,
 ];
 
 // How many rows each macrocell field has.
@@ -88,17 +88,25 @@ const BLOCK_ROW: [u32; 6] = [67, 67, 68, 11, 68, 68];
 
 const BLOCK_COLUMN: [u32; 6] = [0, 1, 6, 3, 3, 0];
 
+// The first row of a macrocell field.
+pub fn first_row(index: u32) -> u32
+    requires { ⌜ index < macrocellFields ⌝ }
+    ensures { λ r. ⌜ r ≡ firstRow (macrocellFieldAt index) ⌝ }
+{
+    FIRST_ROW[index as usize]
+}
+
 // The row of a bit of a macrocell field.
-pub fn row_of(index: u32, bit: u32) -> u32
-    requires { ⌜ (index < 27) × (bit < rows (macrocellFieldAt index)) ⌝ }
+fn row_of(index: u32, bit: u32) -> u32
+    requires { ⌜ (index < macrocellFields) × (bit < rows (macrocellFieldAt index)) ⌝ }
     ensures { λ r. ⌜ r ≡ firstRow (macrocellFieldAt index) + bit ⌝ }
 {
-    ROW_OF_BIT[index as usize][bit as usize] as u32
+    first_row(index) + bit
 }
 
 // How many rows a macrocell field has.
 fn rows_of(index: u32) -> u32
-    requires { ⌜ index < 27 ⌝ }
+    requires { ⌜ index < macrocellFields ⌝ }
     ensures { λ r. ⌜ r ≡ rows (macrocellFieldAt index) ⌝ }
 {
     ROWS[index as usize]
@@ -153,14 +161,14 @@ fn row_in_pair(polarity: Polarity) -> u32
 }
 
 fn literal_row(input: u32, polarity: Polarity) -> u32
-    requires { ⌜ input < 36 ⌝ }
+    requires { ⌜ input < inputs ⌝ }
     ensures { λ r. ⌜ r ≡ literalRow input polarity ⌝ }
 {
     2 * input + row_in_pair(polarity)
 }
 
 fn literal_place(block: u32, macrocell: u32, term: u32, input: u32, polarity: Polarity) -> Place
-    requires { ⌜ (term < 5) × (input < 36) ⌝ }
+    requires { ⌜ (term < terms) × (input < inputs) ⌝ }
     ensures { λ r. ⌜ r ≡ placeOf (Literal block macrocell term input polarity) 0 ⌝ }
 {
     let row = literal_row(input, polarity);

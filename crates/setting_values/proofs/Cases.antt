@@ -5,7 +5,7 @@ use Rattle.part.specs.Device.{known}
 use Rattle.settings.specs.Settings.{hasSetting}
 use Rattle.setting_places.specs.Places.{bitsOf}
 use Rattle.values.specs.Values.{named, fclkMuxes, smallFoeMuxes, largeFoeMuxes}
-use Rattle.values.specs.Patterns.{same, candidate, patternIn}
+use Rattle.patterns.specs.Patterns.{same, candidate, patternIn}
 use Rattle.setting_values.specs.Kinds.{kindOf}
 use Rattle.setting_values.specs.Operations.{valueOfPattern, patternOfValue}
 use Rattle.part.specs.Cases.{twoSmall}

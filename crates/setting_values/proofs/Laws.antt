@@ -25,11 +25,12 @@ pub use Rattle.setting_values.proofs.Cases.{values, values-of-large, us
 use Rattle.settings.specs.declared.Setting.the-variants.{Global}
 use Rattle.setting_places.specs.Places.{bitsOf}
 use Rattle.values.specs.Values.{valueIn, bitsIn, bits2, named, smallFoeMuxes, largeFoeMuxes, goe}
-use Rattle.values.specs.Patterns.{patternIn}
+use Rattle.patterns.specs.Patterns.{patternIn}
 use Rattle.values.specs.declared.Value.{Value}
 use Rattle.values.specs.declared.Value.the-variants as value
 use Rattle.values.specs.declared.Kind.the-variants as kind
 use Rattle.values.proofs.Laws as values
+use Rattle.patterns.proofs.Laws as patterns
 use Rattle.setting_values.specs.Kinds.{kindOf, valueOf}
 use Rattle.setting_values.specs.Operations.{valueOfPattern, patternOfValue, ifPattern}
 use Rattle.setting_values.proofs.Widths.{kind-bits}
@@ -46,17 +47,17 @@ values-to d s p v e =
     let fits = passed (ltb p (2 ^ bitsOf s)) _ 5 0 (inner .1) in
     let bits = kind-bits d s (inner .0) in
     let below : p < 2 ^ bitsIn (kindOf d s) = rw bits (ltb-true _ _ (fits .0)) in
-    let its : patternIn (kindOf d s) v ≡ some p = values.pattern-iff (kindOf d s) v p .1 (below, result (fits .1)) in
-    rw (outer .0, inner .0, its)
+    let pattern : patternIn (kindOf d s) v ≡ some p = patterns.pattern-iff (kindOf d s) v p .1 (below, result (fits .1)) in
+    rw (outer .0, inner .0, pattern)
 
 values-from : (d : Device) (s : Setting) (p : ℕ) (v : Value) → patternOfValue d s v ≡ accepted p → valueOfPattern d s p ≡ accepted v
 unfolding valueOfPattern patternOfValue
 values-from d s p v e =
     let outer = passed (known d) _ 1 0 e in
     let inner = passed (hasSetting d s) _ 4 0 (outer .1) in
-    let its = values.pattern-iff (kindOf d s) v p .0 (found (patternIn (kindOf d s) v) p (inner .1)) in
-    let below : p < 2 ^ bitsOf s = rw (← kind-bits d s (inner .0)) (its .0) in
-    rw (outer .0, inner .0, lt-ltb p (2 ^ bitsOf s) below, its .1)
+    let stands = patterns.pattern-iff (kindOf d s) v p .0 (found (patternIn (kindOf d s) v) p (inner .1)) in
+    let below : p < 2 ^ bitsOf s = rw (← kind-bits d s (inner .0)) (stands .0) in
+    rw (outer .0, inner .0, lt-ltb p (2 ^ bitsOf s) below, stands .1)
 
 pub values-inverse : (d : Device) (s : Setting) (p : ℕ) (v : Value)
     → (valueOfPattern d s p ≡ accepted v) ↔ (patternOfValue d s v ≡ accepted p)

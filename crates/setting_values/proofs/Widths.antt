@@ -15,7 +15,8 @@ use Rattle.settings.specs.declared.GlobalField.{GlobalField}
 use Rattle.settings.specs.declared.GlobalField.the-variants.{FsrInv, FclkInv, FoeInv, FclkMux, FoeMux, Usercode}
 use Rattle.settings.specs.declared.Setting.{Setting}
 use Rattle.settings.specs.declared.Setting.the-variants.{Literal, WireAnd, Macrocell, Block, Global}
-use Rattle.settings.proofs.Numbering.{macrocell-at, has-macrocell}
+use Rattle.settings.proofs.FieldIndices.{macrocell-at}
+use Rattle.settings.proofs.CodeNumbers.{has-macrocell}
 use Rattle.setting_places.specs.Places.{rows, globalBits, bitsOf}
 use Rattle.values.specs.Values.{bitsIn}
 use Rattle.setting_values.specs.Kinds.{macrocellKind, globalKind, kindOf}

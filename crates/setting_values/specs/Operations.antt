@@ -12,7 +12,7 @@ use Rattle.part.specs.declared.Device.{Device}
 use Rattle.settings.specs.Operations.{ifSetting}
 use Rattle.settings.specs.declared.Setting.{Setting}
 use Rattle.setting_places.specs.Places.{bitsOf}
-use Rattle.values.specs.Patterns.{patternIn}
+use Rattle.patterns.specs.Patterns.{patternIn}
 use Rattle.values.specs.declared.Value.{Value}
 use Rattle.setting_values.specs.Kinds.{kindOf, valueOf}
 use Rattle.setting_values.specs.declared.ValueAnswer.{ValueAnswer}

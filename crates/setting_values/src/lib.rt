@@ -6,9 +6,9 @@ ghost use Rattle.setting_values.specs.Operations.{valueOutcome, valueOfP
 use part::Device;
 use part::NumberAnswer;
 use part::Refusal;
+use patterns::Found;
 use settings::Setting;
 use values::Value;
-use values::patterns::Found;
 
 pub mod kinds;
 
@@ -29,7 +29,7 @@ pub fn value_of_pattern(d: Device, s: Setting, pattern: u32) -> ValueAnswer
     }
     let kind = kinds::kind_of(d, s);
     let bits = values::lists::bits_in(kind);
-    if !values::patterns::fits(bits, pattern) {
+    if !patterns::of_values::fits(bits, pattern) {
         return ValueAnswer::Refused(Refusal::NoSuchValue);
     }
     ValueAnswer::Value(values::lists::value_in(kind, pattern))
@@ -46,7 +46,7 @@ pub fn pattern_of_value(d: Device, s: Setting, v: Value) -> NumberAnswer
         return NumberAnswer::Refused(Refusal::NoSuchSetting);
     }
     let kind = kinds::kind_of(d, s);
-    let found = values::patterns::pattern_in(kind, v);
+    let found = patterns::of_values::pattern_in(kind, v);
     match found {
         Found::Pattern(pattern) => NumberAnswer::Number(pattern),
         Found::NoSuchValue => NumberAnswer::Refused(Refusal::NoSuchValue),

@@ -18,7 +18,7 @@ use Rattle.settings.specs.Order.{countOf, numberOf, settingOf}
 use Rattle.settings.specs.Operations.{settingOfNumber, numberOfSetting}
 use Rattle.settings.specs.declared.Setting.{Setting}
 use Rattle.settings.proofs.Numbering.{number-below, setting-inverse, number-inverse}
-pub use Rattle.settings.proofs.Numbering.{listing-order}
+pub use Rattle.settings.proofs.ListingOrder.{listing-order}
 pub use Rattle.settings.proofs.Cases.{numbers, numbers-of-large, counts}
 
 -- A setting of a known device, and its number.
@@ -27,8 +27,8 @@ unfolding settingOfNumber numberOfSetting
 numbers-to d x s e =
     let outer = passed (known d) _ 1 0 e in
     let inner = passed (ltb x (countOf d)) _ 4 0 (outer .1) in
-    let again = number-inverse d x (ltb-true x (countOf d) (inner .0)) in
-    rw (outer .0, ← result (inner .1), again .0, again .1)
+    let inverse = number-inverse d x (ltb-true x (countOf d) (inner .0)) in
+    rw (outer .0, ← result (inner .1), inverse .0, inverse .1)
 
 numbers-from : (d : Device) (x : ℕ) (s : Setting) → numberOfSetting d s ≡ accepted x → settingOfNumber d x ≡ accepted s
 unfolding settingOfNumber numberOfSetting

@@ -4,7 +4,7 @@ ghost use mathlib.Core.Path.{_≡_};
 ghost use Prim.Native.Nat.{_<_, _≤_};
 ghost use Rattle.settings.specs.Settings.{hasSetting};
 ghost use Rattle.settings.specs.Fields.{foes, listed, polarityIndex, macrocellIndex, blockIndex, globalFields};
-ghost use Rattle.settings.specs.Fields.{globalIndex};
+ghost use Rattle.settings.specs.Fields.{macrocellFields, globalIndex};
 ghost use Rattle.settings.specs.Order.{polarityAt, macrocellFieldAt, blockFieldAt};
 ghost use Rattle.settings.specs.Order.{globalFieldAt};
 ghost use Rattle.settings.specs.declared.GlobalField.the-variants.{Usercode};
@@ -167,7 +167,7 @@ pub fn polarity_at(x: u32) -> Polarity
 }
 
 pub fn macrocell_field_at(x: u32) -> MacrocellField
-    requires { ⌜ x < 27 ⌝ }
+    requires { ⌜ x < macrocellFields ⌝ }
     ensures { λ r. ⌜ r ≡ macrocellFieldAt x ⌝ }
 {
     if x < 5 {
@@ -176,76 +176,38 @@ pub fn macrocell_field_at(x: u32) -> MacrocellField
     if 21 < x {
         return MacrocellField::Hp(x - 22);
     }
-    if x == 5 {
-        return MacrocellField::Inv;
+    match x {
+        5 => MacrocellField::Inv,
+        6 => MacrocellField::ImportUpAlloc,
+        7 => MacrocellField::ImportDownAlloc,
+        8 => MacrocellField::ExportDir,
+        9 => MacrocellField::SumHp,
+        10 => MacrocellField::IobOeMux,
+        11 => MacrocellField::OeMux,
+        12 => MacrocellField::OutMux,
+        13 => MacrocellField::ClkMux,
+        14 => MacrocellField::RegMode,
+        15 => MacrocellField::RstMux,
+        16 => MacrocellField::SetMux,
+        17 => MacrocellField::Init,
+        18 => MacrocellField::UimOeMux,
+        19 => MacrocellField::UimOutInv,
+        20 => MacrocellField::IobGnd,
+        _ => MacrocellField::IobSlew,
     }
-    if x == 6 {
-        return MacrocellField::ImportUpAlloc;
-    }
-    if x == 7 {
-        return MacrocellField::ImportDownAlloc;
-    }
-    if x == 8 {
-        return MacrocellField::ExportDir;
-    }
-    if x == 9 {
-        return MacrocellField::SumHp;
-    }
-    if x == 10 {
-        return MacrocellField::IobOeMux;
-    }
-    if x == 11 {
-        return MacrocellField::OeMux;
-    }
-    if x == 12 {
-        return MacrocellField::OutMux;
-    }
-    if x == 13 {
-        return MacrocellField::ClkMux;
-    }
-    if x == 14 {
-        return MacrocellField::RegMode;
-    }
-    if x == 15 {
-        return MacrocellField::RstMux;
-    }
-    if x == 16 {
-        return MacrocellField::SetMux;
-    }
-    if x == 17 {
-        return MacrocellField::Init;
-    }
-    if x == 18 {
-        return MacrocellField::UimOeMux;
-    }
-    if x == 19 {
-        return MacrocellField::UimOutInv;
-    }
-    if x == 20 {
-        return MacrocellField::IobGnd;
-    }
-    MacrocellField::IobSlew
 }
 
 pub fn block_field_at(x: u32) -> BlockField
     ensures { λ r. ⌜ r ≡ blockFieldAt x ⌝ }
 {
-    if x == 0 {
-        return BlockField::Enable;
+    match x {
+        0 => BlockField::Enable,
+        1 => BlockField::ExportEnable,
+        2 => BlockField::PullupDisable,
+        3 => BlockField::ReadProtA,
+        4 => BlockField::ReadProtB,
+        _ => BlockField::WriteProt,
     }
-    if x == 1 {
-        return BlockField::ExportEnable;
-    }
-    if x == 2 {
-        return BlockField::PullupDisable;
-    }
-    if x == 3 {
-        return BlockField::ReadProtA;
-    }
-    if x == 4 {
-        return BlockField::ReadProtB;
-    }
-    BlockField::WriteProt
 }
 
 pub fn global_field_at(d: Device, x: u32) -> GlobalField

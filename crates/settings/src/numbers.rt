@@ -9,7 +9,10 @@ ghost use Rattle.settings.specs.Order.{start, countOf, numberOf};
 ghost use Rattle.settings.specs.Order.{inGroup, settingOf};
 ghost use Rattle.settings.specs.Order.Group.{literals, wireAnds, macrocellSettings, blockSettings, globals};
 ghost use Rattle.settings.specs.declared.GlobalField.the-variants.{Usercode};
-ghost use Rattle.settings.specs.declared.Setting.the-variants.{Literal, Global};
+ghost use Rattle.settings.specs.declared.Setting.the-variants.{Literal, WireAnd, Macrocell, Block, Global};
+use super::BlockField;
+use super::GlobalField;
+use super::MacrocellField;
 use super::Polarity;
 use super::Setting;
 use super::SettingNumber;
@@ -81,6 +84,58 @@ pub fn number_of_usercode(d: Device) -> u32
     count_of(d) - 1
 }
 
+// The number of a setting of each group.
+fn literal_number(
+    d: Device,
+    block: u32,
+    macrocell: u32,
+    term: u32,
+    input: u32,
+    polarity: Polarity,
+) -> u32
+    requires { ⌜ (known d ≡ true) × (hasSetting d (Literal block macrocell term input polarity) ≡ true) ⌝ }
+    ensures { λ r. ⌜ r ≡ numberOf d (Literal block macrocell term input polarity) ⌝ }
+{
+    let p = polarity_index(polarity);
+    let in_macrocell = term * TERM_LITERALS + (input * 2 + p);
+    block * BLOCK_LITERALS + (macrocell * MACROCELL_LITERALS + in_macrocell)
+}
+
+fn wire_and_number(d: Device, block: u32, input: u32, source: u32, macrocell: u32) -> u32
+    requires { ⌜ (known d ≡ true) × (hasSetting d (WireAnd block input source macrocell) ≡ true) ⌝ }
+    ensures { λ r. ⌜ r ≡ numberOf d (WireAnd block input source macrocell) ⌝ }
+{
+    let n = part::geometry::blocks_of(d);
+    let in_input = source * MACROCELLS + macrocell;
+    let in_block = input * (n * MACROCELLS) + in_input;
+    start_of_wire_ands(d) + (block * (INPUTS * (n * MACROCELLS)) + in_block)
+}
+
+fn macrocell_number(d: Device, block: u32, macrocell: u32, field: MacrocellField) -> u32
+    requires { ⌜ (known d ≡ true) × (hasSetting d (Macrocell block macrocell field) ≡ true) ⌝ }
+    ensures { λ r. ⌜ r ≡ numberOf d (Macrocell block macrocell field) ⌝ }
+{
+    let index = macrocell_index(field);
+    let in_block = macrocell * MACROCELL_FIELDS + index;
+    start_of_macrocells(d) + (block * (MACROCELLS * MACROCELL_FIELDS) + in_block)
+}
+
+fn block_number(d: Device, block: u32, field: BlockField) -> u32
+    requires { ⌜ (known d ≡ true) × (hasSetting d (Block block field) ≡ true) ⌝ }
+    ensures { λ r. ⌜ r ≡ numberOf d (Block block field) ⌝ }
+{
+    let index = block_index(field);
+    start_of_blocks(d) + (block * BLOCK_FIELDS + index)
+}
+
+fn global_number(d: Device, field: GlobalField) -> u32
+    requires { ⌜ (known d ≡ true) × (hasSetting d (Global field) ≡ true) ⌝ }
+    ensures { λ r. ⌜ r ≡ numberOf d (Global field) ⌝ }
+{
+    let index = global_index(d, field);
+    start_of_globals(d) + index
+}
+
 // The number of a setting.
 pub fn number_of(d: Device, s: Setting) -> SettingNumber
     requires { ⌜ (known d ≡ true) × (hasSetting d s ≡ true) ⌝ }
@@ -93,41 +148,20 @@ pub fn number_of(d: Device, s: Setting) -> SettingNumber
             term,
             input,
             polarity,
-        } => {
-            let p = polarity_index(polarity);
-            let in_macrocell = term * TERM_LITERALS + (input * 2 + p);
-            SettingNumber(block * BLOCK_LITERALS + (macrocell * MACROCELL_LITERALS + in_macrocell))
-        }
+        } => SettingNumber(literal_number(d, block, macrocell, term, input, polarity)),
         Setting::WireAnd {
             block,
             input,
             source,
             macrocell,
-        } => {
-            let n = part::geometry::blocks_of(d);
-            let in_input = source * MACROCELLS + macrocell;
-            let in_block = input * (n * MACROCELLS) + in_input;
-            SettingNumber(start_of_wire_ands(d) + (block * (INPUTS * (n * MACROCELLS)) + in_block))
-        }
+        } => SettingNumber(wire_and_number(d, block, input, source, macrocell)),
         Setting::Macrocell {
             block,
             macrocell,
             field,
-        } => {
-            let index = macrocell_index(field);
-            let in_block = macrocell * MACROCELL_FIELDS + index;
-            SettingNumber(
-                start_of_macrocells(d) + (block * (MACROCELLS * MACROCELL_FIELDS) + in_block),
-            )
-        }
-        Setting::Block { block, field } => {
-            let index = block_index(field);
-            SettingNumber(start_of_blocks(d) + (block * BLOCK_FIELDS + index))
-        }
-        Setting::Global(field) => {
-            let index = global_index(d, field);
-            SettingNumber(start_of_globals(d) + index)
-        }
+        } => SettingNumber(macrocell_number(d, block, macrocell, field)),
+        Setting::Block { block, field } => SettingNumber(block_number(d, block, field)),
+        Setting::Global(field) => SettingNumber(global_number(d, field)),
     }
 }
 

@@ -1,7 +1,7 @@
 -- A choice by a test.
 -- Assumes nothing.
 use mathlib.Core.Path.{_≡_}
-use mathlib.Core.Bool.{Bool, true, false, cond}
+use mathlib.Core.Bool.{cond}
 use Prim.Native.Nat.{ℕ}
 use lib.Dec.{eqb}
 use borrow.Author.Tests.{eq-eqb, ne-eqb}
@@ -12,8 +12,3 @@ equal a b x y h = rw (eq-eqb a b h)
 
 pub unequal : {A : Type 0} (a b : ℕ) (x y r : A) → (a ≡ b → ⊥) → r ≡ y → r ≡ cond (eqb a b) x y
 unequal a b x y r h e = rw (ne-eqb a b h) e
-
--- What holds of both choices holds of the choice.
-pub of-both : {A : Type 0} (P : A → Type 0) (t : Bool) {x y : A} → P x → P y → P (cond t x y)
-of-both P true p q = p
-of-both P false p q = q

@@ -1,7 +1,6 @@
 // The values of settings, by document 003's names, and the kinds of settings: which of 003's assignment lists applies.
-// What they stand for is in `lists` and `patterns`; the definitions that their contracts cite are in specs/.
+// What each pattern stands for is in `lists`; the definitions that its contracts cite are in specs/.
 pub mod lists;
-pub mod patterns;
 
 // The names of document 003's assignment lists, in its order.
 pub enum TermAlloc {

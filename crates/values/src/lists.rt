@@ -3,7 +3,9 @@
 ghost use mathlib.Core.Path.{_≡_};
 ghost use mathlib.Core.Bool.{cond};
 ghost use mathlib.Core.List.{[], _∷_};
-ghost use Rattle.values.specs.Values.{named, oeMuxes, fclkMuxes, smallFoeMuxes, largeFoeMuxes, bitsIn, valueIn};
+ghost use Rattle.values.specs.Values.{named, flags, termAllocs, importAllocs, exportDirs, iobOeMuxes, outMuxes};
+ghost use Rattle.values.specs.Values.{oeMuxes, clkMuxes, regModes, rstSetMuxes, uimOeMuxes, iobSlews};
+ghost use Rattle.values.specs.Values.{fclkMuxes, smallFoeMuxes, largeFoeMuxes, bitsIn, valueIn};
 use super::ClkMux;
 use super::ExportDir;
 use super::FclkMux;
@@ -20,46 +22,83 @@ use super::TermAlloc;
 use super::UimOeMux;
 use super::Value;
 
-// The value of a pattern by a list of two names, for 1 and 0.
-fn of_two(pattern: u32, v1: Value, v0: Value) -> Value
-    ensures { λ r. ⌜ r ≡ named ((1, v1) ∷ (0, v0) ∷ []) pattern ⌝ }
+// The lists of document 003, each by its patterns in its order. A flag is true at the state 0.
+fn flag(pattern: u32) -> Value
+    ensures { λ r. ⌜ r ≡ named flags pattern ⌝ }
 {
+    if 1 < pattern {
+        return Value::Unassigned(pattern);
+    }
+    Value::Flag(pattern == 0)
+}
+
+fn term_alloc(pattern: u32) -> Value
+    ensures { λ r. ⌜ r ≡ named termAllocs pattern ⌝ }
+{
+    if pattern == 3 {
+        return Value::TermAlloc(TermAlloc::None);
+    }
+    if pattern == 2 {
+        return Value::TermAlloc(TermAlloc::Sum);
+    }
     if pattern == 1 {
-        return v1;
+        return Value::TermAlloc(TermAlloc::Export);
     }
     if pattern == 0 {
-        return v0;
+        return Value::TermAlloc(TermAlloc::Special);
     }
     Value::Unassigned(pattern)
 }
 
-// The value of a pattern by a list of three names, for 11, 10 and 01.
-fn of_three(pattern: u32, v3: Value, v2: Value, v1: Value) -> Value
-    ensures { λ r. ⌜ r ≡ named ((3, v3) ∷ (2, v2) ∷ (1, v1) ∷ []) pattern ⌝ }
+fn import_alloc(pattern: u32) -> Value
+    ensures { λ r. ⌜ r ≡ named importAllocs pattern ⌝ }
+{
+    if pattern == 1 {
+        return Value::ImportAlloc(ImportAlloc::Export);
+    }
+    if pattern == 0 {
+        return Value::ImportAlloc(ImportAlloc::Sum);
+    }
+    Value::Unassigned(pattern)
+}
+
+fn export_dir(pattern: u32) -> Value
+    ensures { λ r. ⌜ r ≡ named exportDirs pattern ⌝ }
+{
+    if pattern == 1 {
+        return Value::ExportDir(ExportDir::Up);
+    }
+    if pattern == 0 {
+        return Value::ExportDir(ExportDir::Down);
+    }
+    Value::Unassigned(pattern)
+}
+
+fn iob_oe_mux(pattern: u32) -> Value
+    ensures { λ r. ⌜ r ≡ named iobOeMuxes pattern ⌝ }
 {
     if pattern == 3 {
-        return v3;
+        return Value::IobOeMux(IobOeMux::Gnd);
     }
     if pattern == 2 {
-        return v2;
+        return Value::IobOeMux(IobOeMux::OeMux);
     }
     if pattern == 1 {
-        return v1;
+        return Value::IobOeMux(IobOeMux::Vcc);
     }
     Value::Unassigned(pattern)
 }
 
-// The value of a pattern by a list of four names, for 11, 10, 01 and 00.
-fn of_four(pattern: u32, v3: Value, v2: Value, v1: Value, v0: Value) -> Value
-    ensures { λ r. ⌜ r ≡ named ((3, v3) ∷ (2, v2) ∷ (1, v1) ∷ (0, v0) ∷ []) pattern ⌝ }
+fn out_mux(pattern: u32) -> Value
+    ensures { λ r. ⌜ r ≡ named outMuxes pattern ⌝ }
 {
-    if pattern == 3 {
-        return v3;
+    if pattern == 1 {
+        return Value::OutMux(OutMux::Comb);
     }
-    if pattern == 2 {
-        return v2;
+    if pattern == 0 {
+        return Value::OutMux(OutMux::Ff);
     }
-    of_two(pattern, v1, v0)
+    Value::Unassigned(pattern)
 }
 
 fn oe_mux(pattern: u32) -> Value
@@ -83,29 +122,106 @@ fn oe_mux(pattern: u32) -> Value
     Value::Unassigned(pattern)
 }
 
+fn clk_mux(pattern: u32) -> Value
+    ensures { λ r. ⌜ r ≡ named clkMuxes pattern ⌝ }
+{
+    if pattern == 3 {
+        return Value::ClkMux(ClkMux::Fclk1);
+    }
+    if pattern == 2 {
+        return Value::ClkMux(ClkMux::Fclk2);
+    }
+    if pattern == 1 {
+        return Value::ClkMux(ClkMux::Fclk0);
+    }
+    if pattern == 0 {
+        return Value::ClkMux(ClkMux::Pt);
+    }
+    Value::Unassigned(pattern)
+}
+
+fn reg_mode(pattern: u32) -> Value
+    ensures { λ r. ⌜ r ≡ named regModes pattern ⌝ }
+{
+    if pattern == 1 {
+        return Value::RegMode(RegMode::Dff);
+    }
+    if pattern == 0 {
+        return Value::RegMode(RegMode::Tff);
+    }
+    Value::Unassigned(pattern)
+}
+
+fn rst_set_mux(pattern: u32) -> Value
+    ensures { λ r. ⌜ r ≡ named rstSetMuxes pattern ⌝ }
+{
+    if pattern == 1 {
+        return Value::RstSetMux(RstSetMux::Pt);
+    }
+    if pattern == 0 {
+        return Value::RstSetMux(RstSetMux::Fsr);
+    }
+    Value::Unassigned(pattern)
+}
+
+fn uim_oe_mux(pattern: u32) -> Value
+    ensures { λ r. ⌜ r ≡ named uimOeMuxes pattern ⌝ }
+{
+    if pattern == 3 {
+        return Value::UimOeMux(UimOeMux::OeMux);
+    }
+    if pattern == 2 {
+        return Value::UimOeMux(UimOeMux::Gnd);
+    }
+    if pattern == 1 {
+        return Value::UimOeMux(UimOeMux::Vcc);
+    }
+    Value::Unassigned(pattern)
+}
+
+fn iob_slew(pattern: u32) -> Value
+    ensures { λ r. ⌜ r ≡ named iobSlews pattern ⌝ }
+{
+    if pattern == 1 {
+        return Value::IobSlew(IobSlew::Slow);
+    }
+    if pattern == 0 {
+        return Value::IobSlew(IobSlew::Fast);
+    }
+    Value::Unassigned(pattern)
+}
+
 // A list of FCLK.MUX or FOE.MUX: 11 is NONE, and the names for 10 and 01.
 fn fclk_list(pattern: u32, v2: FclkMux, v1: FclkMux) -> Value
     ensures { λ r.
         ⌜ r ≡ named ((3, Value.FclkMux FclkMux.None) ∷ (2, Value.FclkMux v2) ∷ (1, Value.FclkMux v1) ∷ []) pattern ⌝ }
 {
-    of_three(
-        pattern,
-        Value::FclkMux(FclkMux::None),
-        Value::FclkMux(v2),
-        Value::FclkMux(v1),
-    )
+    if pattern == 3 {
+        return Value::FclkMux(FclkMux::None);
+    }
+    if pattern == 2 {
+        return Value::FclkMux(v2);
+    }
+    if pattern == 1 {
+        return Value::FclkMux(v1);
+    }
+    Value::Unassigned(pattern)
 }
 
 fn foe_list(pattern: u32, v2: FoeMux, v1: FoeMux) -> Value
     ensures { λ r.
         ⌜ r ≡ named ((3, Value.FoeMux FoeMux.None) ∷ (2, Value.FoeMux v2) ∷ (1, Value.FoeMux v1) ∷ []) pattern ⌝ }
 {
-    of_three(
-        pattern,
-        Value::FoeMux(FoeMux::None),
-        Value::FoeMux(v2),
-        Value::FoeMux(v1),
-    )
+    if pattern == 3 {
+        return Value::FoeMux(FoeMux::None);
+    }
+    if pattern == 2 {
+        return Value::FoeMux(v2);
+    }
+    if pattern == 1 {
+        return Value::FoeMux(v1);
+    }
+    Value::Unassigned(pattern)
 }
 
 fn fclk_mux(c: u32, pattern: u32) -> Value
@@ -158,64 +274,18 @@ pub fn value_in(kind: Kind, pattern: u32) -> Value
     ensures { λ r. ⌜ r ≡ valueIn kind pattern ⌝ }
 {
     match kind {
-        Kind::Flag => of_two(pattern, Value::Flag(false), Value::Flag(true)),
-        Kind::TermAlloc => of_four(
-            pattern,
-            Value::TermAlloc(TermAlloc::None),
-            Value::TermAlloc(TermAlloc::Sum),
-            Value::TermAlloc(TermAlloc::Export),
-            Value::TermAlloc(TermAlloc::Special),
-        ),
-        Kind::ImportAlloc => of_two(
-            pattern,
-            Value::ImportAlloc(ImportAlloc::Export),
-            Value::ImportAlloc(ImportAlloc::Sum),
-        ),
-        Kind::ExportDir => of_two(
-            pattern,
-            Value::ExportDir(ExportDir::Up),
-            Value::ExportDir(ExportDir::Down),
-        ),
-        Kind::IobOeMux => of_three(
-            pattern,
-            Value::IobOeMux(IobOeMux::Gnd),
-            Value::IobOeMux(IobOeMux::OeMux),
-            Value::IobOeMux(IobOeMux::Vcc),
-        ),
-        Kind::OutMux => of_two(
-            pattern,
-            Value::OutMux(OutMux::Comb),
-            Value::OutMux(OutMux::Ff),
-        ),
+        Kind::Flag => flag(pattern),
+        Kind::TermAlloc => term_alloc(pattern),
+        Kind::ImportAlloc => import_alloc(pattern),
+        Kind::ExportDir => export_dir(pattern),
+        Kind::IobOeMux => iob_oe_mux(pattern),
+        Kind::OutMux => out_mux(pattern),
         Kind::OeMux => oe_mux(pattern),
-        Kind::ClkMux => of_four(
-            pattern,
-            Value::ClkMux(ClkMux::Fclk1),
-            Value::ClkMux(ClkMux::Fclk2),
-            Value::ClkMux(ClkMux::Fclk0),
-            Value::ClkMux(ClkMux::Pt),
-        ),
-        Kind::RegMode => of_two(
-            pattern,
-            Value::RegMode(RegMode::Dff),
-            Value::RegMode(RegMode::Tff),
-        ),
-        Kind::RstSetMux => of_two(
-            pattern,
-            Value::RstSetMux(RstSetMux::Pt),
-            Value::RstSetMux(RstSetMux::Fsr),
-        ),
-        Kind::UimOeMux => of_three(
-            pattern,
-            Value::UimOeMux(UimOeMux::OeMux),
-            Value::UimOeMux(UimOeMux::Gnd),
-            Value::UimOeMux(UimOeMux::Vcc),
-        ),
-        Kind::IobSlew => of_two(
-            pattern,
-            Value::IobSlew(IobSlew::Slow),
-            Value::IobSlew(IobSlew::Fast),
-        ),
+        Kind::ClkMux => clk_mux(pattern),
+        Kind::RegMode => reg_mode(pattern),
+        Kind::RstSetMux => rst_set_mux(pattern),
+        Kind::UimOeMux => uim_oe_mux(pattern),
+        Kind::IobSlew => iob_slew(pattern),
         Kind::FclkMux(c) => fclk_mux(c, pattern),
         Kind::FoeMux { e, large } => foe_mux(e, large, pattern),
         Kind::Usercode => Value::Usercode(!pattern),

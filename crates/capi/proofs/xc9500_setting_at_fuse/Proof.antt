@@ -10,11 +10,11 @@ use Rattle.part.specs.declared.Refusal.{Refusal}
 use Rattle.settings.specs.Settings.{hasSetting}
 use Rattle.settings.specs.Order.{numberOf}
 use Rattle.settings.specs.declared.Setting.{Setting}
-use Rattle.setting_places.specs.Answer.{namedOutcome}
-use Rattle.setting_places.specs.Operations.{settingAtFuse}
-use Rattle.setting_places.specs.declared.NamedAnswer.{NamedAnswer}
-use Rattle.setting_places.specs.declared.NamedAnswer.the-variants as named
-use Rattle.setting_places.proofs.Laws.{at-fuse-has}
+use Rattle.fuse_settings.specs.Answer.{namedOutcome}
+use Rattle.fuse_settings.specs.Operations.{settingAtFuse}
+use Rattle.fuse_settings.specs.declared.NamedAnswer.{NamedAnswer}
+use Rattle.fuse_settings.specs.declared.NamedAnswer.the-variants as named
+use Rattle.fuse_settings.proofs.Laws.{at-fuse-has}
 use Rattle.capi.specs.Packed.{packed, refusalWord, orNone, settingAndBit}
 use borrow.Author.Needs.{needs}
 use Rattle.capi.proofs.xc9500_setting_at_fuse.Statement.{statement}

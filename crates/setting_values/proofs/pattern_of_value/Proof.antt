@@ -10,11 +10,11 @@ use Rattle.part.proofs.Devices.{is-known, is-unknown}
 use Rattle.settings.specs.Settings.{hasSetting}
 use Rattle.settings.specs.declared.Setting.{Setting}
 use Rattle.settings.proofs.Asked.{has, has-not}
-use Rattle.values.specs.Patterns.{patternIn, foundPattern}
+use Rattle.patterns.specs.Patterns.{patternIn, foundPattern}
 use Rattle.values.specs.declared.Value.{Value}
 use Rattle.values.specs.declared.Kind.{Kind}
-use Rattle.values.specs.declared.patterns.Found.{Found}
-use Rattle.values.specs.declared.patterns.Found.the-variants.{Pattern, NoSuchValue}
+use Rattle.patterns.specs.declared.Found.{Found}
+use Rattle.patterns.specs.declared.Found.the-variants.{Pattern, NoSuchValue}
 use Rattle.setting_values.specs.Kinds.{kindOf}
 use Rattle.setting_values.specs.Operations.{patternOfValue}
 use borrow.Author.Needs.{needs}
@@ -31,16 +31,16 @@ no-setting d s v k h = rw (k, h)
 
 module _ (d : Device) (s : Setting) (v : Value) (kd : Kind) (o : Found)
     (k : known d ≡ true) (h : hasSetting d s ≡ true) (e : kd ≡ kindOf d s) (g : foundPattern o ≡ patternIn kd v) where
-  its : patternIn (kindOf d s) v ≡ foundPattern o
-  its = ap (λ (x : Kind). patternIn x v) (sym e) ∙ sym g
+  found-in-kind : patternIn (kindOf d s) v ≡ foundPattern o
+  found-in-kind = ap (λ (x : Kind). patternIn x v) (sym e) ∙ sym g
 
   the-pattern : (p : ℕ) → o ≡ Pattern p → accepted p ≡ patternOfValue d s v
   unfolding patternOfValue
-  the-pattern p f = rw (k, h, its, f)
+  the-pattern p f = rw (k, h, found-in-kind, f)
 
   no-value : o ≡ NoSuchValue → refused 5 0 ≡ patternOfValue d s v
   unfolding patternOfValue
-  no-value f = rw (k, h, its, f)
+  no-value f = rw (k, h, found-in-kind, f)
 
 is-known-requires : tie.Need-is-known-requires
 is-known-requires c κs = search needs

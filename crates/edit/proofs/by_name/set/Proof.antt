@@ -18,11 +18,11 @@ use Rattle.part.proofs.Targets.{says}
 use Rattle.settings.specs.Settings.{hasSetting}
 use Rattle.settings.specs.declared.Setting.{Setting}
 use Rattle.settings.proofs.Asked.{has, has-not}
-use Rattle.values.specs.Patterns.{patternIn, foundPattern}
+use Rattle.patterns.specs.Patterns.{patternIn, foundPattern}
 use Rattle.values.specs.declared.Value.{Value}
 use Rattle.values.specs.declared.Kind.{Kind}
-use Rattle.values.specs.declared.patterns.Found.{Found}
-use Rattle.values.specs.declared.patterns.Found.the-variants.{Pattern, NoSuchValue}
+use Rattle.patterns.specs.declared.Found.{Found}
+use Rattle.patterns.specs.declared.Found.the-variants.{Pattern, NoSuchValue}
 use Rattle.setting_values.specs.Kinds.{kindOf}
 use Rattle.setting_bits.specs.declared.Layout.{Layout}
 use Rattle.setting_bits.specs.SettingBits.{bytesOf, withPattern}

@@ -11,7 +11,8 @@ use Rattle.settings.specs.Order.{macrocellFieldAt}
 use Rattle.settings.specs.declared.MacrocellField.{MacrocellField}
 use Rattle.settings.specs.declared.Setting.{Setting}
 use Rattle.settings.specs.declared.Setting.the-variants.{Macrocell}
-use Rattle.settings.proofs.Numbering.{has-macrocell, macrocell-at}
+use Rattle.settings.proofs.CodeNumbers.{has-macrocell}
+use Rattle.settings.proofs.FieldIndices.{macrocell-at}
 use Rattle.setting_places.specs.Places.{rows, bitsOf}
 use borrow.Author.Needs.{needs}
 use Rattle.setting_places.proofs.places.bits_of.Statement.{statement}
@@ -22,9 +23,9 @@ module _ (d : Device) (s : Setting) (block m : ℕ) (f : MacrocellField) (i : �
   there : i < 27
   there = omega (arith, has-macrocell d s h block m f e .2)
 
-  its-rows : (r : ℕ) → r ≡ rows (macrocellFieldAt i) → r ≡ bitsOf s
+  bits-are-rows : (r : ℕ) → r ≡ rows (macrocellFieldAt i) → r ≡ bitsOf s
   unfolding bitsOf
-  its-rows r g = rw e (g ∙ ap rows (ap macrocellFieldAt q ∙ macrocell-at f (has-macrocell d s h block m f e .2)))
+  bits-are-rows r g = rw e (g ∙ ap rows (ap macrocellFieldAt q ∙ macrocell-at f (has-macrocell d s h block m f e .2)))
 
 enum-told : tie.Need-enum-told
 enum-told c = search needs
@@ -59,7 +60,7 @@ unfolding bitsOf
 returns-2 c = search needs
 
 returns-3 : tie.Need-returns-3
-returns-3 c = search (needs, its-rows)
+returns-3 c = search (needs, bits-are-rows)
 
 returns-4 : tie.Need-returns-4
 unfolding bitsOf

@@ -9,7 +9,7 @@ use Rattle.part.specs.declared.Place.{Place}
 use Rattle.settings.specs.Fields.{blockIndex}
 use Rattle.settings.specs.declared.BlockField.{BlockField}
 use Rattle.settings.specs.declared.BlockField.the-variants.{Enable, ExportEnable, PullupDisable, ReadProtA, ReadProtB, WriteProt}
-use Rattle.settings.proofs.Numbering.{block-at}
+use Rattle.settings.proofs.FieldIndices.{block-at}
 use Rattle.setting_places.specs.Places.{main, blockPlace}
 use borrow.Author.Needs.{needs}
 use Rattle.setting_places.proofs.places.block_place.Statement.{statement}

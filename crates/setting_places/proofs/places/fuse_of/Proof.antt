@@ -21,23 +21,23 @@ use Rattle.setting_places.proofs.places.fuse_of.Tie as tie
 
 module _ (d : Device) (s : Setting) (bit : ℕ) (k : known d ≡ true) (h : hasSetting d s ≡ true) (hb : bit < bitsOf s)
     (p : Place) (e : p ≡ placeOf s bit) where
-  its-byte : hasByte d (p .byte) ≡ true
+  byte-there : hasByte d (p .byte) ≡ true
   unfolding hasPlace
-  its-byte = rw e (and-iff _ _ .0 (has-place d s bit k h hb) .0)
+  byte-there = rw e (and-iff _ _ .0 (has-place d s bit k h hb) .0)
 
-  its-fuse : (first : ℕ) → first ≡ firstFuse d (p .byte) → first + p .bit ≡ fuseOf d s bit
+  fuse-there : (first : ℕ) → first ≡ firstFuse d (p .byte) → first + p .bit ≡ fuseOf d s bit
   unfolding fuseOf
-  its-fuse first g = rw (g, e)
+  fuse-there first g = rw (g, e)
 
   below : (first : ℕ) → first ≡ firstFuse d (p .byte) → first + p .bit < 290304
   unfolding fuseOf
-  below first g = rw (its-fuse first g) (omega (arith, fuses-small d k, of-place d (placeOf s bit) (has-place d s bit k h hb) .0))
+  below first g = rw (fuse-there first g) (omega (arith, fuses-small d k, of-place d (placeOf s bit) (has-place d s bit k h hb) .0))
 
 place-of-requires : tie.Need-place-of-requires
 place-of-requires c κs = search needs
 
 first-fuse-requires : tie.Need-first-fuse-requires
-first-fuse-requires c κs = search (needs, its-byte)
+first-fuse-requires c κs = search (needs, byte-there)
 
 add-t7 : tie.Need-add-t7
 add-t7 c = omega (
@@ -49,7 +49,7 @@ add-t7 c = omega (
 )
 
 returns : tie.Need-returns
-returns c = search (needs, its-fuse)
+returns c = search (needs, fuse-there)
 
 pub fuse-of-spec : {M : Type 1} → statement M
 fuse-of-spec = tie.close (tie.spec place-of-requires first-fuse-requires add-t7 returns)

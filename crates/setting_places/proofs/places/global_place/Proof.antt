@@ -7,7 +7,7 @@ use Rattle.part.specs.declared.Device.{Device}
 use Rattle.settings.specs.Fields.{foes, globalFields, globalIndex}
 use Rattle.settings.specs.declared.GlobalField.{GlobalField}
 use Rattle.settings.specs.declared.GlobalField.the-variants.{FclkInv, FoeInv, FclkMux, FoeMux, Usercode}
-use Rattle.settings.proofs.Numbering.{few, numbered}
+use Rattle.settings.proofs.FieldIndices.{few, numbered}
 use Rattle.setting_places.specs.Places.{globalBits}
 use borrow.Author.Needs.{needs}
 use Rattle.setting_places.proofs.places.global_place.Statement.{statement}

@@ -14,9 +14,9 @@ at-most : (p : Polarity) → literalRow 0 p ≤ 1
 at-most P = omega arith
 at-most N = omega arith
 
-its-row : (l r : ℕ) (p : Polarity) → r ≡ literalRow 0 p → 2 * l + r ≡ literalRow l p
-its-row l r P e = omega arith
-its-row l r N e = omega arith
+row-of-input : (l r : ℕ) (p : Polarity) → r ≡ literalRow 0 p → 2 * l + r ≡ literalRow l p
+row-of-input l r P e = omega arith
+row-of-input l r N e = omega arith
 
 mul-result : tie.Need-mul-result
 mul-result c = search needs
@@ -28,7 +28,7 @@ add-result : tie.Need-add-result
 add-result c = omega (arith, c .row-in-pair .ensures, at-most (c .before .args .polarity))
 
 returns : tie.Need-returns
-returns c = search (needs, its-row)
+returns c = search (needs, row-of-input)
 
 pub literal-row-spec : {M : Type 1} → statement M
 literal-row-spec = tie.close (tie.spec mul-result row-in-pair-requires add-result returns)

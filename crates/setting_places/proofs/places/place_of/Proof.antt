@@ -13,7 +13,8 @@ use Rattle.settings.specs.declared.Polarity.{Polarity}
 use Rattle.settings.specs.declared.MacrocellField.{MacrocellField}
 use Rattle.settings.specs.declared.Setting.{Setting}
 use Rattle.settings.specs.declared.Setting.the-variants.{Literal, Macrocell}
-use Rattle.settings.proofs.Numbering.{has-literal, has-macrocell, has-global, macrocell-at}
+use Rattle.settings.proofs.CodeNumbers.{has-literal, has-macrocell, has-global}
+use Rattle.settings.proofs.FieldIndices.{macrocell-at}
 use Rattle.setting_places.specs.Places.{main, firstRow, rows, placeOf, bitsOf}
 use borrow.Author.Needs.{needs}
 use Rattle.setting_places.proofs.places.place_of.Statement.{statement}
@@ -43,8 +44,8 @@ enum-known-s c = search needs
 
 literal-place-requires : tie.Need-literal-place-requires
 literal-place-requires c κs =
-    let its = has-literal (c .before .before .before .args .d) (c .before .before .before .args .s)
-    (c .before .before .before .pre .1) _ _ _ _ _ (c .before .s .given .1) in (its .2, its .3)
+    let there = has-literal (c .before .before .before .args .d) (c .before .before .before .args .s)
+    (c .before .before .before .pre .1) _ _ _ _ _ (c .before .s .given .1) in (there .2, there .3)
 
 enum-known-s-2 : tie.Need-enum-known-s-2
 enum-known-s-2 c = search needs

@@ -12,7 +12,8 @@ use Rattle.settings.specs.Order.Group.{literals, wireAnds}
 use Rattle.settings.specs.declared.Polarity.{Polarity}
 use Rattle.settings.specs.declared.Setting.{Setting}
 use Rattle.settings.specs.declared.Setting.the-variants.{Literal}
-use Rattle.settings.proofs.Numbering.{ends, in-its-group, number-inverse, has-literal}
+use Rattle.settings.proofs.Numbering.{ends, setting-in-group, number-inverse}
+use Rattle.settings.proofs.CodeNumbers.{has-literal}
 use Rattle.setting_places.specs.Places.{placeOf}
 use borrow.Author.Needs.{needs}
 use Rattle.setting_places.proofs.places.place_of_literal.Statement.{statement}
@@ -21,7 +22,7 @@ use Rattle.setting_places.proofs.places.place_of_literal.Tie as tie
 module _ (d : Device) (x : ℕ) (l : x < start d wireAnds) (block j k i : ℕ) (p : Polarity)
     (e : Literal block j k i p ≡ inGroup d literals x) where
   same : settingOf d x ≡ Literal block j k i p
-  same = let at : 0 + x ≡ x = omega arith in ap (settingOf d) (sym at) ∙ in-its-group d literals x l ∙ sym e
+  same = let at : 0 + x ≡ x = omega arith in ap (settingOf d) (sym at) ∙ setting-in-group d literals x l ∙ sym e
 
   bounded : (k < 5) × (i < 36)
   bounded =

@@ -3,12 +3,11 @@
 use mathlib.Core.Path.{_≡_, refl}
 use mathlib.Core.List.{List, [], _∷_}
 use Prim.Native.Nat.{ℕ, _<_}
-use lib.Dec.{eqb}
 use lib.ListN.{getD}
-use borrow.Author.Tests.{eqb-true}
+use Rattle.settings.specs.Fields.{macrocellFields}
 use Rattle.settings.specs.Order.{macrocellFieldAt}
 use Rattle.setting_places.specs.Places.{rows}
-use Rattle.part.proofs.Tables.{below-all}
+use Rattle.setting_places.proofs.TableEntries.{entries}
 use borrow.Author.Needs.{needs}
 use Rattle.setting_places.proofs.places.rows_of.Statement.{statement}
 use Rattle.setting_places.proofs.places.rows_of.Tie as tie
@@ -16,9 +15,9 @@ use Rattle.setting_places.proofs.places.rows_of.Tie as tie
 table : List ℕ
 table = 2 ∷ 2 ∷ 2 ∷ 2 ∷ 2 ∷ 1 ∷ 1 ∷ 1 ∷ 1 ∷ 1 ∷ 2 ∷ 3 ∷ 1 ∷ 2 ∷ 1 ∷ 1 ∷ 1 ∷ 1 ∷ 2 ∷ 1 ∷ 1 ∷ 1 ∷ 1 ∷ 1 ∷ 1 ∷ 1 ∷ 1 ∷ []
 
-right : (i : ℕ) → i < 27 → getD table i 0 ≡ rows (macrocellFieldAt i)
+right : (i : ℕ) → i < macrocellFields → getD table i 0 ≡ rows (macrocellFieldAt i)
 unfolding table
-right i h = eqb-true _ _ (below-all (λ i. eqb (getD table i 0) (rows (macrocellFieldAt i))) 27 refl i h)
+right = entries table (λ i. rows (macrocellFieldAt i)) macrocellFields refl
 
 mul-result : tie.Need-mul-result
 mul-result c = search needs

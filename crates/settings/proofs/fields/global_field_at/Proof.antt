@@ -2,7 +2,7 @@
 -- Assumes nothing.
 use native.Mathlib.Omega.{arith}
 use borrow.Author.Tests.{eq-eqb, ne-eqb, lt-ltb, le-ltb}
-use Rattle.settings.proofs.Numbering.{few}
+use Rattle.settings.proofs.FieldIndices.{few}
 use borrow.Author.Needs.{needs}
 use Rattle.settings.proofs.fields.global_field_at.Statement.{statement}
 use Rattle.settings.proofs.fields.global_field_at.Tie as tie

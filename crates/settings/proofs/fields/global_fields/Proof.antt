@@ -1,7 +1,7 @@
 -- `global_fields` meets its contract: a device has at most 4 FOE.
 -- Assumes nothing.
 use native.Mathlib.Omega.{arith}
-use Rattle.settings.proofs.Numbering.{few}
+use Rattle.settings.proofs.FieldIndices.{few}
 use borrow.Author.Needs.{needs}
 use Rattle.settings.proofs.fields.global_fields.Statement.{statement}
 use Rattle.settings.proofs.fields.global_fields.Tie as tie

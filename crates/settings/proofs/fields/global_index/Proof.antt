@@ -7,7 +7,7 @@ use Rattle.part.specs.declared.Device.{Device}
 use Rattle.settings.specs.Fields.{foes, listed, globalFields, globalIndex}
 use Rattle.settings.specs.declared.GlobalField.{GlobalField}
 use Rattle.settings.specs.declared.GlobalField.the-variants.{FclkInv, FoeInv, FclkMux, FoeMux, Usercode}
-use Rattle.settings.proofs.Numbering.{few}
+use Rattle.settings.proofs.FieldIndices.{few}
 use borrow.Author.Needs.{needs}
 use Rattle.settings.proofs.fields.global_index.Statement.{statement}
 use Rattle.settings.proofs.fields.global_index.Tie as tie

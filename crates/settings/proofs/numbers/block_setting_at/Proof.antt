@@ -1,6 +1,6 @@
 -- `block_setting_at` meets its contract: the indices at a position.
 -- Assumes nothing.
-use Rattle.settings.proofs.Numbering.{whole}
+use Rattle.settings.proofs.CodeNumbers.{whole}
 use borrow.Author.Needs.{needs}
 use Rattle.settings.proofs.numbers.block_setting_at.Statement.{statement}
 use Rattle.settings.proofs.numbers.block_setting_at.Tie as tie

@@ -3,7 +3,8 @@
 use native.Mathlib.Omega.{arith}
 use Rattle.settings.specs.Order.{countOf}
 use Rattle.settings.specs.Order.Group.{globals}
-use Rattle.settings.proofs.Numbering.{ends, count-small}
+use Rattle.settings.proofs.Numbering.{ends}
+use Rattle.settings.proofs.CodeNumbers.{count-small}
 use borrow.Author.Needs.{needs}
 use Rattle.settings.proofs.numbers.count_of.Statement.{statement}
 use Rattle.settings.proofs.numbers.count_of.Tie as tie

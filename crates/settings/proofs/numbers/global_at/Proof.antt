@@ -1,6 +1,6 @@
 -- `global_at` meets its contract: the index at a position.
 -- Assumes nothing.
-use Rattle.settings.proofs.Numbering.{whole}
+use Rattle.settings.proofs.CodeNumbers.{whole}
 use borrow.Author.Needs.{needs}
 use Rattle.settings.proofs.numbers.global_at.Statement.{statement}
 use Rattle.settings.proofs.numbers.global_at.Tie as tie

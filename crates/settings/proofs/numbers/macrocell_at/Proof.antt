@@ -1,6 +1,6 @@
 -- `macrocell_at` meets its contract: the indices at a position.
 -- Assumes nothing.
-use Rattle.settings.proofs.Numbering.{whole}
+use Rattle.settings.proofs.CodeNumbers.{whole}
 use borrow.Author.Needs.{needs}
 use Rattle.settings.proofs.numbers.macrocell_at.Statement.{statement}
 use Rattle.settings.proofs.numbers.macrocell_at.Tie as tie

@@ -7,7 +7,7 @@ use Rattle.part.specs.declared.Device.{Device}
 use Rattle.settings.specs.Order.{Group, start, size, countOf, inGroup, settingOf}
 use Rattle.settings.specs.Order.Group.{literals, wireAnds, macrocellSettings, blockSettings, globals}
 use Rattle.settings.specs.declared.Setting.{Setting}
-use Rattle.settings.proofs.Numbering.{in-its-group}
+use Rattle.settings.proofs.Numbering.{setting-in-group}
 use borrow.Author.Needs.{needs}
 use Rattle.settings.proofs.numbers.setting_of.Statement.{statement}
 use Rattle.settings.proofs.numbers.setting_of.Tie as tie
@@ -16,7 +16,7 @@ among : (d : Device) (g : Group) (x a : ℕ) (r : Setting) → a ≡ start d g �
     → r ≡ settingOf d x
 among d g x a r e low high h =
     let back : start d g + (x - a) ≡ x = omega arith in
-    h ∙ sym (in-its-group d g (x - a) (omega arith)) ∙ ap (settingOf d) back
+    h ∙ sym (setting-in-group d g (x - a) (omega arith)) ∙ ap (settingOf d) back
 
 module _ (d : Device) (x a b : ℕ) (r : Setting) where
   among-literals : a ≡ start d wireAnds → x < a → r ≡ inGroup d literals x → r ≡ settingOf d x

@@ -2,7 +2,8 @@
 -- Assumes nothing.
 use native.Mathlib.Omega.{arith}
 use Rattle.settings.specs.Order.Group.{wireAnds}
-use Rattle.settings.proofs.Numbering.{ends, count-small}
+use Rattle.settings.proofs.Numbering.{ends}
+use Rattle.settings.proofs.CodeNumbers.{count-small}
 use borrow.Author.Needs.{needs}
 use Rattle.settings.proofs.numbers.start_of_macrocells.Statement.{statement}
 use Rattle.settings.proofs.numbers.start_of_macrocells.Tie as tie

@@ -2,7 +2,8 @@
 -- Assumes nothing.
 use native.Mathlib.Omega.{arith}
 use Rattle.part.proofs.Devices.{blocks-small}
-use Rattle.settings.proofs.Numbering.{block-0, whole}
+use Rattle.settings.proofs.FieldIndices.{block-0}
+use Rattle.settings.proofs.CodeNumbers.{whole}
 use borrow.Author.Needs.{needs}
 use Rattle.settings.proofs.numbers.wire_and_at.Statement.{statement}
 use Rattle.settings.proofs.numbers.wire_and_at.Tie as tie

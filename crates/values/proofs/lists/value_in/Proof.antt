@@ -15,38 +15,38 @@ of-kind k j pattern r h e = rw h e
 enum-told : tie.Need-enum-told
 enum-told c = search needs
 
-of-two-requires : tie.Need-of-two-requires
-of-two-requires c κs = search needs
+flag-requires : tie.Need-flag-requires
+flag-requires c κs = search needs
 
 enum-told-2 : tie.Need-enum-told-2
 enum-told-2 c = search needs
 
-of-four-requires : tie.Need-of-four-requires
-of-four-requires c κs = search needs
+term-alloc-requires : tie.Need-term-alloc-requires
+term-alloc-requires c κs = search needs
 
 enum-told-3 : tie.Need-enum-told-3
 enum-told-3 c = search needs
 
-of-two-requires-2 : tie.Need-of-two-requires-2
-of-two-requires-2 c κs = search needs
+import-alloc-requires : tie.Need-import-alloc-requires
+import-alloc-requires c κs = search needs
 
 enum-told-4 : tie.Need-enum-told-4
 enum-told-4 c = search needs
 
-of-two-requires-3 : tie.Need-of-two-requires-3
-of-two-requires-3 c κs = search needs
+export-dir-requires : tie.Need-export-dir-requires
+export-dir-requires c κs = search needs
 
 enum-told-5 : tie.Need-enum-told-5
 enum-told-5 c = search needs
 
-of-three-requires : tie.Need-of-three-requires
-of-three-requires c κs = search needs
+iob-oe-mux-requires : tie.Need-iob-oe-mux-requires
+iob-oe-mux-requires c κs = search needs
 
 enum-told-6 : tie.Need-enum-told-6
 enum-told-6 c = search needs
 
-of-two-requires-4 : tie.Need-of-two-requires-4
-of-two-requires-4 c κs = search needs
+out-mux-requires : tie.Need-out-mux-requires
+out-mux-requires c κs = search needs
 
 enum-told-7 : tie.Need-enum-told-7
 enum-told-7 c = search needs
@@ -57,32 +57,32 @@ oe-mux-requires c κs = search needs
 enum-told-8 : tie.Need-enum-told-8
 enum-told-8 c = search needs
 
-of-four-requires-2 : tie.Need-of-four-requires-2
-of-four-requires-2 c κs = search needs
+clk-mux-requires : tie.Need-clk-mux-requires
+clk-mux-requires c κs = search needs
 
 enum-told-9 : tie.Need-enum-told-9
 enum-told-9 c = search needs
 
-of-two-requires-5 : tie.Need-of-two-requires-5
-of-two-requires-5 c κs = search needs
+reg-mode-requires : tie.Need-reg-mode-requires
+reg-mode-requires c κs = search needs
 
 enum-told-10 : tie.Need-enum-told-10
 enum-told-10 c = search needs
 
-of-two-requires-6 : tie.Need-of-two-requires-6
-of-two-requires-6 c κs = search needs
+rst-set-mux-requires : tie.Need-rst-set-mux-requires
+rst-set-mux-requires c κs = search needs
 
 enum-told-11 : tie.Need-enum-told-11
 enum-told-11 c = search needs
 
-of-three-requires-2 : tie.Need-of-three-requires-2
-of-three-requires-2 c κs = search needs
+uim-oe-mux-requires : tie.Need-uim-oe-mux-requires
+uim-oe-mux-requires c κs = search needs
 
 enum-told-12 : tie.Need-enum-told-12
 enum-told-12 c = search needs
 
-of-two-requires-7 : tie.Need-of-two-requires-7
-of-two-requires-7 c κs = search needs
+iob-slew-requires : tie.Need-iob-slew-requires
+iob-slew-requires c κs = search needs
 
 enum-known-kind : tie.Need-enum-known-kind
 enum-known-kind c = search needs
@@ -149,29 +149,29 @@ value-in-spec =
     tie.close
     (tie.spec
     enum-told
-    of-two-requires
+    flag-requires
     enum-told-2
-    of-four-requires
+    term-alloc-requires
     enum-told-3
-    of-two-requires-2
+    import-alloc-requires
     enum-told-4
-    of-two-requires-3
+    export-dir-requires
     enum-told-5
-    of-three-requires
+    iob-oe-mux-requires
     enum-told-6
-    of-two-requires-4
+    out-mux-requires
     enum-told-7
     oe-mux-requires
     enum-told-8
-    of-four-requires-2
+    clk-mux-requires
     enum-told-9
-    of-two-requires-5
+    reg-mode-requires
     enum-told-10
-    of-two-requires-6
+    rst-set-mux-requires
     enum-told-11
-    of-three-requires-2
+    uim-oe-mux-requires
     enum-told-12
-    of-two-requires-7
+    iob-slew-requires
     enum-known-kind
     fclk-mux-requires
     enum-known-kind-2

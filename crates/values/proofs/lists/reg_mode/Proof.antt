@@ -1,0 +1,22 @@
+-- `reg_mode` meets its contract: its tests are those of the list.
+-- Assumes nothing.
+use borrow.Author.Needs.{needs}
+use Rattle.values.specs.Values.{named}
+use Rattle.values.proofs.Facts.{equal, unequal}
+use Rattle.values.proofs.lists.reg_mode.Statement.{statement}
+use Rattle.values.proofs.lists.reg_mode.Tie as tie
+
+returns : tie.Need-returns
+unfolding named
+returns c = search (needs, equal)
+
+returns-2 : tie.Need-returns-2
+unfolding named
+returns-2 c = search (needs, equal, unequal)
+
+returns-3 : tie.Need-returns-3
+unfolding named
+returns-3 c = search (needs, unequal)
+
+pub reg-mode-spec : {M : Type 1} → statement M
+reg-mode-spec = tie.close (tie.spec returns returns-2 returns-3)
