@@ -2,3 +2,4 @@
 -- Assumes nothing.
 pub mod Puts
 pub mod Images
+pub mod Lengths

@@ -7,7 +7,6 @@ use part::Device;
 use part::DoneAnswer;
 use part::Refusal;
 
-mod progress;
 mod walk;
 
 // The image that a text describes, put into `image`. Refused: 1, 2, 7 to 11. It is made beside the caller's, since a

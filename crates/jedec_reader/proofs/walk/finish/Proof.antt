@@ -10,12 +10,12 @@ use Rattle.part.specs.Outcome.{Outcome}
 use Rattle.part.specs.Outcome.Outcome.{refused}
 use Rattle.jedec.specs.Cut.{tailFrom}
 use Rattle.jedec.specs.Rules.{Known}
-use Rattle.jedec.specs.Meaning.{concluded, withEnd}
+use Rattle.jedec.specs.Meaning.{longest, concluded, withEnd}
 use Rattle.jedec_fields.specs.Fields.{tailOf, TailFits, TailStands}
 use Rattle.jedec_fields.specs.declared.TailSays.{TailSays}
 use Rattle.jedec_fields.specs.declared.TailSays.the-variants as tail
-use Rattle.jedec_reader.specs.Progress.{ProgressKnows, TextRead}
-use Rattle.jedec_reader.specs.declared.progress.Progress.{Progress}
+use Rattle.jedec_reader.specs.Walk.{ProgressKnows, TextRead}
+use Rattle.jedec_progress.specs.declared.progress.Progress.{Progress}
 use Rattle.jedec_reader.proofs.Ends.{refused-reads}
 use borrow.Author.Needs.{needs}
 use Rattle.jedec_reader.proofs.walk.finish.Statement.{statement}
@@ -23,7 +23,7 @@ use Rattle.jedec_reader.proofs.walk.finish.Tie as tie
 
 module _ (fuses : ℕ) (text : List ℕ) (etx : ℕ) (p : Progress) (image : List ℕ) (t : TailSays)
     (s : TailStands text (etx + 1) (tailFrom (etx + 1) 4 0 (drop (etx + 1) text)) t) where
-  small : (at : ℕ) → t ≡ tail.Wrong at → length text ≤ 1048576 → at < 2 ^ 32
+  small : (at : ℕ) → t ≡ tail.Wrong at → length text ≤ longest → at < 2 ^ 32
   small at w l = let inside : TailFits text (tail.Wrong at) = rw w at (s .fits) in omega arith
 
   wrong-byte : (at : ℕ) → t ≡ tail.Wrong at → (k : Known) → ProgressKnows fuses p k image

@@ -13,7 +13,7 @@ use Rattle.part.specs.Outcome.Outcome.{refused}
 use Rattle.jedec.specs.Cut.{Cut}
 use Rattle.jedec.specs.Judge.{judge}
 use Rattle.jedec.specs.Rules.{Known, nothingKnown, inOrder, after, allFields, misplaced, stateGiven, imageWith}
-use Rattle.jedec.specs.Meaning.{withEnd, withFields, ofCut}
+use Rattle.jedec.specs.Meaning.{longest, withEnd, withFields, ofCut}
 use Rattle.jedec_fields.specs.Fields.{judgedAfter, SaysFits, Says, fieldsAt, cutOf, Inside, Stands}
 use Rattle.jedec_fields.specs.declared.FieldSays.{FieldSays}
 use Rattle.jedec_fields.specs.declared.FieldSays.the-variants as says
@@ -22,11 +22,14 @@ use Rattle.jedec_fields.specs.declared.NextSays.the-variants as next
 use Rattle.jedec.specs.Form.{lastEnd}
 use Rattle.jedec.proofs.States.{image-length}
 use Rattle.jedec_image.proofs.Images.{start-holds}
-use Rattle.jedec_reader.specs.Progress.{mayStand, Few, afterField, putField, PutFits, ProgressKnows, TextRead}
-use Rattle.jedec_reader.specs.declared.progress.Seen.the-variants as seen
-use Rattle.jedec_reader.specs.declared.progress.Noted.the-variants as noted
-use Rattle.jedec_reader.specs.declared.progress.Progress.{Progress}
-use Rattle.jedec_reader.proofs.Steps.{in-order, put-fits, given-after, put-length}
+use Rattle.jedec_image.proofs.Lengths.{put-length}
+use Rattle.jedec_progress.specs.Progress.{mayStand, FewStates, afterField}
+use Rattle.jedec_image.specs.States.{putField, PutFits}
+use Rattle.jedec_reader.specs.Walk.{ProgressKnows, TextRead}
+use Rattle.jedec_progress.specs.declared.progress.OptionalNumber.the-variants as optional-number
+use Rattle.jedec_progress.specs.declared.progress.OptionalField.the-variants as optional-field
+use Rattle.jedec_progress.specs.declared.progress.Progress.{Progress}
+use Rattle.jedec_reader.proofs.Steps.{in-order, put-fits, given-after}
 use Rattle.jedec_reader.proofs.Ends.{refused-reads}
 use borrow.Author.Needs.{needs}
 use Rattle.jedec_reader.proofs.walk.walk.Statement.{statement}
@@ -47,7 +50,7 @@ record Walks (fuses : ℕ) (text : List ℕ) (from : ℕ) (image₀ image : List
 
 starts : (fuses : ℕ) (text : List ℕ) (from : ℕ) (image : List ℕ) → from ≤ length text → image ≡ imageWith fuses (stateGiven 0 [])
     → Walks fuses text from image image
-    (record { count = noted.Nothing; start = seen.Nothing; listed = false; end = 0; misplaced = seen.Nothing; sum = noted.Nothing }) from
+    (record { count = optional-field.None; start = optional-number.None; listed = false; end = 0; misplaced = optional-number.None; sum = optional-field.None }) from
 unfolding misplaced lastEnd
 starts fuses text from image l e =
     record {
@@ -107,10 +110,10 @@ module _ (fuses : ℕ) (text : List ℕ) (from : ℕ) (image₀ image : List ℕ
       star-there : star ≤ length text
       star-there = omega (arith, there .2)
 
-      start-small : length text ≤ 1048576 → start < 2 ^ 32
+      start-small : length text ≤ longest → start < 2 ^ 32
       start-small l = omega (arith, there .1, there .2)
 
-      star-small : length text ≤ 1048576 → star + 1 < 2 ^ 64
+      star-small : length text ≤ longest → star + 1 < 2 ^ 64
       star-small l = omega (arith, there .2)
 
       falls : length text - (star + 1) < length text - at
@@ -132,10 +135,10 @@ module _ (fuses : ℕ) (text : List ℕ) (from : ℕ) (image₀ image : List ℕ
           let bad : inOrder (r .k) (judge field) ≡ false = sym order ∙ sym e ∙ not-true t h in
           refused-reads _ 7 start image (sym (by-next (next.Field start star fs) w) ∙ rw bad)
 
-      few-states : length text ≤ 1048576 → Few fs
+      few-states : length text ≤ longest → FewStates fs
       few-states l = few fs (j .fits)
         where
-          few : (x : FieldSays) → SaysFits (drop 1 (take (star - start) (drop start text))) x → Few x
+          few : (x : FieldSays) → SaysFits (drop 1 (take (star - start) (drop start text))) x → FewStates x
           few (says.Count n) f = tt
           few (says.Start x) f = tt
           few (says.List first skip number) f = omega (

@@ -5,21 +5,21 @@ use mathlib.Core.Option.Option.{none, some}
 use Prim.Native.Nat.{ℕ}
 use borrow.Author.Tests.{eq-eqb, ne-eqb}
 use Rattle.jedec.specs.Rules.{wrongCount}
-use Rattle.jedec_reader.specs.Progress.{notedOf}
-use Rattle.jedec_reader.specs.declared.progress.Noted.{Noted}
-use Rattle.jedec_reader.specs.declared.progress.Noted.the-variants as noted
+use Rattle.jedec_progress.specs.Progress.{optionalField}
+use Rattle.jedec_progress.specs.declared.progress.OptionalField.{OptionalField}
+use Rattle.jedec_progress.specs.declared.progress.OptionalField.the-variants as optional-field
 use borrow.Author.Needs.{needs}
 use Rattle.jedec_reader.proofs.walk.wrong_count.Statement.{statement}
 use Rattle.jedec_reader.proofs.walk.wrong_count.Tie as tie
 
-module _ (fuses etx : ℕ) (count : Noted) where
-  no-count : count ≡ noted.Nothing → some etx ≡ wrongCount fuses etx (notedOf count)
+module _ (fuses etx : ℕ) (count : OptionalField) where
+  no-count : count ≡ optional-field.None → some etx ≡ wrongCount fuses etx (optionalField count)
   no-count w = rw w
 
-  the-count : (at value : ℕ) → count ≡ noted.At at value → value ≡ fuses → none ≡ wrongCount fuses etx (notedOf count)
+  the-count : (at value : ℕ) → count ≡ optional-field.Some at value → value ≡ fuses → none ≡ wrongCount fuses etx (optionalField count)
   the-count at value w e = rw (w, eq-eqb value fuses e)
 
-  another : (at value : ℕ) → count ≡ noted.At at value → (value ≡ fuses → ⊥) → some at ≡ wrongCount fuses etx (notedOf count)
+  another : (at value : ℕ) → count ≡ optional-field.Some at value → (value ≡ fuses → ⊥) → some at ≡ wrongCount fuses etx (optionalField count)
   another at value w e = rw (w, ne-eqb value fuses e)
 
 enum-told : tie.Need-enum-told

@@ -7,22 +7,22 @@ use Prim.Native.Nat.{ℕ}
 use borrow.Author.Tests.{eq-eqb, ne-eqb}
 use Rattle.image.specs.Image.{sum16}
 use Rattle.jedec.specs.Meaning.{wrongSum}
-use Rattle.jedec_reader.specs.Progress.{notedOf}
-use Rattle.jedec_reader.specs.declared.progress.Noted.{Noted}
-use Rattle.jedec_reader.specs.declared.progress.Noted.the-variants as noted
+use Rattle.jedec_progress.specs.Progress.{optionalField}
+use Rattle.jedec_progress.specs.declared.progress.OptionalField.{OptionalField}
+use Rattle.jedec_progress.specs.declared.progress.OptionalField.the-variants as optional-field
 use borrow.Author.Needs.{needs}
 use Rattle.jedec_reader.proofs.walk.wrong_sum.Statement.{statement}
 use Rattle.jedec_reader.proofs.walk.wrong_sum.Tie as tie
 
-module _ (image : List ℕ) (sum : Noted) where
-  no-sum : sum ≡ noted.Nothing → none ≡ wrongSum image (notedOf sum)
+module _ (image : List ℕ) (sum : OptionalField) where
+  no-sum : sum ≡ optional-field.None → none ≡ wrongSum image (optionalField sum)
   no-sum w = rw w
 
-  module _ (at value x : ℕ) (w : sum ≡ noted.At at value) (e : x ≡ sum16 image) where
-    the-sum : value ≡ x → none ≡ wrongSum image (notedOf sum)
+  module _ (at value x : ℕ) (w : sum ≡ optional-field.Some at value) (e : x ≡ sum16 image) where
+    the-sum : value ≡ x → none ≡ wrongSum image (optionalField sum)
     the-sum h = rw (w, eq-eqb value (sum16 image) (h ∙ e))
 
-    another : (value ≡ x → ⊥) → some at ≡ wrongSum image (notedOf sum)
+    another : (value ≡ x → ⊥) → some at ≡ wrongSum image (optionalField sum)
     another h = rw (w, ne-eqb value (sum16 image) (λ f. h (f ∙ sym e)))
 
 enum-told : tie.Need-enum-told

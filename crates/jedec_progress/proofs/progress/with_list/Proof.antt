@@ -3,14 +3,14 @@
 use mathlib.Core.Path.{_≡_}
 use mathlib.Core.Bool.{true}
 use Prim.Native.Nat.{ℕ, _+_}
-use Rattle.jedec_reader.specs.Progress.{misplacedAfter, withList}
-use Rattle.jedec_reader.specs.declared.progress.Seen.{Seen}
-use Rattle.jedec_reader.specs.declared.progress.Progress.{Progress}
+use Rattle.jedec_progress.specs.Progress.{misplacedAfter, withList}
+use Rattle.jedec_progress.specs.declared.progress.OptionalNumber.{OptionalNumber}
+use Rattle.jedec_progress.specs.declared.progress.Progress.{Progress}
 use borrow.Author.Needs.{needs}
-use Rattle.jedec_reader.proofs.progress.with_list.Statement.{statement}
-use Rattle.jedec_reader.proofs.progress.with_list.Tie as tie
+use Rattle.jedec_progress.proofs.progress.with_list.Statement.{statement}
+use Rattle.jedec_progress.proofs.progress.with_list.Tie as tie
 
-listed : (fuses : ℕ) (p : Progress) (at first number : ℕ) (m : Seen) → m ≡ misplacedAfter fuses (p .misplaced) (p .end) at first number
+listed : (fuses : ℕ) (p : Progress) (at first number : ℕ) (m : OptionalNumber) → m ≡ misplacedAfter fuses (p .misplaced) (p .end) at first number
     → record { count = p .count; start = p .start; listed = true; end = first + number; misplaced = m; sum = p .sum }
     ≡ withList fuses p at first number
 listed fuses p at first number m e = rw e

@@ -13,27 +13,26 @@ use Rattle.jedec_fields.specs.Fields.{statesOf}
 use Rattle.jedec_fields.proofs.Fields.{rest-whole}
 use Rattle.jedec_fields.specs.declared.FieldSays.{FieldSays}
 use Rattle.jedec_fields.specs.declared.FieldSays.the-variants as says
-use Rattle.jedec_image.specs.States.{withStates}
-use Rattle.jedec_reader.specs.Progress.{putField, ListGoes, PutFits}
-use Rattle.jedec_reader.specs.declared.progress.Seen.{Seen}
-use Rattle.jedec_reader.specs.declared.progress.Seen.the-variants as seen
+use Rattle.jedec_image.specs.States.{withStates, putField, ListGoesIn, PutFits}
+use Rattle.jedec_progress.specs.declared.progress.OptionalNumber.{OptionalNumber}
+use Rattle.jedec_progress.specs.declared.progress.OptionalNumber.the-variants as optional-number
 use borrow.Author.Needs.{needs}
-use Rattle.jedec_reader.proofs.walk.put_field.Statement.{statement}
-use Rattle.jedec_reader.proofs.walk.put_field.Tie as tie
+use Rattle.jedec_image.proofs.states.put_field.Statement.{statement}
+use Rattle.jedec_image.proofs.states.put_field.Tie as tie
 
-a-state : (fuses : ℕ) (rest : List ℕ) (s : FieldSays) (m : Seen) (x : ℕ) → s ≡ says.Start x → PutFits fuses rest s m → x < 2
+a-state : (fuses : ℕ) (rest : List ℕ) (s : FieldSays) (m : OptionalNumber) (x : ℕ) → s ≡ says.Start x → PutFits fuses rest s m → x < 2
 a-state fuses rest s m x w h = rw w at h
 
-filled : (fuses : ℕ) (rest : List ℕ) (s : FieldSays) (m : Seen) (x : ℕ) (image after : List ℕ) → s ≡ says.Start x
+filled : (fuses : ℕ) (rest : List ℕ) (s : FieldSays) (m : OptionalNumber) (x : ℕ) (image after : List ℕ) → s ≡ says.Start x
     → after ≡ imageWith fuses (stateGiven x []) → after ≡ putField fuses rest s m image
 filled fuses rest s m x image after w e = rw w e
 
-module _ (fuses : ℕ) (field : List ℕ) (s : FieldSays) (m : Seen) (first skip number : ℕ) (w : s ≡ says.List first skip number) where
-  not-listed : (image : List ℕ) (x : ℕ) → m ≡ seen.Number x → image ≡ putField fuses (drop 1 field) s m image
+module _ (fuses : ℕ) (field : List ℕ) (s : FieldSays) (m : OptionalNumber) (first skip number : ℕ) (w : s ≡ says.List first skip number) where
+  not-listed : (image : List ℕ) (x : ℕ) → m ≡ optional-number.Some x → image ≡ putField fuses (drop 1 field) s m image
   not-listed image x v = rw (w, v)
 
-  module _ (v : m ≡ seen.Nothing) (h : PutFits fuses (drop 1 field) s m) where
-    goes : ListGoes fuses (drop 1 field) first skip number
+  module _ (v : m ≡ optional-number.None) (h : PutFits fuses (drop 1 field) s m) where
+    goes : ListGoesIn fuses (drop 1 field) first skip number
     goes = (rw w at h) v
 
     from-there : skip + 1 ≤ length field

@@ -6,30 +6,30 @@ use Prim.Native.Nat.{ℕ}
 use Rattle.jedec.specs.Rules.{has}
 use Rattle.jedec_fields.specs.declared.FieldSays.{FieldSays}
 use Rattle.jedec_fields.specs.declared.FieldSays.the-variants as says
-use Rattle.jedec_reader.specs.Progress.{notedOf, seenOf, mayStand}
-use Rattle.jedec_reader.specs.declared.progress.Progress.{Progress}
+use Rattle.jedec_progress.specs.Progress.{optionalField, optionalNumber, mayStand}
+use Rattle.jedec_progress.specs.declared.progress.Progress.{Progress}
 use borrow.Author.Needs.{needs}
-use Rattle.jedec_reader.proofs.progress.may_stand.Statement.{statement}
-use Rattle.jedec_reader.proofs.progress.may_stand.Tie as tie
+use Rattle.jedec_progress.proofs.progress.may_stand.Statement.{statement}
+use Rattle.jedec_progress.proofs.progress.may_stand.Tie as tie
 
-module _ (p : Progress) (s : FieldSays) (a : Bool) (e : a ≡ has (notedOf (p .count))) where
-  a-start : (b : Bool) (x : ℕ) → b ≡ has (seenOf (p .start)) → s ≡ says.Start x → (a && not b && not (p .listed)) ≡ mayStand p s
+module _ (p : Progress) (s : FieldSays) (a : Bool) (e : a ≡ has (optionalField (p .count))) where
+  a-start : (b : Bool) (x : ℕ) → b ≡ has (optionalNumber (p .start)) → s ≡ says.Start x → (a && not b && not (p .listed)) ≡ mayStand p s
   a-start b x f w = rw (w, e, f)
 
-  a-list : (b : Bool) (first skip number : ℕ) → b ≡ has (notedOf (p .sum)) → s ≡ says.List first skip number → (a && not b) ≡ mayStand p s
+  a-list : (b : Bool) (first skip number : ℕ) → b ≡ has (optionalField (p .sum)) → s ≡ says.List first skip number → (a && not b) ≡ mayStand p s
   a-list b first skip number f w = rw (w, e, f)
 
-  a-sum : (b : Bool) (x : ℕ) → b ≡ has (notedOf (p .sum)) → s ≡ says.Sum x → (a && not b) ≡ mayStand p s
+  a-sum : (b : Bool) (x : ℕ) → b ≡ has (optionalField (p .sum)) → s ≡ says.Sum x → (a && not b) ≡ mayStand p s
   a-sum b x f w = rw (w, e, f)
 
-is-noted-requires : tie.Need-is-noted-requires
-is-noted-requires c κs = search needs
+has-field-requires : tie.Need-has-field-requires
+has-field-requires c κs = search needs
 
-is-seen-requires : tie.Need-is-seen-requires
-is-seen-requires c κs = search needs
+has-number-requires : tie.Need-has-number-requires
+has-number-requires c κs = search needs
 
-is-noted-requires-2 : tie.Need-is-noted-requires-2
-is-noted-requires-2 c κs = search needs
+has-field-requires-2 : tie.Need-has-field-requires-2
+has-field-requires-2 c κs = search needs
 
 enum-told : tie.Need-enum-told
 enum-told c = search needs
@@ -71,9 +71,9 @@ pub may-stand-spec : {M : Type 1} → statement M
 may-stand-spec =
     tie.close
     (tie.spec
-    is-noted-requires
-    is-seen-requires
-    is-noted-requires-2
+    has-field-requires
+    has-number-requires
+    has-field-requires-2
     enum-told
     enum-told-2
     enum-told-3

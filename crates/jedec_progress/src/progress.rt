@@ -3,48 +3,49 @@
 ghost use mathlib.Core.Path.{_≡_};
 ghost use Prim.Native.Nat.{_+_, _<_, _≤_};
 ghost use Rattle.jedec.specs.Rules.{has};
-ghost use Rattle.jedec_reader.specs.Progress.{notedOf, seenOf, mayStand, misplacedAfter, withCount, withStart};
-ghost use Rattle.jedec_reader.specs.Progress.{withList, withSum, Few, afterField};
+ghost use Rattle.jedec.specs.Meaning.{longest};
+ghost use Rattle.jedec_progress.specs.Progress.{optionalField, optionalNumber, mayStand, misplacedAfter, withCount, withStart};
+ghost use Rattle.jedec_progress.specs.Progress.{withList, withSum, FewStates, afterField};
 use jedec_fields::FieldSays;
 
 // A number that a field gave, and where the field starts.
-pub enum Noted {
-    Nothing,
-    At { at: u32, value: u32 },
+pub enum OptionalField {
+    None,
+    Some { at: u32, value: u32 },
 }
 
 // A number, if there is one.
-pub enum Seen {
-    Nothing,
-    Number(u32),
+pub enum OptionalNumber {
+    None,
+    Some(u32),
 }
 
 // What the fields so far gave: QF, the start state, whether there was an L, where the last one ended, where the
 // first misplaced one starts, C.
 pub struct Progress {
-    pub count: Noted,
-    pub start: Seen,
+    pub count: OptionalField,
+    pub start: OptionalNumber,
     pub listed: bool,
     pub end: usize,
-    pub misplaced: Seen,
-    pub sum: Noted,
+    pub misplaced: OptionalNumber,
+    pub sum: OptionalField,
 }
 
-fn is_noted(n: Noted) -> bool
-    ensures { λ r. ⌜ r ≡ has (notedOf n) ⌝ }
+fn has_field(n: OptionalField) -> bool
+    ensures { λ r. ⌜ r ≡ has (optionalField n) ⌝ }
 {
     match n {
-        Noted::Nothing => false,
-        Noted::At { at: _, value: _ } => true,
+        OptionalField::None => false,
+        OptionalField::Some { at: _, value: _ } => true,
     }
 }
 
-fn is_seen(s: Seen) -> bool
-    ensures { λ r. ⌜ r ≡ has (seenOf s) ⌝ }
+fn has_number(s: OptionalNumber) -> bool
+    ensures { λ r. ⌜ r ≡ has (optionalNumber s) ⌝ }
 {
     match s {
-        Seen::Nothing => false,
-        Seen::Number(_) => true,
+        OptionalNumber::None => false,
+        OptionalNumber::Some(_) => true,
     }
 }
 
@@ -55,9 +56,9 @@ pub fn may_stand(p: Progress, says: FieldSays) -> bool
     let count = p.count;
     let start = p.start;
     let sum = p.sum;
-    let counted = is_noted(count);
-    let started = is_seen(start);
-    let summed = is_noted(sum);
+    let counted = has_field(count);
+    let started = has_number(start);
+    let summed = has_field(sum);
     match says {
         FieldSays::Count(_) => !counted,
         FieldSays::Start(_) => counted & !started & !p.listed,
@@ -73,18 +74,18 @@ pub fn may_stand(p: Progress, says: FieldSays) -> bool
 }
 
 // Where the first misplaced L starts: one before, or this one.
-fn misplaced_after(fuses: u32, before: Seen, end: usize, at: u32, first: u32, count: usize) -> Seen
-    requires { ⌜ count ≤ 1048576 ⌝ }
+fn misplaced_after(fuses: u32, before: OptionalNumber, end: usize, at: u32, first: u32, count: usize) -> OptionalNumber
+    requires { ⌜ count ≤ longest ⌝ }
     ensures { λ r. ⌜ r ≡ misplacedAfter fuses before end at first count ⌝ }
 {
     match before {
-        Seen::Number(x) => Seen::Number(x),
-        Seen::Nothing => {
+        OptionalNumber::Some(x) => OptionalNumber::Some(x),
+        OptionalNumber::None => {
             let from = first as usize;
             if (from < end) | ((fuses as usize) < from + count) {
-                return Seen::Number(at);
+                return OptionalNumber::Some(at);
             }
-            Seen::Nothing
+            OptionalNumber::None
         }
     }
 }
@@ -97,7 +98,7 @@ fn with_count(p: Progress, at: u32, n: u32) -> Progress
     let misplaced = p.misplaced;
     let sum = p.sum;
     Progress {
-        count: Noted::At { at, value: n },
+        count: OptionalField::Some { at, value: n },
         start,
         listed: p.listed,
         end: p.end,
@@ -114,7 +115,7 @@ fn with_start(p: Progress, s: u32) -> Progress
     let sum = p.sum;
     Progress {
         count,
-        start: Seen::Number(s),
+        start: OptionalNumber::Some(s),
         listed: p.listed,
         end: p.end,
         misplaced,
@@ -123,7 +124,7 @@ fn with_start(p: Progress, s: u32) -> Progress
 }
 
 fn with_list(fuses: u32, p: Progress, at: u32, first: u32, n: usize) -> Progress
-    requires { ⌜ n ≤ 1048576 ⌝ }
+    requires { ⌜ n ≤ longest ⌝ }
     ensures { λ r. ⌜ r ≡ withList fuses p at first n ⌝ }
 {
     let count = p.count;
@@ -153,13 +154,13 @@ fn with_sum(p: Progress, at: u32, x: u32) -> Progress
         listed: p.listed,
         end: p.end,
         misplaced,
-        sum: Noted::At { at, value: x },
+        sum: OptionalField::Some { at, value: x },
     }
 }
 
 // What is known after a field that starts at an offset.
 pub fn after_field(fuses: u32, p: Progress, at: u32, says: FieldSays) -> Progress
-    requires { ⌜ Few says ⌝ }
+    requires { ⌜ FewStates says ⌝ }
     ensures { λ r. ⌜ r ≡ afterField fuses p at says ⌝ }
 {
     match says {

@@ -2,15 +2,16 @@
 -- Assumes nothing.
 use mathlib.Core.Path.{_≡_}
 use Prim.Native.Nat.{ℕ, _≤_}
+use Rattle.jedec.specs.Meaning.{longest}
 use Rattle.jedec_fields.specs.declared.FieldSays.{FieldSays}
 use Rattle.jedec_fields.specs.declared.FieldSays.the-variants as says
-use Rattle.jedec_reader.specs.Progress.{withCount, withStart, withList, withSum, Few, afterField}
-use Rattle.jedec_reader.specs.declared.progress.Progress.{Progress}
+use Rattle.jedec_progress.specs.Progress.{withCount, withStart, withList, withSum, FewStates, afterField}
+use Rattle.jedec_progress.specs.declared.progress.Progress.{Progress}
 use borrow.Author.Needs.{needs}
-use Rattle.jedec_reader.proofs.progress.after_field.Statement.{statement}
-use Rattle.jedec_reader.proofs.progress.after_field.Tie as tie
+use Rattle.jedec_progress.proofs.progress.after_field.Statement.{statement}
+use Rattle.jedec_progress.proofs.progress.after_field.Tie as tie
 
-few-states : (s : FieldSays) (first skip number : ℕ) → s ≡ says.List first skip number → Few s → number ≤ 1048576
+few-states : (s : FieldSays) (first skip number : ℕ) → s ≡ says.List first skip number → FewStates s → number ≤ longest
 few-states s first skip number w h = rw w at h
 
 module _ (fuses : ℕ) (p : Progress) (at : ℕ) (s : FieldSays) (q : Progress) where
