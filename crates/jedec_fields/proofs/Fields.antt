@@ -1,29 +1,23 @@
--- Laws of fields by position:
---   rest-whole                  what a slice from an offset on holds
---   pieces-star, pieces-none    a text cut at its first `*`, or holding none
---   blanks-skipped              blanks before a field do not change the fields
---   nothing-left, the-end, no-star, a-field   what stands at the first byte that is no blank
+-- The fields of a text by position: cut at the first `*`, with blanks before a field left out.
+-- Assumes nothing.
 use mathlib.Core.Path.{_≡_, refl, sym, _∙_, ap}
 use mathlib.Core.Bool.{Bool, true, false, true≢false}
 use mathlib.Core.List.{List, [], _∷_}
 use mathlib.Core.Option.Option.{none, some}
 use Prim.Native.Nat.{ℕ, zero, suc, _+_, _-_, _≤_, _<_}
 use native.Mathlib.Omega.{arith}
-use native.Mathlib.Nat.{add-zero, le-refl, not-suc-le-zero}
+use native.Mathlib.Nat.{add-zero, not-suc-le-zero}
 use lib.Dec.{eqb}
 use lib.ListN.{length, getD, take, drop, length-drop, drop-of-length-le}
-use lib.Seq.{take-all, length-take-le, drop-cons, drop-drop}
+use lib.Seq.{length-take-le, drop-cons, drop-drop}
 use borrow.Author.Tests.{ne-eqb}
 use Rattle.jedec.specs.Characters.{etx, star, isBlank}
 use Rattle.jedec.specs.Cut.{onFirst, pieces, blanksBefore, Cut, startsWith, orEnd, fieldsFrom}
 use Rattle.jedec.specs.Judge.{judge}
-use Rattle.jedec_fields.specs.Fields.{Says, untilStar, fieldsAt, cutOf, Stands}
-use Rattle.jedec_fields.specs.declared.FieldSays.{FieldSays}
+use Rattle.jedec_judge.specs.Judged.{Says}
+use Rattle.jedec_fields.specs.Fields.{untilStar, fieldsAt, cutOf, Stands}
+use Rattle.jedec_judge.specs.declared.FieldSays.{FieldSays}
 use Rattle.jedec_fields.specs.declared.NextSays.the-variants.{Field, End, Early}
-
--- What a slice from an offset on holds.
-pub rest-whole : (k : ℕ) (l : List ℕ) → take (length l - k) (drop k l) ≡ drop k l
-rest-whole k l = take-all (length l - k) (drop k l) (rw (length-drop k l) (le-refl (length l - k)))
 
 -- The first `*`.
 pub record Cuts (bytes : List ℕ) (u : ℕ) : Type 0 where

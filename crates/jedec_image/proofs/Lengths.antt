@@ -8,9 +8,9 @@ use Rattle.image.specs.Bits.{withBit}
 use Rattle.image.specs.Image.{withFuse}
 use Rattle.jedec.specs.Rules.{stateGiven}
 use Rattle.jedec.proofs.States.{image-length}
-use Rattle.jedec_fields.specs.Fields.{statesOf}
-use Rattle.jedec_fields.specs.declared.FieldSays.{FieldSays}
-use Rattle.jedec_fields.specs.declared.FieldSays.the-variants as says
+use Rattle.jedec_judge.specs.Judged.{statesOf}
+use Rattle.jedec_judge.specs.declared.FieldSays.{FieldSays}
+use Rattle.jedec_judge.specs.declared.FieldSays.the-variants as says
 use Rattle.jedec_progress.specs.declared.progress.OptionalNumber.{OptionalNumber}
 use Rattle.jedec_progress.specs.declared.progress.OptionalNumber.the-variants as optional-number
 use Rattle.jedec_image.specs.States.{withStates, putField}

@@ -26,7 +26,7 @@ use Rattle.image.specs.Image.{withFuse}
 use Rattle.jedec.specs.Characters.{isBlank, andThen}
 use Rattle.jedec.specs.Judge.{withFirst, statesIn}
 use Rattle.jedec_runs.proofs.Words.{states-append, states-none}
-use Rattle.jedec_fields.specs.Fields.{orEmpty, statesOf}
+use Rattle.jedec_judge.specs.Judged.{orEmpty, statesOf}
 use Rattle.jedec_image.specs.States.{withStates}
 
 -- Bytes that write states, all of them.

@@ -6,9 +6,9 @@ use mathlib.Core.List.{List, [], _∷_}
 use lib.ListN.{drop}
 use Rattle.image.specs.Image.{withFuse}
 use Rattle.jedec.specs.Rules.{stateGiven, imageWith}
-use Rattle.jedec_fields.specs.Fields.{statesOf, ListFits}
-use Rattle.jedec_fields.specs.declared.FieldSays.{FieldSays}
-use Rattle.jedec_fields.specs.declared.FieldSays.the-variants as says
+use Rattle.jedec_judge.specs.Judged.{statesOf, ListFits}
+use Rattle.jedec_judge.specs.declared.FieldSays.{FieldSays}
+use Rattle.jedec_judge.specs.declared.FieldSays.the-variants as says
 use Rattle.jedec_progress.specs.declared.progress.OptionalNumber.{OptionalNumber}
 use Rattle.jedec_progress.specs.declared.progress.OptionalNumber.the-variants as optional-number
 
@@ -37,7 +37,8 @@ pub record ListGoesIn (fuses : ℕ) (after : List ℕ) (first skip number : ℕ)
 abbrev pub PutFits : (fuses : ℕ) → (after : List ℕ) → FieldSays → OptionalNumber → Type 0
 PutFits fuses after (says.Count n) m = Unit {0}
 PutFits fuses after (says.Start s) m = s < 2
-PutFits fuses after (says.List first skip number) m = m ≡ optional-number.None → ListGoesIn fuses after first skip number
+PutFits fuses after (says.List first skip number) m =
+    m ≡ optional-number.None → ListGoesIn fuses after first skip number
 PutFits fuses after (says.Sum x) m = Unit {0}
 PutFits fuses after says.Skipped m = Unit {0}
 PutFits fuses after says.Bad m = Unit {0}

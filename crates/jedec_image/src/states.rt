@@ -7,10 +7,10 @@ ghost use Prim.Native.Nat.{_+_, _*_, _-_, _/_, _^_, _<_, _≤_};
 ghost use lib.ListN.{length, drop};
 ghost use Rattle.jedec.specs.Judge.{statesIn};
 ghost use Rattle.jedec.specs.Rules.{stateGiven, imageWith};
-ghost use Rattle.jedec_fields.specs.Fields.{statesOf};
+ghost use Rattle.jedec_judge.specs.Judged.{statesOf};
 ghost use Rattle.jedec_image.specs.States.{withStates, putField, PutFits};
 use cells::words::low_bits;
-use jedec_fields::FieldSays;
+use jedec_judge::FieldSays;
 use jedec_progress::progress::OptionalNumber;
 use jedec_runs::states::bits_at;
 use jedec_runs::states::blank_at;
@@ -71,7 +71,13 @@ fn put_states(bytes: &[u8], image: &mut [u8], fuse: usize)
 }
 
 // What a field puts into the image: a start state, or states unless an L is misplaced.
-pub fn put_field(fuses: u32, field: &[u8], says: FieldSays, misplaced: OptionalNumber, image: &mut [u8])
+pub fn put_field(
+    fuses: u32,
+    field: &[u8],
+    says: FieldSays,
+    misplaced: OptionalNumber,
+    image: &mut [u8],
+)
     requires { ⌜ (length (now image) ≡ (fuses + 7) / 8) × PutFits fuses (drop 1 (now field)) says misplaced ⌝ }
     ensures { λ _.
         ⌜ now (image .exit) ≡ putField fuses (drop 1 (now (field .entry))) says misplaced (now (image .entry)) ⌝ }

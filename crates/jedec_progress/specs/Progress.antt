@@ -1,14 +1,17 @@
 -- What the fields of a text gave so far, which field may stand after them, and what a field adds.
 -- No list of states is kept: they are put into the image that the reader makes.
-use Prim.Native.Nat.{ℕ, _+_, _≤_}
+use Prim.Native.Nat.{ℕ, _+_, _≤_, _<_}
+use mathlib.Core.Path.{_≡_}
 use mathlib.Core.Bool.{Bool, true, false, cond, not, _&&_, _||_}
+use mathlib.Core.List.{List}
 use mathlib.Core.Option.{Option}
 use mathlib.Core.Option.Option.{none, some}
 use lib.Dec.{ltb}
-use Rattle.jedec.specs.Rules.{At, has}
+use Rattle.jedec.specs.Form.{lastEnd}
+use Rattle.jedec.specs.Rules.{At, Known, has, hasAny, misplaced, startState, stateGiven, imageWith}
 use Rattle.jedec.specs.Meaning.{longest}
-use Rattle.jedec_fields.specs.declared.FieldSays.{FieldSays}
-use Rattle.jedec_fields.specs.declared.FieldSays.the-variants as says
+use Rattle.jedec_judge.specs.declared.FieldSays.{FieldSays}
+use Rattle.jedec_judge.specs.declared.FieldSays.the-variants as says
 use Rattle.jedec_progress.specs.declared.progress.OptionalField.{OptionalField}
 use Rattle.jedec_progress.specs.declared.progress.OptionalField.the-variants as optional-field
 use Rattle.jedec_progress.specs.declared.progress.OptionalNumber.{OptionalNumber}
@@ -23,6 +26,17 @@ optionalField (optional-field.Some at value) = some (record { at = at; value = v
 abbrev pub optionalNumber : OptionalNumber → Option ℕ
 optionalNumber optional-number.None = none
 optionalNumber (optional-number.Some x) = some x
+
+-- What is known before any field.
+abbrev pub noProgress : Progress
+noProgress = record {
+  count = optional-field.None;
+  start = optional-number.None;
+  listed = false;
+  end = 0;
+  misplaced = optional-number.None;
+  sum = optional-field.None;
+}
 
 -- Which field may stand next, by what the fields before it gave.
 abbrev pub mayStand : Progress → FieldSays → Bool
@@ -97,3 +111,15 @@ FewStates (says.List first skip number) = number ≤ longest
 FewStates (says.Sum x) = Unit {0}
 FewStates says.Skipped = Unit {0}
 FewStates says.Bad = Unit {0}
+
+-- What the reader knows is what the fields gave, and an image holds it unless an L is misplaced.
+pub record ProgressKnows (fuses : ℕ) (p : Progress) (k : Known) (image : List ℕ) : Type 0 where
+  pub count : optionalField (p .count) ≡ k .count
+  pub start : optionalNumber (p .start) ≡ k .start
+  pub listed : p .listed ≡ hasAny (k .lists)
+  pub end : p .end ≡ lastEnd 0 (k .lists)
+  pub faulty : optionalNumber (p .misplaced) ≡ misplaced fuses 0 (k .lists)
+  pub sum : optionalField (p .sum) ≡ k .sum
+  pub bits : misplaced fuses 0 (k .lists) ≡ none → (fuse : ℕ) → stateGiven (startState (k .start)) (k .lists) fuse < 2
+  pub holds : misplaced fuses 0 (k .lists) ≡ none
+      → image ≡ imageWith fuses (stateGiven (startState (k .start)) (k .lists))

@@ -4,9 +4,10 @@ ghost use mathlib.Core.Path.{_≡_};
 ghost use Prim.Native.Nat.{_+_, _<_, _≤_};
 ghost use Rattle.jedec.specs.Rules.{has};
 ghost use Rattle.jedec.specs.Meaning.{longest};
-ghost use Rattle.jedec_progress.specs.Progress.{optionalField, optionalNumber, mayStand, misplacedAfter, withCount, withStart};
-ghost use Rattle.jedec_progress.specs.Progress.{withList, withSum, FewStates, afterField};
-use jedec_fields::FieldSays;
+ghost use Rattle.jedec_progress.specs.Progress.{optionalField, optionalNumber, noProgress, mayStand};
+ghost use Rattle.jedec_progress.specs.Progress.{misplacedAfter, withCount, withStart, withList, withSum};
+ghost use Rattle.jedec_progress.specs.Progress.{FewStates, afterField};
+use jedec_judge::FieldSays;
 
 // A number that a field gave, and where the field starts.
 pub enum OptionalField {
@@ -31,6 +32,21 @@ pub struct Progress {
     pub sum: OptionalField,
 }
 
+// What is known before any field.
+pub fn no_progress() -> Progress
+    ensures { λ r. ⌜ r ≡ noProgress ⌝ }
+{
+    Progress {
+        count: OptionalField::None,
+        start: OptionalNumber::None,
+        listed: false,
+        end: 0,
+        misplaced: OptionalNumber::None,
+        sum: OptionalField::None,
+    }
+}
+
+// Whether there is such a field, or such a number.
 fn has_field(n: OptionalField) -> bool
     ensures { λ r. ⌜ r ≡ has (optionalField n) ⌝ }
 {
@@ -74,7 +90,14 @@ pub fn may_stand(p: Progress, says: FieldSays) -> bool
 }
 
 // Where the first misplaced L starts: one before, or this one.
-fn misplaced_after(fuses: u32, before: OptionalNumber, end: usize, at: u32, first: u32, count: usize) -> OptionalNumber
+fn misplaced_after(
+    fuses: u32,
+    before: OptionalNumber,
+    end: usize,
+    at: u32,
+    first: u32,
+    count: usize,
+) -> OptionalNumber
     requires { ⌜ count ≤ longest ⌝ }
     ensures { λ r. ⌜ r ≡ misplacedAfter fuses before end at first count ⌝ }
 {

@@ -1,4 +1,3 @@
 -- The laws about the reader.
 -- Assumes nothing.
 pub mod Steps
-pub mod Ends

@@ -14,15 +14,15 @@ use lib.ListN.{length, drop}
 use borrow.Author.Tests.{lt-ltb, not-true}
 use Rattle.part.proofs.Facts.{compared, and-iff}
 use Rattle.jedec.specs.Rules.{Listed, Known, has, hasAny, inOrder, after, endOf, misplaced, startState}
-use Rattle.jedec_fields.specs.Fields.{statesOf, judgedAfter, ListFits, SaysFits}
-use Rattle.jedec_fields.specs.declared.FieldSays.{FieldSays}
-use Rattle.jedec_fields.specs.declared.FieldSays.the-variants as says
+use Rattle.jedec_judge.specs.Judged.{statesOf, judgedAfter, ListFits, SaysFits}
+use Rattle.jedec_judge.specs.declared.FieldSays.{FieldSays}
+use Rattle.jedec_judge.specs.declared.FieldSays.the-variants as says
 use Rattle.jedec.specs.Form.{lastEnd}
 use Rattle.jedec_image.specs.States.{withStates, putField, PutFits}
 use Rattle.jedec_image.proofs.Puts.{written-bits}
 use Rattle.jedec_image.proofs.Images.{Holds, start-holds, put-listed, last-more, still-misplaced, now-misplaced}
 use Rattle.jedec_progress.specs.Progress.{optionalNumber, mayStand, misplacedAfter, afterField}
-use Rattle.jedec_reader.specs.Walk.{ProgressKnows}
+use Rattle.jedec_progress.specs.Progress.{ProgressKnows}
 use Rattle.jedec_progress.specs.declared.progress.OptionalNumber.{OptionalNumber}
 use Rattle.jedec_progress.specs.declared.progress.OptionalNumber.the-variants as optional-number
 use Rattle.jedec_progress.specs.declared.progress.Progress.{Progress}
@@ -36,8 +36,8 @@ in-order fuses p k image rest (says.Sum x) g = rw (g .count, g .sum)
 in-order fuses p k image rest says.Skipped g = refl
 in-order fuses p k image rest says.Bad g = refl
 
-list-space : (fuses end at first number : ℕ) (before : OptionalNumber) → misplacedAfter fuses before end at first number ≡ optional-number.None
-    → first + number ≤ fuses
+list-space : (fuses end at first number : ℕ) (before : OptionalNumber)
+    → misplacedAfter fuses before end at first number ≡ optional-number.None → first + number ≤ fuses
 list-space fuses end at first number (optional-number.Some x) e = let z : _≡_ {A = ℕ} 0 1 = cc in absurd (omega arith)
 list-space fuses end at first number optional-number.None e =
     compared fuses (first + number)
@@ -112,7 +112,8 @@ module _ (fuses : ℕ) (p : Progress) (k : Known) (image rest : List ℕ) (at : 
   list-after : (first skip number : ℕ) → ListFits rest skip number → After (says.List first skip number)
   list-after first skip number f =
       let l : Listed = record { at = at; first = first; states = statesOf (drop skip rest) } in
-      let faulty : optionalNumber (misplacedAfter fuses (p .misplaced) (p .end) at first number) ≡ misplaced fuses 0 (k .lists ++ (l ∷ [])) =
+      let faulty : optionalNumber (misplacedAfter fuses (p .misplaced) (p .end) at first number)
+      ≡ misplaced fuses 0 (k .lists ++ (l ∷ [])) =
       rw (← f .many) (faulty-after fuses (k .lists) l (p .misplaced) (p .end) (g .end) (g .faulty)) in
       let held : misplaced fuses 0 (k .lists ++ (l ∷ [])) ≡ none
       → Holds fuses (startState (k .start)) (k .lists ++ (l ∷ [])) (withStates image first (statesOf (drop skip rest))) =

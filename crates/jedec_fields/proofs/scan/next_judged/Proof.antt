@@ -13,11 +13,12 @@ use Rattle.jedec.specs.Cut.{blanksBefore, startsWith, holdsMark}
 use Rattle.jedec.specs.Judge.{judge, listIn}
 use Rattle.jedec.specs.Judge.Judged.{bad}
 use Rattle.jedec_fields.specs.Fields.{untilStar, ListAt, NoList, ListStands, Stands}
-use Rattle.jedec_fields.specs.declared.FieldSays.the-variants as says
-use Rattle.jedec_fields.specs.declared.ListField.{ListField}
-use Rattle.jedec_fields.specs.declared.ListField.the-variants as list-field
+use Rattle.jedec_judge.specs.declared.FieldSays.the-variants as says
+use Rattle.jedec_fields.specs.declared.lists.ListField.{ListField}
+use Rattle.jedec_fields.specs.declared.lists.ListField.the-variants as list-field
 use Rattle.jedec_fields.specs.declared.NextSays.the-variants.{Field}
-use Rattle.jedec_fields.proofs.Fields.{rest-whole, nothing-left, the-end, no-star, a-field}
+use Rattle.jedec_judge.proofs.Slices.{rest-whole}
+use Rattle.jedec_fields.proofs.Fields.{nothing-left, the-end, no-star, a-field}
 use borrow.Author.Needs.{needs}
 use Rattle.jedec_fields.proofs.scan.next_judged.Statement.{statement}
 use Rattle.jedec_fields.proofs.scan.next_judged.Tie as tie

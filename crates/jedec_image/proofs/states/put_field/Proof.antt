@@ -9,10 +9,10 @@ use lib.ListN.{length, take, drop, length-drop}
 use lib.Seq.{drop-drop}
 use Rattle.jedec.specs.Judge.{statesIn}
 use Rattle.jedec.specs.Rules.{stateGiven, imageWith}
-use Rattle.jedec_fields.specs.Fields.{statesOf}
-use Rattle.jedec_fields.proofs.Fields.{rest-whole}
-use Rattle.jedec_fields.specs.declared.FieldSays.{FieldSays}
-use Rattle.jedec_fields.specs.declared.FieldSays.the-variants as says
+use Rattle.jedec_judge.specs.Judged.{statesOf}
+use Rattle.jedec_judge.proofs.Slices.{rest-whole}
+use Rattle.jedec_judge.specs.declared.FieldSays.{FieldSays}
+use Rattle.jedec_judge.specs.declared.FieldSays.the-variants as says
 use Rattle.jedec_image.specs.States.{withStates, putField, ListGoesIn, PutFits}
 use Rattle.jedec_progress.specs.declared.progress.OptionalNumber.{OptionalNumber}
 use Rattle.jedec_progress.specs.declared.progress.OptionalNumber.the-variants as optional-number
@@ -27,7 +27,8 @@ filled : (fuses : ℕ) (rest : List ℕ) (s : FieldSays) (m : OptionalNumber) (x
     → after ≡ imageWith fuses (stateGiven x []) → after ≡ putField fuses rest s m image
 filled fuses rest s m x image after w e = rw w e
 
-module _ (fuses : ℕ) (field : List ℕ) (s : FieldSays) (m : OptionalNumber) (first skip number : ℕ) (w : s ≡ says.List first skip number) where
+module _ (fuses : ℕ) (field : List ℕ) (s : FieldSays) (m : OptionalNumber) (first skip number : ℕ)
+    (w : s ≡ says.List first skip number) where
   not-listed : (image : List ℕ) (x : ℕ) → m ≡ optional-number.Some x → image ≡ putField fuses (drop 1 field) s m image
   not-listed image x v = rw (w, v)
 

@@ -15,7 +15,7 @@ use Rattle.cells.specs.Cells.{cut, join}
 use Rattle.cells.proofs.Laws.{cut-length, join-small, total-replicate}
 use Rattle.jedec_runs.specs.Runs.{IsBlankAt, StatesAt}
 use Rattle.jedec_runs.proofs.Words.{StatesTaken, taken-at, none-first}
-use Rattle.jedec_fields.specs.Fields.{statesOf}
+use Rattle.jedec_judge.specs.Judged.{statesOf}
 use Rattle.jedec_image.specs.States.{withStates}
 use Rattle.jedec_image.proofs.Puts.{WritesStates, rest-written, none-written, pending, pending-none, pending-own, group-under}
 use Rattle.jedec_image.proofs.Puts.{put-few, put-over}

@@ -3,8 +3,8 @@
 use mathlib.Core.Path.{_≡_}
 use Prim.Native.Nat.{ℕ, _≤_}
 use Rattle.jedec.specs.Meaning.{longest}
-use Rattle.jedec_fields.specs.declared.FieldSays.{FieldSays}
-use Rattle.jedec_fields.specs.declared.FieldSays.the-variants as says
+use Rattle.jedec_judge.specs.declared.FieldSays.{FieldSays}
+use Rattle.jedec_judge.specs.declared.FieldSays.the-variants as says
 use Rattle.jedec_progress.specs.Progress.{withCount, withStart, withList, withSum, FewStates, afterField}
 use Rattle.jedec_progress.specs.declared.progress.Progress.{Progress}
 use borrow.Author.Needs.{needs}

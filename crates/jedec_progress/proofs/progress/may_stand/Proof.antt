@@ -4,8 +4,8 @@ use mathlib.Core.Path.{_≡_}
 use mathlib.Core.Bool.{Bool, not, _&&_}
 use Prim.Native.Nat.{ℕ}
 use Rattle.jedec.specs.Rules.{has}
-use Rattle.jedec_fields.specs.declared.FieldSays.{FieldSays}
-use Rattle.jedec_fields.specs.declared.FieldSays.the-variants as says
+use Rattle.jedec_judge.specs.declared.FieldSays.{FieldSays}
+use Rattle.jedec_judge.specs.declared.FieldSays.the-variants as says
 use Rattle.jedec_progress.specs.Progress.{optionalField, optionalNumber, mayStand}
 use Rattle.jedec_progress.specs.declared.progress.Progress.{Progress}
 use borrow.Author.Needs.{needs}
@@ -16,7 +16,8 @@ module _ (p : Progress) (s : FieldSays) (a : Bool) (e : a ≡ has (optionalField
   a-start : (b : Bool) (x : ℕ) → b ≡ has (optionalNumber (p .start)) → s ≡ says.Start x → (a && not b && not (p .listed)) ≡ mayStand p s
   a-start b x f w = rw (w, e, f)
 
-  a-list : (b : Bool) (first skip number : ℕ) → b ≡ has (optionalField (p .sum)) → s ≡ says.List first skip number → (a && not b) ≡ mayStand p s
+  a-list : (b : Bool) (first skip number : ℕ) → b ≡ has (optionalField (p .sum)) → s ≡ says.List first skip number
+      → (a && not b) ≡ mayStand p s
   a-list b first skip number f w = rw (w, e, f)
 
   a-sum : (b : Bool) (x : ℕ) → b ≡ has (optionalField (p .sum)) → s ≡ says.Sum x → (a && not b) ≡ mayStand p s

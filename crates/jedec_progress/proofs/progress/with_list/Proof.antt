@@ -10,7 +10,8 @@ use borrow.Author.Needs.{needs}
 use Rattle.jedec_progress.proofs.progress.with_list.Statement.{statement}
 use Rattle.jedec_progress.proofs.progress.with_list.Tie as tie
 
-listed : (fuses : ℕ) (p : Progress) (at first number : ℕ) (m : OptionalNumber) → m ≡ misplacedAfter fuses (p .misplaced) (p .end) at first number
+listed : (fuses : ℕ) (p : Progress) (at first number : ℕ) (m : OptionalNumber)
+    → m ≡ misplacedAfter fuses (p .misplaced) (p .end) at first number
     → record { count = p .count; start = p .start; listed = true; end = first + number; misplaced = m; sum = p .sum }
     ≡ withList fuses p at first number
 listed fuses p at first number m e = rw e

@@ -1,6 +1,5 @@
 -- `largest_image` meets its contract: a replicated byte has the length that it is replicated to.
 -- Assumes nothing.
-use mathlib.Core.Path.{sym}
 use Prim.Native.Nat.{ℕ}
 use lib.ListN.{length-replicate}
 use Rattle.jedec_reader.specs.Walk.{largestImage}

@@ -16,8 +16,8 @@ use Rattle.jedec.specs.Cut.{pieces, holdsMark}
 use Rattle.jedec.specs.Meaning.{longest, ofCut, ofPieces, meaning}
 use Rattle.jedec_fields.specs.Fields.{untilStar, fieldsAt}
 use Rattle.jedec_fields.proofs.Fields.{Cuts, pieces-star, Uncut, pieces-none}
-use Rattle.jedec_reader.specs.Walk.{TextRead}
-use Rattle.jedec_reader.proofs.Ends.{refused-reads}
+use Rattle.jedec_end.specs.End.{TextRead}
+use Rattle.jedec_end.proofs.Ends.{refused-reads}
 use borrow.Author.Needs.{needs}
 use Rattle.jedec_reader.proofs.walk.read_text.Statement.{statement}
 use Rattle.jedec_reader.proofs.walk.read_text.Tie as tie

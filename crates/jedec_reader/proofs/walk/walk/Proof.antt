@@ -14,23 +14,25 @@ use Rattle.jedec.specs.Cut.{Cut}
 use Rattle.jedec.specs.Judge.{judge}
 use Rattle.jedec.specs.Rules.{Known, nothingKnown, inOrder, after, allFields, misplaced, stateGiven, imageWith}
 use Rattle.jedec.specs.Meaning.{longest, withEnd, withFields, ofCut}
-use Rattle.jedec_fields.specs.Fields.{judgedAfter, SaysFits, Says, fieldsAt, cutOf, Inside, Stands}
-use Rattle.jedec_fields.specs.declared.FieldSays.{FieldSays}
-use Rattle.jedec_fields.specs.declared.FieldSays.the-variants as says
+use Rattle.jedec_judge.specs.Judged.{judgedAfter, SaysFits, Says}
+use Rattle.jedec_fields.specs.Fields.{fieldsAt, cutOf, Inside, Stands}
+use Rattle.jedec_judge.specs.declared.FieldSays.{FieldSays}
+use Rattle.jedec_judge.specs.declared.FieldSays.the-variants as says
 use Rattle.jedec_fields.specs.declared.NextSays.{NextSays}
 use Rattle.jedec_fields.specs.declared.NextSays.the-variants as next
 use Rattle.jedec.specs.Form.{lastEnd}
 use Rattle.jedec.proofs.States.{image-length}
 use Rattle.jedec_image.proofs.Images.{start-holds}
 use Rattle.jedec_image.proofs.Lengths.{put-length}
-use Rattle.jedec_progress.specs.Progress.{mayStand, FewStates, afterField}
+use Rattle.jedec_progress.specs.Progress.{noProgress, mayStand, FewStates, afterField}
 use Rattle.jedec_image.specs.States.{putField, PutFits}
-use Rattle.jedec_reader.specs.Walk.{ProgressKnows, TextRead}
+use Rattle.jedec_progress.specs.Progress.{ProgressKnows}
+use Rattle.jedec_end.specs.End.{TextRead}
 use Rattle.jedec_progress.specs.declared.progress.OptionalNumber.the-variants as optional-number
 use Rattle.jedec_progress.specs.declared.progress.OptionalField.the-variants as optional-field
 use Rattle.jedec_progress.specs.declared.progress.Progress.{Progress}
 use Rattle.jedec_reader.proofs.Steps.{in-order, put-fits, given-after}
-use Rattle.jedec_reader.proofs.Ends.{refused-reads}
+use Rattle.jedec_end.proofs.Ends.{refused-reads}
 use borrow.Author.Needs.{needs}
 use Rattle.jedec_reader.proofs.walk.walk.Statement.{statement}
 use Rattle.jedec_reader.proofs.walk.walk.Tie as tie
@@ -48,12 +50,11 @@ record Walks (fuses : ℕ) (text : List ℕ) (from : ℕ) (image₀ image : List
   inside : at ≤ length text
   rest : ofRest fuses text k (fieldsAt at (drop at text)) ≡ ofCut fuses text (fieldsAt from (drop from text))
 
-starts : (fuses : ℕ) (text : List ℕ) (from : ℕ) (image : List ℕ) → from ≤ length text → image ≡ imageWith fuses (stateGiven 0 [])
-    → Walks fuses text from image image
-    (record { count = optional-field.None; start = optional-number.None; listed = false; end = 0; misplaced = optional-number.None; sum = optional-field.None }) from
+starts : (fuses : ℕ) (text : List ℕ) (from : ℕ) (image : List ℕ) (p : Progress) → p ≡ noProgress → from ≤ length text
+    → image ≡ imageWith fuses (stateGiven 0 []) → Walks fuses text from image image p from
 unfolding misplaced lastEnd
-starts fuses text from image l e =
-    record {
+starts fuses text from image p none l e =
+    rw none (record {
       k = nothingKnown;
       given = record {
         count = refl;
@@ -69,7 +70,7 @@ starts fuses text from image l e =
       same = refl;
       inside = l;
       rest = refl;
-    }
+    })
 
 module _ (fuses : ℕ) (text : List ℕ) (from : ℕ) (image₀ image : List ℕ) (p : Progress) (at : ℕ)
     (r : Walks fuses text from image₀ image p at) where
@@ -181,6 +182,9 @@ Inv-loop fuses text from image₀ p₀ at₀ image p at = Walks fuses text from 
 abbrev μ-loop : tie.MeasureT-loop
 μ-loop fuses text from image₀ p₀ at₀ image p at = length text - at
 
+no-progress-requires : tie.Need-no-progress-requires Inv-loop μ-loop
+no-progress-requires c κs = search needs
+
 loop-holds : tie.Need-loop-holds Inv-loop μ-loop
 loop-holds c = search (needs, starts)
 
@@ -256,6 +260,7 @@ walk-spec =
     (tie.spec
     Inv-loop
     μ-loop
+    no-progress-requires
     loop-holds
     next-judged-requires
     enum-told
