@@ -15,7 +15,7 @@ use Rattle.jedec.specs.Cut.Tail.{wrong}
 use Rattle.jedec.specs.Judge.{Judged, orBad, unbroken, statesIn, statesFrom, listIn}
 use Rattle.jedec.specs.Judge.Judged.{bad}
 use Rattle.jedec_runs.specs.Runs.{oneIfBlank}
-use Rattle.jedec_runs.proofs.Words.{none-first}
+use Rattle.jedec_runs.proofs.StatesWritten.{none-first}
 use Rattle.jedec_judge.specs.Judged.{orEmpty}
 use Rattle.jedec_judge.proofs.Numbers.{number-wrong}
 use Rattle.jedec_fields.proofs.PlainBytes.{digit-solid, blank-first}

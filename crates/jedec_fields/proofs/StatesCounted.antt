@@ -15,7 +15,8 @@ use Rattle.jedec.specs.Judge.{statesIn}
 use mir.Syntax.{w8}
 use mir.Val.{Fits}
 use Rattle.jedec_runs.specs.Runs.{IsBlankAt, StatesAt}
-use Rattle.jedec_runs.proofs.Words.{StatesTaken, taken-at, states-append, states-none}
+use Rattle.jedec_runs.proofs.StatesTaken.{StatesTaken, taken-at}
+use Rattle.jedec_runs.proofs.StatesWritten.{states-append, states-none}
 use Rattle.jedec_judge.specs.Judged.{orEmpty}
 use Rattle.jedec_fields.specs.Fields.{statesCount, RunStands}
 

@@ -73,15 +73,6 @@ pub fn next_judged(text: &[u8], at: usize) -> NextSays
                 says: FieldSays::List { first, skip, count },
             };
         }
-        let star = next_star(text, start);
-        if star == text.len() {
-            return NextSays::Early;
-        }
-        return NextSays::Field {
-            start,
-            star,
-            says: FieldSays::Bad,
-        };
     }
     let star = next_star(text, start);
     if star == text.len() {

@@ -2,12 +2,14 @@
 -- A field is judged without a list of its states: they are read off its bytes.
 use Prim.Native.Nat.{ℕ, _≤_, _<_}
 use mathlib.Core.Path.{_≡_}
+use mathlib.Core.Bool.{true}
 use mathlib.Core.List.{List, []}
 use mathlib.Core.Option.{Option}
 use mathlib.Core.Option.Option.{none, some}
 use lib.ListN.{length, getD, take, drop}
-use Rattle.jedec.specs.Characters.{decimalValue, digitsRead}
-use Rattle.jedec.specs.Judge.{Judged, statesIn}
+use Rattle.jedec.specs.Characters.{letterL, decimalValue, digitsRead}
+use Rattle.jedec.specs.Cut.{startsWith}
+use Rattle.jedec.specs.Judge.{Judged, statesIn, listIn}
 use Rattle.jedec.specs.Judge.Judged.{count, start, list, sum, skipped, bad}
 use Rattle.jedec_judge.specs.declared.digits.Digits.{Digits}
 use Rattle.jedec_judge.specs.declared.digits.Digits.the-variants as digits
@@ -67,3 +69,7 @@ SaysFits after says.Bad = Unit {0}
 pub record Says (after : List ℕ) (j : Judged) (r : FieldSays) : Type 0 where
   pub is : judgedAfter after r ≡ j
   pub fits : SaysFits after r
+
+-- A field that starts with an L is bad.
+abbrev pub NoGoodList : List ℕ → Type 0
+NoGoodList field = startsWith letterL field ≡ true → listIn (drop 1 field) ≡ bad

@@ -1,13 +1,10 @@
 // What a field says, by the letters that it starts with.
-// A function here may require that a field is no L field.
-ghost use mathlib.Core.Path.{_≡_};
-ghost use mathlib.Core.Bool.{false};
+// A function here may require that a field is no good L field: those are found by their states.
 ghost use lib.ListN.{drop};
-ghost use Rattle.jedec.specs.Characters.{letterL, sumIn};
-ghost use Rattle.jedec.specs.Cut.{startsWith};
+ghost use Rattle.jedec.specs.Characters.{sumIn};
 ghost use Rattle.jedec.specs.Judge.Judged.{sum};
 ghost use Rattle.jedec.specs.Judge.{orBad, startIn, afterQ, byLetters, judge};
-ghost use Rattle.jedec_judge.specs.Judged.{Says};
+ghost use Rattle.jedec_judge.specs.Judged.{NoGoodList, Says};
 use super::FieldSays;
 use super::digits::Digits;
 use super::digits::number_in;
@@ -62,9 +59,9 @@ fn after_c(bytes: &[u8]) -> FieldSays
     }
 }
 
-// What a field other than an L field says, by the letters that it starts with. It holds neither STX nor ETX.
+// What a field that is no good L field says, by the letters that it starts with. It holds neither STX nor ETX.
 fn by_letters(field: &[u8]) -> FieldSays
-    requires { ⌜ startsWith letterL (now field) ≡ false ⌝ }
+    requires { ⌜ NoGoodList (now field) ⌝ }
     ensures { λ r. ⌜ Says (drop 1 (now (field .entry))) (byLetters (now (field .entry))) r ⌝ }
 {
     if field.len() == 0 {
@@ -86,9 +83,9 @@ fn by_letters(field: &[u8]) -> FieldSays
     FieldSays::Bad
 }
 
-// What a field other than an L field says.
+// What a field that is no good L field says.
 pub fn judge_field(field: &[u8]) -> FieldSays
-    requires { ⌜ startsWith letterL (now field) ≡ false ⌝ }
+    requires { ⌜ NoGoodList (now field) ⌝ }
     ensures { λ r. ⌜ Says (drop 1 (now (field .entry))) (judge (now (field .entry))) r ⌝ }
 {
     if holds_mark(field) {

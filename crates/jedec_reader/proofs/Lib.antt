@@ -1,3 +1,4 @@
 -- The laws about the reader.
 -- Assumes nothing.
 pub mod Steps
+pub mod Walks

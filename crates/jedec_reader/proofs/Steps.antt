@@ -19,8 +19,8 @@ use Rattle.jedec_judge.specs.declared.FieldSays.{FieldSays}
 use Rattle.jedec_judge.specs.declared.FieldSays.the-variants as says
 use Rattle.jedec.specs.Form.{lastEnd}
 use Rattle.jedec_image.specs.States.{withStates, putField, PutFits}
-use Rattle.jedec_image.proofs.Puts.{written-bits}
-use Rattle.jedec_image.proofs.Images.{Holds, start-holds, put-listed, last-more, still-misplaced, now-misplaced}
+use Rattle.jedec_image.proofs.WrittenStates.{written-bits}
+use Rattle.jedec_image.proofs.ListedImages.{Holds, start-holds, put-listed, last-more, still-misplaced, now-misplaced}
 use Rattle.jedec_progress.specs.Progress.{optionalNumber, mayStand, misplacedAfter, afterField}
 use Rattle.jedec_progress.specs.Progress.{ProgressKnows}
 use Rattle.jedec_progress.specs.declared.progress.OptionalNumber.{OptionalNumber}

@@ -3,7 +3,7 @@
 use mathlib.Core.Path.{_≡_, sym, _∙_, ap}
 use mathlib.Core.List.{List, []}
 use mathlib.Core.Option.Option.{some}
-use Prim.Native.Nat.{ℕ, _+_, _*_, _-_, _/_, _≤_, _<_}
+use Prim.Native.Nat.{ℕ, _+_, _*_, _-_, _/_, _^_, _≤_, _<_}
 use native.Mathlib.Omega.{arith}
 use lib.ListN.{length, take, drop, length-drop}
 use lib.Seq.{drop-drop}
@@ -39,6 +39,9 @@ module _ (fuses : ℕ) (field : List ℕ) (s : FieldSays) (m : OptionalNumber) (
     from-there : skip + 1 ≤ length field
     from-there = omega (arith, goes .list .inside, goes .list .few, goes .list .any, length-drop 1 field)
 
+    from-small : length field < 2 ^ 64 → skip + 1 < 2 ^ 64
+    from-small l = omega (arith, from-there)
+
     bytes : take (length field - (skip + 1)) (drop (skip + 1) field) ≡ drop skip (drop 1 field)
     bytes =
         let e : skip + 1 ≡ 1 + skip = omega arith in
@@ -72,9 +75,7 @@ enum-told : tie.Need-enum-told
 enum-told c = search needs
 
 add-from : tie.Need-add-from
-add-from c =
-    let h : c .before .before .before .says2 .given .0 .1 .0 + 1
-    ≤ length (c .before .before .before .before .before .before .before .args .field .now) = search (needs, from-there) in omega arith
+add-from c = record { fits = search (needs, from-small) }
 
 sub-put-states : tie.Need-sub-put-states
 sub-put-states c = search (needs, from-there)

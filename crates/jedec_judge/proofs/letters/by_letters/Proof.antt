@@ -1,7 +1,7 @@
 -- `by_letters` meets its contract: one letter after another.
 -- Assumes nothing.
-use mathlib.Core.Path.{_≡_, refl, _∙_}
-use mathlib.Core.Bool.{true, false, _||_}
+use mathlib.Core.Path.{_≡_, refl, sym, _∙_}
+use mathlib.Core.Bool.{Bool, true, false, cond, _||_}
 use mathlib.Core.List.{List, [], _∷_}
 use Prim.Native.Nat.{ℕ, _-_}
 use native.Mathlib.Omega.{arith}
@@ -9,10 +9,9 @@ use lib.Dec.{eqb}
 use lib.ListN.{length, getD, take, drop}
 use borrow.Author.Tests.{eq-eqb, ne-eqb}
 use Rattle.jedec.specs.Characters.{sumIn}
-use Rattle.jedec.specs.Cut.{startsWith}
-use Rattle.jedec.specs.Judge.{Judged, orBad, startIn, afterQ, byLetters}
-use Rattle.jedec.specs.Judge.Judged.{sum}
-use Rattle.jedec_judge.specs.Judged.{Says}
+use Rattle.jedec.specs.Judge.{Judged, orBad, startIn, listIn, afterQ, byLetters}
+use Rattle.jedec.specs.Judge.Judged.{sum, bad}
+use Rattle.jedec_judge.specs.Judged.{NoGoodList, Says}
 use Rattle.jedec_judge.specs.declared.FieldSays.{FieldSays}
 use Rattle.jedec_judge.specs.declared.FieldSays.the-variants.{Skipped, Bad}
 use Rattle.jedec_judge.proofs.Slices.{rest-whole}
@@ -58,25 +57,31 @@ module _ (r : FieldSays) where
         go [] h n nq e = absurd (h refl)
         go (b ∷ field) h n nq e = rw (n, ne-eqb b 81 nq, eq-eqb b 70 e)
 
-    module _ (nf : getD field 0 0 ≡ 70 → ⊥) (nl : startsWith 76 field ≡ false) where
-      a-c : getD field 0 0 ≡ 67
-          → Says (take (length field - 1) (drop 1 field)) (orBad (sumIn (take (length field - 1) (drop 1 field))) sum) r
-          → Says (drop 1 field) (byLetters field) r
-      a-c e s = passed field (λ bytes. orBad (sumIn bytes) sum) (byLetters field) r s (go field h n nq nf nl e)
-        where
-          go : (field : List ℕ) → (length field ≡ 0 → ⊥)
-              → (eqb (getD field 0 0) 78 || eqb (getD field 0 0) 74 || eqb (getD field 0 0) 88) ≡ false
-              → (getD field 0 0 ≡ 81 → ⊥) → (getD field 0 0 ≡ 70 → ⊥) → startsWith 76 field ≡ false → getD field 0 0 ≡ 67
-              → orBad (sumIn (drop 1 field)) sum ≡ byLetters field
-          go [] h n nq nf nl e = absurd (h refl)
-          go (b ∷ field) h n nq nf nl e = rw (n, ne-eqb b 81 nq, ne-eqb b 70 nf, nl, eq-eqb b 67 e)
+    a-c : (getD field 0 0 ≡ 70 → ⊥) → getD field 0 0 ≡ 67
+        → Says (take (length field - 1) (drop 1 field)) (orBad (sumIn (take (length field - 1) (drop 1 field))) sum) r
+        → Says (drop 1 field) (byLetters field) r
+    a-c nf e s = passed field (λ bytes. orBad (sumIn bytes) sum) (byLetters field) r s (go field h n nq nf e)
+      where
+        go : (field : List ℕ) → (length field ≡ 0 → ⊥)
+            → (eqb (getD field 0 0) 78 || eqb (getD field 0 0) 74 || eqb (getD field 0 0) 88) ≡ false
+            → (getD field 0 0 ≡ 81 → ⊥) → (getD field 0 0 ≡ 70 → ⊥) → getD field 0 0 ≡ 67
+            → orBad (sumIn (drop 1 field)) sum ≡ byLetters field
+        go [] h n nq nf e = absurd (h refl)
+        go (b ∷ field) h n nq nf e =
+            let nl : b ≡ 76 → ⊥ = λ l. omega arith in
+            rw (n, ne-eqb b 81 nq, ne-eqb b 70 nf, ne-eqb b 76 nl, eq-eqb b 67 e)
 
 another : (field : List ℕ) → (length field ≡ 0 → ⊥)
     → (eqb (getD field 0 0) 78 || eqb (getD field 0 0) 74 || eqb (getD field 0 0) 88) ≡ false
-    → (getD field 0 0 ≡ 81 → ⊥) → (getD field 0 0 ≡ 70 → ⊥) → startsWith 76 field ≡ false → (getD field 0 0 ≡ 67 → ⊥)
+    → (getD field 0 0 ≡ 81 → ⊥) → (getD field 0 0 ≡ 70 → ⊥) → NoGoodList field → (getD field 0 0 ≡ 67 → ⊥)
     → Says (drop 1 field) (byLetters field) Bad
-another [] h n nq nf nl nc = absurd (h refl)
-another (b ∷ field) h n nq nf nl nc = record { is = rw (n, ne-eqb b 81 nq, ne-eqb b 70 nf, nl, ne-eqb b 67 nc); fits = tt }
+another [] h n nq nf bad-list nc = absurd (h refl)
+another (b ∷ field) h n nq nf bad-list nc =
+    record { is = rw (n, ne-eqb b 81 nq, ne-eqb b 70 nf, ne-eqb b 67 nc) (go (eqb b 76) bad-list); fits = tt }
+  where
+    go : (l : Bool) → (l ≡ true → listIn field ≡ bad) → bad ≡ cond l (listIn field) bad
+    go true f = sym (f refl)
+    go false f = refl
 
 returns : tie.Need-returns
 returns c = search (needs, nothing-there)
