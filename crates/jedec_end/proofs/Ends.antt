@@ -1,6 +1,5 @@
--- Laws of the end of a text: what the reader answers is what the text means.
---   refused-reads       a refusal; no image is asked for
---   eight, nine, ten, eleven, nothing-wrong     a text of good form
+-- The end of a text: what the reader answers, a refusal of 8 to 11 or the image, is what the text means.
+-- A law is named by its refusal, and `nothing-wrong` says that the image is the text's.
 use mathlib.Core.Path.{_≡_, sym, _∙_, ap}
 use mathlib.Core.List.{List}
 use mathlib.Core.Option.Option.{none, some}

@@ -28,7 +28,7 @@ module _ (text : List ℕ) (i sum : ℕ) (all : Tail) where
   pub tail-stops : (t : Bool) → t ≡ isBlank (getD text i 0) → not t ≡ true → i < length text
       → tailFrom i 0 sum (drop i text) ≡ all → wrong i ≡ all
   unfolding tailFrom
-  tail-stops t e n l h = let solid : isBlank (getD text i 0) ≡ false = sym e ∙ not-true t n in rw (drop-cons text i 0 l, solid) at h
+  tail-stops t e n l h = let other : isBlank (getD text i 0) ≡ false = sym e ∙ not-true t n in rw (drop-cons text i 0 l, other) at h
 
   pub tail-ends : length text ≤ i → tailFrom i 0 sum (drop i text) ≡ all → given sum ≡ all
   unfolding tailFrom

@@ -12,6 +12,7 @@ use Rattle.jedec_end.specs.Outcome.{verdict, resultOf}
 use Rattle.jedec_end.specs.declared.tail.TailSays.{TailSays}
 use Rattle.jedec_end.specs.declared.tail.TailSays.the-variants as tail
 
+-- What an answer about the bytes after ETX says.
 abbrev pub tailOf : TailSays → Tail
 tailOf (tail.Given x) = given x
 tailOf (tail.Wrong at) = wrong at

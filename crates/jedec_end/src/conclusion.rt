@@ -17,7 +17,7 @@ use jedec_progress::progress::Progress;
 use part::DoneAnswer;
 use part::Refusal;
 
-// 8: QF is not the count, or absent.
+// Refusal 8: QF is not the count, or absent.
 fn wrong_count(fuses: u32, etx: u32, count: OptionalField) -> OptionalNumber
     ensures { λ r. ⌜ optionalNumber r ≡ wrongCount fuses etx (optionalField count) ⌝ }
 {
@@ -32,7 +32,7 @@ fn wrong_count(fuses: u32, etx: u32, count: OptionalField) -> OptionalNumber
     }
 }
 
-// 10: C differs from the sum of the image.
+// Refusal 10: C differs from the sum of the image.
 fn wrong_sum(image: &[u8], sum: OptionalField) -> OptionalNumber
     ensures { λ r. ⌜ optionalNumber r ≡ wrongSum (now (image .entry)) (optionalField sum) ⌝ }
 {
@@ -47,7 +47,7 @@ fn wrong_sum(image: &[u8], sum: OptionalField) -> OptionalNumber
     }
 }
 
-// 11: the transmission sum differs and is not 0000.
+// Refusal 11: the transmission sum differs and is not 0000.
 fn wrong_transmission(text: &[u8], etx: usize, given: u32) -> OptionalNumber
     requires { ⌜ (etx < length (now text)) × (length (now text) ≤ longest) ⌝ }
     ensures { λ r. ⌜ optionalNumber r ≡ wrongTransmission (now (text .entry)) etx given ⌝ }
@@ -60,7 +60,7 @@ fn wrong_transmission(text: &[u8], etx: usize, given: u32) -> OptionalNumber
     OptionalNumber::Some(etx as u32)
 }
 
-// A text of good form: 8, 9, 10, 11, or its image.
+// A text of good form is refused by the lowest of 8, 9, 10 and 11, or else the image is the text's.
 fn conclude(
     fuses: u32,
     text: &[u8],
@@ -94,7 +94,7 @@ fn conclude(
     DoneAnswer::Done
 }
 
-// From the ETX after the fields on.
+// The answer to a text by what stands from the ETX after the fields on.
 pub fn finish(fuses: u32, text: &[u8], etx: usize, p: Progress, image: &[u8]) -> DoneAnswer
     requires { ⌜ (etx < length (now text)) × (length (now text) ≤ longest) ⌝ }
     ensures { λ r. ⌜ ((k : Known) → ProgressKnows fuses p k (now (image .entry))

@@ -18,14 +18,14 @@ use Rattle.jedec_runs.specs.Runs.{oneIfBlank}
 use Rattle.jedec_runs.proofs.StatesWritten.{none-first}
 use Rattle.jedec_judge.specs.Judged.{orEmpty}
 use Rattle.jedec_judge.proofs.Numbers.{number-wrong}
-use Rattle.jedec_fields.proofs.PlainBytes.{digit-solid, blank-first}
+use Rattle.jedec_fields.proofs.PlainBytes.{digit-not-blank, blank-first}
 
 pub full-list : (states : List ℕ) (first : ℕ) → (length states ≡ 0 → ⊥) → Judged.list first states ≡ statesFrom (some states) first
 full-list [] first e = absurd (e refl)
 full-list (s ∷ states) first e = refl
 
 -- No digit is a blank.
-pub unbroken-past : (a t : List ℕ) (x v : ℕ) → digitsRead 10 decimalValue x a ≡ some v → unbroken (a ++ t) ≡ length a + unbroken t
+unbroken-past : (a t : List ℕ) (x v : ℕ) → digitsRead 10 decimalValue x a ≡ some v → unbroken (a ++ t) ≡ length a + unbroken t
 unfolding digitsRead unbroken
 unbroken-past [] t x v e = sym (zero-add (unbroken t))
 unbroken-past (d ∷ a) t x v e = go (decimalValue d) refl e (λ y f. unbroken-past a t (x * 10 + y) v f)
@@ -34,11 +34,11 @@ unbroken-past (d ∷ a) t x v e = go (decimalValue d) refl e (λ y f. unbroken-p
         → ((y : ℕ) → digitsRead 10 decimalValue (x * 10 + y) a ≡ some v → unbroken (a ++ t) ≡ length a + unbroken t)
         → cond (isBlank d) 0 (suc (unbroken (a ++ t))) ≡ suc (length a) + unbroken t
     go none f g ih = let z : _≡_ {A = ℕ} 0 1 = cc in absurd (omega arith)
-    go (some y) f g ih = rw (digit-solid d y f, suc-add (length a) (unbroken t)) (ap suc (ih y g))
+    go (some y) f g ih = rw (digit-not-blank d y f, suc-add (length a) (unbroken t)) (ap suc (ih y g))
 
--- What a list says, by what stands behind its first digits.
+-- What a list says is told by what stands behind its first digits.
 module _ (a : List ℕ) (v : ℕ) (e : digitsRead 10 decimalValue 0 a ≡ some v) where
-  pub list-past : (t : List ℕ) → listIn (a ++ t) ≡ orBad (numberIn (a ++ take (unbroken t) t)) (statesFrom (statesIn (drop (unbroken t) t)))
+  list-past : (t : List ℕ) → listIn (a ++ t) ≡ orBad (numberIn (a ++ take (unbroken t) t)) (statesFrom (statesIn (drop (unbroken t) t)))
   unfolding listIn
   list-past t = rw (unbroken-past a t 0 v e, take-append-add a t (unbroken t), drop-append-add a t (unbroken t))
 
@@ -52,12 +52,12 @@ no-states-bad (some x) none z = refl
 no-states-bad (some x) (some []) z = refl
 no-states-bad (some x) (some (s ∷ states)) z = absurd (omega arith)
 
-pub no-number-bad : (a t : List ℕ) (b : ℕ) → length a ≡ 0 → isBlank b ≡ true → listIn (a ++ (b ∷ t)) ≡ bad
+no-number-bad : (a t : List ℕ) (b : ℕ) → length a ≡ 0 → isBlank b ≡ true → listIn (a ++ (b ∷ t)) ≡ bad
 unfolding listIn unbroken numberIn
 no-number-bad [] t b z h = rw h
 no-number-bad (d ∷ a) t b z h = absurd (omega arith)
 
--- Digits that no blank ends, or a blank without digits.
+-- A list is bad where no blank ends its digits, or where a blank has no digits before it.
 pub unended-bad : (a : List ℕ) (v k : ℕ) (t : List ℕ) → digitsRead 10 decimalValue 0 a ≡ some v
     → (length a < 7 → 0 < length t → decimalValue (getD t 0 0) ≡ none)
     → (isBlank (getD t 0 0) ≡ true → length a ≡ 0) → listIn (a ++ take k t) ≡ bad
@@ -72,10 +72,10 @@ unended-bad a v (suc k) (b ∷ t) e f g = go (isBlank b) refl
         let wrong = number-wrong a (take (unbroken (take k t)) (take k t)) v b e (λ m. f m (omega arith)) in
         list-past a v e (b ∷ take k t) ∙ rw (h, ← wrong)
 
-pub solid-first : (t : List ℕ) → oneIfBlank t ≡ 0 → isBlank (getD t 0 0) ≡ true → ⊥
-solid-first [] e h = true≢false (sym h)
-solid-first (b ∷ t) e h = let z : _≡_ {A = ℕ} 1 0 = rw h at e in omega arith
+pub first-not-blank : (t : List ℕ) → oneIfBlank t ≡ 0 → isBlank (getD t 0 0) ≡ true → ⊥
+first-not-blank [] e h = true≢false (sym h)
+first-not-blank (b ∷ t) e h = let z : _≡_ {A = ℕ} 1 0 = rw h at e in omega arith
 
--- A byte that is neither a state nor a blank, whatever follows.
+-- After a byte that is neither a state nor a blank no bytes make the list good.
 pub wrong-then : (w t : List ℕ) (b : ℕ) → statesIn (w ++ (b ∷ [])) ≡ none → statesIn (w ++ (b ∷ t)) ≡ none
 wrong-then w t b e = none-first (length w + 1) (w ++ (b ∷ t)) (rw (take-append-add w (b ∷ t) 1) e)

@@ -15,7 +15,7 @@ use Rattle.jedec.specs.Characters.{isBlank}
 use Rattle.jedec.specs.Cut.{blanksBefore}
 use Rattle.jedec_fields.specs.Fields.{untilStar}
 
--- Bytes counted up to the first that stops the count.
+-- A count that goes on from byte to byte up to the first that stops it.
 record Counts (f : List ℕ → ℕ) (stop : ℕ → Bool) : Type 0 where
   nil : f [] ≡ 0
   here : (b : ℕ) (bytes : List ℕ) → stop b ≡ true → f (b ∷ bytes) ≡ 0

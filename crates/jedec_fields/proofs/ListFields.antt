@@ -26,9 +26,9 @@ use Rattle.jedec_fields.specs.declared.lists.StatesRun.{StatesRun}
 use Rattle.jedec_fields.proofs.StatesCounted.{some-counted}
 use Rattle.jedec_fields.proofs.PlainBytes.{Plain, AllPlain, plain-until, plain-marks, blank-plain, digits-plain}
 use Rattle.jedec_fields.proofs.PlainBytes.{states-plain, all-plain, plain-field}
-use Rattle.jedec_fields.proofs.BadLists.{full-list, list-blank, no-states-bad, unended-bad, solid-first, wrong-then}
+use Rattle.jedec_fields.proofs.BadLists.{full-list, list-blank, no-states-bad, unended-bad, first-not-blank, wrong-then}
 
--- What follows an L.
+-- The digits are read first, then the blank, then the states.
 module _ (after : List ℕ) (d : LeadingDigits) (s : DigitsStand after d) where
   digits-long : length (take (d .length) after) ≡ d .length
   digits-long = first-long after d s
@@ -52,7 +52,7 @@ module _ (after : List ℕ) (d : LeadingDigits) (s : DigitsStand after d) where
   no-digits z = unended (λ b. z)
 
   pub no-blank : (z : ℕ) → IsBlankAt after (d .length) z → z ≡ 0 → NoList after
-  no-blank z at-end e = unended (λ b. absurd (solid-first (drop (d .length) after) (sym (at-end .is) ∙ e) b))
+  no-blank z at-end e = unended (λ b. absurd (first-not-blank (drop (d .length) after) (sym (at-end .is) ∙ e) b))
 
   module _ (some-there : d .length ≡ 0 → ⊥) (z : ℕ) (at-end : IsBlankAt after (d .length) z) (a-blank : z ≡ 0 → ⊥) where
     pub blank-inside : d .length + 1 ≤ length after
@@ -96,7 +96,7 @@ module _ (after : List ℕ) (d : LeadingDigits) (s : DigitsStand after d) where
           × (length (orEmpty (statesIn states)) ≡ run .count)
       counted-states = some-counted (statesIn states) (run .count) (sym (runs .writes))
 
-      -- Up to where the states end: digits, a blank and states.
+      -- Up to where the states end stand digits, a blank and states.
       parts : take long after ≡ take (d .length) after ++ (getD after (d .length) 0 ∷ states)
       parts =
           let e : d .length + 1 + run .length ≡ d .length + suc (run .length) = omega arith in
@@ -109,7 +109,7 @@ module _ (after : List ℕ) (d : LeadingDigits) (s : DigitsStand after d) where
           rw parts (all-plain (take (d .length) after) _ (digits-plain (take (d .length) after) 0 (d .value) (s .reads))
           (b-plain, states-plain states _ (counted-states .0)))
 
-      -- What the field says by the bytes behind these.
+      -- What the field says depends on the bytes behind these.
       says-list : (x : List ℕ) → listIn (take long after ++ x) ≡ statesFrom (statesIn (states ++ x)) (d .value)
       says-list x =
           rw (parts, append-assoc (take (d .length) after) (getD after (d .length) 0 ∷ states) x)

@@ -17,7 +17,7 @@ use Rattle.jedec.specs.Judge.{withFirst, statesIn}
 use Rattle.jedec.specs.Judge.Judged.{bad}
 use Rattle.jedec_fields.specs.Fields.{untilStar}
 
--- Bytes that are neither `*` nor STX nor ETX.
+-- A byte that is neither `*` nor STX nor ETX, and bytes that are all such.
 abbrev pub Plain : ℕ → Type 0
 Plain b = (eqb b 42 ≡ false) × (isMark b ≡ false)
 
@@ -38,23 +38,24 @@ unfolding AllPlain holdsMark
 plain-marks [] c p = refl
 plain-marks (b ∷ a) c p = rw (p .0 .1) (plain-marks a c (p .1))
 
-digit-plain : (b y : ℕ) → decimalValue b ≡ some y → Plain b
-digit-plain b y e = plain b (no 42 refl) (no 2 refl) (no 3 refl)
-  where
-    no : (k : ℕ) → decimalValue k ≡ none → b ≡ k → ⊥
-    no k h f = let bad : none ≡ some y = sym h ∙ ap decimalValue (sym f) ∙ e in let z : _≡_ {A = ℕ} 0 1 = cc in absurd (omega arith)
+-- A byte that is a digit, or a blank, differs from any that is none.
+digit-other : (b y k : ℕ) → decimalValue b ≡ some y → decimalValue k ≡ none → b ≡ k → ⊥
+digit-other b y k e h f =
+    let bad : none ≡ some y = sym h ∙ ap decimalValue (sym f) ∙ e in let z : _≡_ {A = ℕ} 0 1 = cc in absurd (omega arith)
 
-pub digit-solid : (b y : ℕ) → decimalValue b ≡ some y → isBlank b ≡ false
-digit-solid b y e = rw (ne-eqb b 32 (no 32 refl), ne-eqb b 9 (no 9 refl), ne-eqb b 13 (no 13 refl), ne-eqb b 10 (no 10 refl))
-  where
-    no : (k : ℕ) → decimalValue k ≡ none → b ≡ k → ⊥
-    no k h f = let bad : none ≡ some y = sym h ∙ ap decimalValue (sym f) ∙ e in let z : _≡_ {A = ℕ} 0 1 = cc in absurd (omega arith)
+pub blank-other : (b k : ℕ) → isBlank b ≡ true → isBlank k ≡ false → b ≡ k → ⊥
+blank-other b k h n f = true≢false (sym h ∙ ap isBlank f ∙ n)
+
+digit-plain : (b y : ℕ) → decimalValue b ≡ some y → Plain b
+digit-plain b y e = plain b (digit-other b y 42 e refl) (digit-other b y 2 e refl) (digit-other b y 3 e refl)
 
 pub blank-plain : (b : ℕ) → isBlank b ≡ true → Plain b
-blank-plain b h = plain b (no 42 refl) (no 2 refl) (no 3 refl)
-  where
-    no : (k : ℕ) → isBlank k ≡ false → b ≡ k → ⊥
-    no k n f = true≢false (sym h ∙ ap isBlank f ∙ n)
+blank-plain b h = plain b (blank-other b 42 h refl) (blank-other b 2 h refl) (blank-other b 3 h refl)
+
+pub digit-not-blank : (b y : ℕ) → decimalValue b ≡ some y → isBlank b ≡ false
+digit-not-blank b y e =
+    let other : (k : ℕ) → decimalValue k ≡ none → eqb b k ≡ false = λ k h. ne-eqb b k (digit-other b y k e h) in
+    rw (other 32 refl, other 9 refl, other 13 refl, other 10 refl)
 
 pub blank-first : (b : ℕ) (bytes : List ℕ) → isBlank b ≡ true → statesIn (b ∷ bytes) ≡ statesIn bytes
 unfolding statesIn
@@ -96,7 +97,7 @@ unfolding AllPlain
 all-plain [] c p q = q
 all-plain (b ∷ a) c p q = (p .0, all-plain a c (p .1) q)
 
--- The bytes before a `*` that stands behind some plain bytes.
+-- The bytes before a `*` are plain bytes and what stands between them and the `*`.
 pub plain-field : (a t : List ℕ) → AllPlain a → take (untilStar (a ++ t)) (a ++ t) ≡ a ++ take (untilStar t) t
 unfolding AllPlain untilStar
 plain-field [] t p = refl

@@ -20,12 +20,12 @@ use Rattle.jedec_runs.proofs.StatesWritten.{states-append, states-none}
 use Rattle.jedec_judge.specs.Judged.{orEmpty}
 use Rattle.jedec_fields.specs.Fields.{statesCount, RunStands}
 
--- States that a count speaks of.
+-- Where states are counted, there are so many.
 pub some-counted : (o : Option (List ℕ)) (n : ℕ) → some n ≡ statesCount o → (o ≡ some (orEmpty o)) × (length (orEmpty o) ≡ n)
 some-counted none n e = let z : _≡_ {A = ℕ} 0 1 = cc in absurd (omega arith)
 some-counted (some states) n e = let h : n ≡ length states = cc in (refl, sym h)
 
--- States counted over the first bytes.
+-- The first bytes write so many states.
 pub record StatesCounted (bytes : List ℕ) (n i : ℕ) : Type 0 where
   pub upto : i ≤ length bytes
   pub few : n ≤ i

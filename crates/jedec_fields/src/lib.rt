@@ -5,8 +5,8 @@ use jedec_judge::FieldSays;
 mod lists;
 pub mod scan;
 
-// What stands next in a text: a field up to its `*`, with what it says, the ETX after the fields, or
-// neither, where the text ends early.
+// What stands next in a text: a field up to its `*`, with what it says, the ETX after the fields, or neither, where the
+// text ends early.
 pub enum NextSays {
     Field {
         start: usize,

@@ -43,8 +43,8 @@ fn skip_blanks(text: &[u8], at: usize) -> usize
     i
 }
 
-// What stands next from an offset on, judged. Most fields of a text are good L fields, and each
-// byte of these is looked at once.
+// What stands next from an offset on, judged. Most fields of a text are good L fields, and each byte of these is looked
+// at once.
 pub fn next_judged(text: &[u8], at: usize) -> NextSays
     requires { ⌜ at ≤ length (now text) ⌝ }
     ensures { λ r. ⌜ Stands (now (text .entry)) at r ⌝ }

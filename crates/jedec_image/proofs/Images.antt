@@ -20,7 +20,7 @@ use Rattle.jedec.specs.Rules.{stateGiven, within, imageWith}
 use Rattle.jedec.proofs.States.{image-length, image-at, within-small}
 use Rattle.jedec_image.specs.States.{withStates}
 
--- Two images are one where each byte is gathered from like bits.
+-- Two images are equal where each byte is gathered from the same bits.
 image-is : (fuses : ℕ) (f : ℕ → ℕ) (bytes : List ℕ) → length bytes ≡ (fuses + 7) / 8
     → ((i : ℕ) → i < (fuses + 7) / 8 → getD bytes i 0 ≡ gathered (λ bit. within fuses f (i * 8 + bit)) 8) → bytes ≡ imageWith fuses f
 image-is fuses f bytes e h =
@@ -35,7 +35,7 @@ image-same fuses f g e =
     image-is fuses g (imageWith fuses f) (image-length fuses f)
     (λ i l. image-at fuses f i l ∙ gathered-same _ _ 8 (λ b m. within-same fuses f g e (i * 8 + b)))
 
--- A byte of which the lowest bits have a state.
+-- A byte of which the lowest bits have a state is that state times a power of two less one.
 below-bit : (s r b : ℕ) → b < r → cond (ltb b r) s 0 ≡ s
 below-bit s r b l = rw (lt-ltb b r l)
 
@@ -52,7 +52,7 @@ gathered-below s r (suc w) h =
     rw (below-bit s r w l, lower, z, sums) (sym (mul-add s (2 ^ w - 1) (2 ^ w))))
     (λ m. rw (le-ltb w r m, zero-mul) (add-zero _ ∙ gathered-below s r w m))
 
--- A byte of the image of a start state, which has so many fuses.
+-- A byte of the image of a start state is told by how many fuses it has.
 pub start-byte : (fuses s i r : ℕ) → i < (fuses + 7) / 8 → r ≤ 8 → (i * 8 + 8 ≤ fuses → r ≡ 8) → (fuses < i * 8 + 8 → r ≡ fuses - i * 8)
     → s * (2 ^ r - 1) ≡ getD (imageWith fuses (stateGiven s [])) i 0
 unfolding stateGiven
@@ -67,7 +67,7 @@ start-byte fuses s i r l m e f =
         (λ more. let past : r ≤ b = compared fuses (i * 8 + 8) (λ p. omega (arith, f p)) (λ p. omega arith) in
         rw (le-ltb (i * 8 + b) fuses more, le-ltb b r past))
 
--- A byte gathered from bits, with one of them put in place.
+-- A bit put in place in a gathered byte changes that bit alone.
 module _ (h : ℕ → ℕ) (small : (b : ℕ) → h b < 2) (bit s : ℕ) (l : bit < 8) (m : s < 2) where
   gathered-put : putBit (gathered h 8) bit s ≡ gathered (λ b. cond (eqb b bit) s (h b)) 8
   gathered-put =
@@ -82,7 +82,7 @@ module _ (h : ℕ → ℕ) (small : (b : ℕ) → h b < 2) (bit s : ℕ) (l : bi
           either-way (yes e) = rw (eq-eqb b bit e, e) (put-same (gathered h 8) bit s m)
           either-way (no n) = rw (ne-eqb b bit n) (put-other (gathered h 8) bit s m b n ∙ gathered-bit h small 8 b lb)
 
--- The states with one changed, and with a list of states put in place.
+-- The states with one of them changed.
 abbrev changed : (ℕ → ℕ) → (fuse state : ℕ) → ℕ → ℕ
 changed f fuse s k = cond (eqb k fuse) s (f k)
 

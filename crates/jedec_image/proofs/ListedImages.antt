@@ -16,7 +16,7 @@ use Rattle.jedec.specs.Form.{lastEnd}
 use Rattle.jedec_image.specs.States.{withStates}
 use Rattle.jedec_image.proofs.Images.{image-same, over, Bits, put-states}
 
--- One L field more, where those before are in place, and where one is not.
+-- One L field more is misplaced by its own place only if those before it are in place.
 module _ (fuses : ℕ) (l : Listed) where
   pub last-more : (end : ℕ) (lists : List Listed) → lastEnd end (lists ++ (l ∷ [])) ≡ endOf l
   unfolding lastEnd

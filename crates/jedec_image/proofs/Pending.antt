@@ -30,7 +30,7 @@ pub pending-own : (image : List ℕ) (index bit : ℕ) → pending image index b
 unfolding pending
 pending-own image index bit = ap (set image index) (split (getD image index 0) bit) ∙ set-getD image index 0
 
--- One bit more.
+-- One state more is one new low bit more.
 regrouped : (q s m low : ℕ) → (q * 2 + s) * m + low ≡ q * (m * 2) + (low + s * m)
 regrouped q s m low =
     let d : (q * 2 + s) * m ≡ q * 2 * m + s * m = add-mul (q * 2) s m in
@@ -47,24 +47,24 @@ put-low old l bit s h =
     rw (high (old / 2 ^ bit) bit h, low (old / 2 ^ bit) bit h, q, p) (regrouped (old / 2 ^ bit / 2) s (2 ^ bit) l)
 
 module _ (image : List ℕ) (index bit l s : ℕ) (inside : index < length image) (small : bit < 8) (under : l < 2 ^ bit) where
-  pub put-next : withFuse (pending image index bit l) (index * 8 + bit) s ≡ pending image index (bit + 1) (l + s * 2 ^ bit)
+  put-next : withFuse (pending image index bit l) (index * 8 + bit) s ≡ pending image index (bit + 1) (l + s * 2 ^ bit)
   unfolding withBit pending
   put-next =
       let old = getD image index 0 in
       rw (digits-div index small, digits-mod index small, getD-set-same image index (old / 2 ^ bit * 2 ^ bit + l) 0 inside, set-set)
       (ap (set image index) (put-low old l bit s under))
 
-  pub under-next : s < 2 → l + s * 2 ^ bit < 2 ^ (bit + 1)
+  under-next : s < 2 → l + s * 2 ^ bit < 2 ^ (bit + 1)
   under-next h =
       let p : 2 ^ (bit + 1) ≡ 2 * 2 ^ bit = ap (λ (k : ℕ). 2 ^ k) (add-one bit) ∙ pow-suc 2 bit ∙ mul-comm (2 ^ bit) 2 in
       rw (p, add-comm l (s * 2 ^ bit)) (digits-lt h under)
 
--- A byte whose eight bits are all new.
-pub put-stored : (image : List ℕ) (index l : ℕ) → getD image index 0 < 2 ^ 8 → pending image index 8 l ≡ set image index l
+-- A byte whose eight bits are all new is stored whole.
+put-stored : (image : List ℕ) (index l : ℕ) → getD image index 0 < 2 ^ 8 → pending image index 8 l ≡ set image index l
 unfolding pending
 put-stored image index l h = ap (set image index) (rw (div-eq-of-lt h) (zero-add l))
 
--- So many states more.
+-- Several states more that stay in the byte are as many new low bits more.
 more-low : (low x bit : ℕ) → low + x % 2 ^ 1 * 2 ^ bit + x / 2 ^ 1 * 2 ^ (bit + 1) ≡ low + x * 2 ^ bit
 more-low low x bit =
     let p : 2 ^ (bit + 1) ≡ 2 ^ bit * 2 = ap (λ (k : ℕ). 2 ^ k) (add-one bit) ∙ pow-suc 2 bit in
@@ -110,7 +110,7 @@ put-few (suc k) image index bit l x rest h fits under small =
 pub group-under : (l x bit k : ℕ) → l < 2 ^ bit → x < 2 ^ k → l + x * 2 ^ bit < 2 ^ (bit + k)
 group-under l x bit k h g = rw (add-comm l (x * 2 ^ bit), pow-add 2 bit k, mul-comm (2 ^ bit) (2 ^ k)) (digits-lt g h)
 
--- Some of them fill the byte, and the others stand in the next.
+-- Of states that run over, some fill the byte and the others stand in the next.
 module _ (image : List ℕ) (index bit l x k : ℕ) (rest : List ℕ) (eight : bit < 8) (few : k ≤ 8) (full : 8 ≤ bit + k)
     (fits : index * 8 + bit + k ≤ length image * 8) (under : l < 2 ^ bit) (small : x < 2 ^ k) (octet : getD image index 0 < 2 ^ 8) where
   into : ℕ

@@ -168,7 +168,7 @@ module _ (bytes image₀ : List ℕ) (fuse : ℕ) (image : List ℕ) (index bit 
     pub there-yet : 0 < bit → index < length image
     there-yet m = omega (arith, r .fits)
 
-    -- The byte with its new low bits.
+    -- The last byte, with its new low bits, is a byte.
     last-whole : getD image index 0 / 2 ^ bit * 2 ^ bit + low < 2 ^ 8
     last-whole =
         let e : 8 ≡ 8 - bit + bit = omega (arith, r .small) in

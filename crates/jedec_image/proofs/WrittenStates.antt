@@ -5,11 +5,10 @@ use mathlib.Core.Bool.{Bool, true, false, cond, _||_}
 use mathlib.Core.List.{List, [], _∷_, _++_}
 use mathlib.Core.Option.{Option}
 use mathlib.Core.Option.Option.{none, some}
-use Prim.Native.Nat.{ℕ, zero, suc, _+_, _-_, _≤_, _<_}
+use Prim.Native.Nat.{ℕ, zero, suc, _+_, _-_, _<_}
 use native.Mathlib.Omega.{arith}
 use lib.Dec.{eqb}
 use lib.ListN.{getD, take, drop, take-append-drop}
-use lib.Pow.{low}
 use lib.Seq.{drop-drop}
 use borrow.Author.Tests.{eqb-true}
 use Rattle.part.proofs.Facts.{either}
@@ -23,33 +22,31 @@ abbrev pub WritesStates : List ℕ → Type 0
 WritesStates bytes = statesIn bytes ≡ some (statesOf bytes)
 
 module _ (b : ℕ) (bytes : List ℕ) (w : WritesStates (b ∷ bytes)) where
-  pub states-blank : isBlank b ≡ true → (statesOf (b ∷ bytes) ≡ statesOf bytes) × WritesStates bytes
+  after-blank : isBlank b ≡ true → (statesOf (b ∷ bytes) ≡ statesOf bytes) × WritesStates bytes
   unfolding statesOf statesIn
-  states-blank e = (rw e, rw e at w)
+  after-blank e = (rw e, rw e at w)
 
-  pub record Solid : Type 0 where
-    pub low : 48 ≤ b
+  record FirstState : Type 0 where
     pub bit : b - 48 < 2
     pub first : statesOf (b ∷ bytes) ≡ (b - 48) ∷ statesOf bytes
     pub rest : WritesStates bytes
 
-pub states-solid : (b : ℕ) (bytes : List ℕ) (w : WritesStates (b ∷ bytes)) → isBlank b ≡ false → Solid b bytes w
+after-state : (b : ℕ) (bytes : List ℕ) (w : WritesStates (b ∷ bytes)) → isBlank b ≡ false → FirstState b bytes w
 unfolding statesOf statesIn
-states-solid b bytes w e = go (eqb b 48 || eqb b 49) refl (statesIn bytes) refl (rw e at w)
+after-state b bytes w e = go (eqb b 48 || eqb b 49) refl (statesIn bytes) refl (rw e at w)
   where
     go : (s : Bool) → (eqb b 48 || eqb b 49) ≡ s → (o : Option (List ℕ)) → statesIn bytes ≡ o
         → cond (eqb b 48 || eqb b 49) (andThen (statesIn bytes) (withFirst (b - 48))) none
-        ≡ some (orEmpty (cond (eqb b 48 || eqb b 49) (andThen (statesIn bytes) (withFirst (b - 48))) none)) → Solid b bytes w
+        ≡ some (orEmpty (cond (eqb b 48 || eqb b 49) (andThen (statesIn bytes) (withFirst (b - 48))) none)) → FirstState b bytes w
     go true s none f h = let bad : none ≡ some _ = rw (s, f) at h in let z : _≡_ {A = ℕ} 0 1 = cc in absurd (omega arith)
     go false s o f h = let bad : none ≡ some _ = rw s at h in let z : _≡_ {A = ℕ} 0 1 = cc in absurd (omega arith)
     go true s (some states) f h =
-        let is : (48 ≤ b) × (b - 48 < 2) =
-        either (eqb b 48) (eqb b 49) s
-        (λ q. let v : b ≡ 48 = eqb-true b 48 q in (omega arith, omega arith))
-        (λ q. let v : b ≡ 49 = eqb-true b 49 q in (omega arith, omega arith)) in
-        record { low = is .0; bit = is .1; first = rw (e, s, f); rest = rw f }
+        let bit : b - 48 < 2 =
+        either (eqb b 48) (eqb b 49) s (λ q. let v : b ≡ 48 = eqb-true b 48 q in omega arith)
+        (λ q. let v : b ≡ 49 = eqb-true b 49 q in omega arith) in
+        record { bit = bit; first = rw (e, s, f); rest = rw f }
 
--- The states of bytes of which some are taken.
+-- Where the first bytes are taken, the others write the states that are left.
 pub rest-written : (bytes : List ℕ) (i k : ℕ) (states : List ℕ) → WritesStates (drop i bytes)
     → statesIn (take k (drop i bytes)) ≡ some states
     → (statesOf (drop i bytes) ≡ states ++ statesOf (drop (i + k) bytes)) × WritesStates (drop (i + k) bytes)
@@ -77,7 +74,7 @@ pub none-written : statesOf [] ≡ []
 unfolding statesOf statesIn
 none-written = refl
 
--- The states that bytes write are 0 and 1.
+-- The states that bytes write are each 0 or 1.
 pub written-bits : (bytes : List ℕ) → WritesStates bytes → (k : ℕ) → getD (statesOf bytes) k 0 < 2
 written-bits [] w k = rw none-written (omega arith)
 written-bits (b ∷ bytes) w k = go (isBlank b) refl (written-bits bytes)
@@ -87,5 +84,5 @@ written-bits (b ∷ bytes) w k = go (isBlank b) refl (written-bits bytes)
     in-list states small h (suc j) = small j
 
     go : (t : Bool) → isBlank b ≡ t → (WritesStates bytes → (j : ℕ) → getD (statesOf bytes) j 0 < 2) → getD (statesOf (b ∷ bytes)) k 0 < 2
-    go true e ih = let p = states-blank b bytes w e in rw (p .0) (ih (p .1) k)
-    go false e ih = let p = states-solid b bytes w e in rw (p .first) (in-list (statesOf bytes) (ih (p .rest)) (p .bit) k)
+    go true e ih = let p = after-blank b bytes w e in rw (p .0) (ih (p .1) k)
+    go false e ih = let p = after-state b bytes w e in rw (p .first) (in-list (statesOf bytes) (ih (p .rest)) (p .bit) k)

@@ -1,5 +1,5 @@
 -- States put into an image one after another from a fuse on, and what a field puts into an image.
--- `put-listed` in proofs/Images.antt says that this is what an L field gives.
+-- `put-listed` in proofs/ListedImages.antt says that this is what an L field gives.
 use Prim.Native.Nat.{ℕ, _+_, _≤_, _<_}
 use mathlib.Core.Path.{_≡_}
 use mathlib.Core.List.{List, [], _∷_}
@@ -12,11 +12,12 @@ use Rattle.jedec_judge.specs.declared.FieldSays.the-variants as says
 use Rattle.jedec_progress.specs.declared.progress.OptionalNumber.{OptionalNumber}
 use Rattle.jedec_progress.specs.declared.progress.OptionalNumber.the-variants as optional-number
 
+-- The image with states put in place.
 unfoldable pub withStates : (image : List ℕ) → (fuse : ℕ) → (states : List ℕ) → List ℕ
 withStates image fuse [] = image
 withStates image fuse (s ∷ states) = withStates (withFuse image fuse s) (fuse + 1) states
 
--- What an L field puts into the image, and any field.
+-- What an L field puts into the image, and what any field does.
 abbrev pub putList : (after : List ℕ) → (first skip : ℕ) → OptionalNumber → List ℕ → List ℕ
 putList after first skip optional-number.None image = withStates image first (statesOf (drop skip after))
 putList after first skip (optional-number.Some x) image = image

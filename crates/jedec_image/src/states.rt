@@ -1,4 +1,4 @@
-// An image filled with a start state, and states put into it: what a field does to the image. For the reader.
+// An image filled with a start state, and states put into it: what a field does to the image that the reader makes.
 // A function here may require that the image has its length and that bytes write states.
 ghost use mathlib.Core.Path.{_≡_};
 ghost use mathlib.Core.List.{[]};
@@ -24,7 +24,7 @@ fn byte_of(state: u32, bits: u32) -> u8
     (state * ((1 << bits) - 1)) as u8
 }
 
-// Every fuse at a start state; bits past the last fuse are 0.
+// Puts every fuse at a start state; bits past the last fuse are 0.
 pub fn fill(image: &mut [u8], fuses: u32, state: u32)
     requires { ⌜ (length (now image) ≡ (fuses + 7) / 8) × (state < 2) ⌝ }
     ensures { λ _. ⌜ now (image .exit) ≡ imageWith fuses (stateGiven state []) ⌝ }

@@ -55,7 +55,7 @@ value-between low high base b o = go (leb low b && leb b high)
     go true = refl
     go false = refl
 
--- Digits read so far.
+-- The digits so far write a number, and the bytes still to come are read on from it.
 pub record Reading (base : ℕ) (digit : ℕ → Option ℕ) (bytes : List ℕ) (x i : ℕ) : Type 0 where
   pub upto : i ≤ length bytes
   pub small : x < base ^ i

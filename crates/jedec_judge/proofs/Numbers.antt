@@ -20,7 +20,7 @@ use Rattle.jedec_judge.specs.Judged.{valueOr, DigitsStand}
 use Rattle.jedec_judge.specs.declared.digits.LeadingDigits.{LeadingDigits}
 use Rattle.jedec_judge.proofs.DigitsRead.{decimal-digit}
 
--- Digits read over the first bytes.
+-- A digit more is read behind the digits of the first bytes.
 digits-snoc : (base : ℕ) (digit : ℕ → Option ℕ) (a : List ℕ) (x b : ℕ)
     → digitsRead base digit x (a ++ (b ∷ [])) ≡ andThen (digitsRead base digit x a) (λ v. andThen (digit b) (λ y. some (v * base + y)))
 unfolding digitsRead
@@ -98,7 +98,7 @@ module _ (bytes : List ℕ) (x i : ℕ) (r : Leads bytes x i) where
         stops = λ l m. absurd (true≢false (sym (rw (lt-ltb i 7 m, lt-ltb i (length bytes) l)) ∙ n));
       }
 
--- A byte that is no digit after digits.
+-- Digits and a byte behind them that is no digit write no number.
 digits-wrong : (a c : List ℕ) (x v b : ℕ) → digitsRead 10 decimalValue x a ≡ some v → decimalValue b ≡ none
     → digitsRead 10 decimalValue x (a ++ (b ∷ c)) ≡ none
 unfolding digitsRead
@@ -111,7 +111,7 @@ digits-wrong (d ∷ a) c x v b e f = go (decimalValue d) e (λ y h. digits-wrong
     go none h ih = refl
     go (some y) h ih = ih y h
 
--- 1 to 7 digits and nothing else.
+-- Only 1 to 7 digits and nothing else write a number.
 pub in-number : (bytes : List ℕ) → 0 < length bytes → length bytes ≤ 7 → digitsRead 10 decimalValue 0 bytes ≡ numberIn bytes
 unfolding numberIn
 in-number bytes l m = rw (le-leb 1 (length bytes) (omega arith), le-leb (length bytes) 7 m)

@@ -50,7 +50,7 @@ judgedAfter after (says.Sum x) = sum x
 judgedAfter after says.Skipped = skipped
 judgedAfter after says.Bad = bad
 
--- The states that an answer speaks of are there, and so many.
+-- The states that an answer speaks of are there, and there are so many.
 pub record ListFits (after : List ℕ) (skip number : ℕ) : Type 0 where
   pub inside : skip ≤ length after
   pub found : statesIn (drop skip after) ≡ some (statesOf (drop skip after))
@@ -70,6 +70,6 @@ pub record Says (after : List ℕ) (j : Judged) (r : FieldSays) : Type 0 where
   pub is : judgedAfter after r ≡ j
   pub fits : SaysFits after r
 
--- A field that starts with an L is bad.
+-- Any field that starts with an L is bad.
 abbrev pub NoGoodList : List ℕ → Type 0
 NoGoodList field = startsWith letterL field ≡ true → listIn (drop 1 field) ≡ bad

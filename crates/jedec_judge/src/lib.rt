@@ -9,8 +9,8 @@ use jedec::STX;
 pub mod digits;
 pub mod letters;
 
-// What a field says. Of an L field: its first fuse, how many bytes after the L stand before the states,
-// and how many states there are.
+// What a field says. Of an L field these are the first fuse, how many bytes after the L stand before the states, and
+// how many states there are.
 pub enum FieldSays {
     Count(u32),
     Start(u32),

@@ -47,13 +47,13 @@ mayStand p (says.Sum x) = has (optionalField (p .count)) && not (has (optionalFi
 mayStand p says.Skipped = true
 mayStand p says.Bad = false
 
--- Where the first misplaced L starts, after one more.
+-- Where the first misplaced L starts, after one L more.
 abbrev pub misplacedAfter : (fuses : ℕ) → OptionalNumber → (end at first number : ℕ) → OptionalNumber
 misplacedAfter fuses (optional-number.Some x) end at first number = optional-number.Some x
 misplacedAfter fuses optional-number.None end at first number =
     cond (ltb first end || ltb fuses (first + number)) (optional-number.Some at) optional-number.None
 
--- What is known after QF, F, L and C, and after any field.
+-- What is known after each of QF, F, L and C, and after any field.
 abbrev pub withCount : Progress → (at n : ℕ) → Progress
 withCount p at n = record {
   count = optional-field.Some at n;

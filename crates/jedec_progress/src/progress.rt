@@ -1,4 +1,4 @@
-// What the fields of a text gave so far: QF, the start state, the L fields, C; and whether a field may stand.
+// What the fields of a text gave so far, and whether a field may stand after them.
 // A function here may require that offsets and counts are below the limit of a text.
 ghost use mathlib.Core.Path.{_≡_};
 ghost use Prim.Native.Nat.{_+_, _<_, _≤_};
@@ -21,8 +21,8 @@ pub enum OptionalNumber {
     Some(u32),
 }
 
-// What the fields so far gave: QF, the start state, whether there was an L, where the last one ended, where the
-// first misplaced one starts, C.
+// What the fields so far gave: QF, the start state, whether there was an L, where the last one ended, where the first
+// misplaced one starts, and C.
 pub struct Progress {
     pub count: OptionalField,
     pub start: OptionalNumber,
@@ -113,7 +113,7 @@ fn misplaced_after(
     }
 }
 
-// What is known after QF, F, L and C.
+// What is known after each of QF, F, L and C.
 fn with_count(p: Progress, at: u32, n: u32) -> Progress
     ensures { λ r. ⌜ r ≡ withCount p at n ⌝ }
 {

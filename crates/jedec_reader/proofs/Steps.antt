@@ -1,7 +1,5 @@
--- Laws of one field more:
---   in-order       what the reader knows says which field may stand
---   put-fits       what a field puts into the image fits it
---   given-after    what is known after a field, and the image it is put into, are what the fields gave
+-- One field more: whether it may stand, that it fits the image, and that what is then known is what the fields gave.
+-- Assumes nothing.
 use mathlib.Core.Path.{_≡_, refl, sym, _∙_}
 use mathlib.Core.Bool.{Bool, true, false, cond, not, _&&_, _||_, or-true}
 use mathlib.Core.List.{List, [], _∷_, _++_}
@@ -67,7 +65,7 @@ no-number : (s : OptionalNumber) → optionalNumber s ≡ none → s ≡ optiona
 no-number optional-number.None e = refl
 no-number (optional-number.Some x) e = let z : _≡_ {A = ℕ} 0 1 = cc in absurd (omega arith)
 
--- One L field more.
+-- One L field more is misplaced exactly if the reader finds it so.
 module _ (fuses : ℕ) (lists : List Listed) (l : Listed) where
   faulty-after : (s : OptionalNumber) (end : ℕ) → end ≡ lastEnd 0 lists → optionalNumber s ≡ misplaced fuses 0 lists
       → optionalNumber (misplacedAfter fuses s end (l .at) (l .first) (length (l .states))) ≡ misplaced fuses 0 (lists ++ (l ∷ []))

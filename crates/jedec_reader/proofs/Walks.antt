@@ -79,7 +79,7 @@ module _ (fuses : ℕ) (text : List ℕ) (from : ℕ) (image₀ image : List ℕ
   of-size = r .size
 
   module _ (n : NextSays) (s : Stands text at n) where
-    -- The outcome by what stands next.
+    -- The outcome is told by what stands next.
     by-next : (m : NextSays) → n ≡ m → ofRest fuses text (r .k) (cutOf text m) ≡ ofCut fuses text (fieldsAt from (drop from text))
     by-next m w = ap (ofRest fuses text (r .k)) (ap (cutOf text) (sym w) ∙ s .cut) ∙ r .rest
 

@@ -1,4 +1,4 @@
--- What a field puts into the image, and what the reader knows after some fields and answers at the end.
+-- The largest image, and the answer to a text with the caller's image.
 -- The proofs work with these definitions, and no public contract does.
 use Prim.Native.Nat.{ℕ, _+_, _*_, _/_}
 use mathlib.Core.Path.{_≡_}
@@ -11,7 +11,7 @@ use Rattle.jedec_end.specs.Outcome.{verdict, resultOf}
 abbrev pub largestImage : ℕ
 largestImage = 16 * ((mainFuses + 16 * subareaFuses) / 8)
 
--- The same of the caller's image: it holds the image made where the text is accepted, and else what it held.
+-- The caller's image holds the image of the text where that is accepted, and else what it held.
 pub record ReadInto (o : Outcome (List ℕ)) (answer : Outcome (Unit {0})) (before after : List ℕ) : Type 0 where
   pub answers : answer ≡ verdict o
   pub holds : after ≡ written answer (resultOf o) before

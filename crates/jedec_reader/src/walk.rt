@@ -100,7 +100,7 @@ pub fn read_beside(fuses: u32, text: &[u8], made: &mut [u8], image: &mut [u8]) -
     }
 }
 
-// An image as large as the largest image of a known device.
+// A buffer as large as the image of any known device.
 pub fn largest_image() -> [u8; LARGEST_IMAGE]
     ensures { λ r. ⌜ length r ≡ largestImage ⌝ }
 {

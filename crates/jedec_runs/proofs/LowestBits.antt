@@ -13,7 +13,7 @@ use borrow.Author.Tests.{eqb-true}
 use Rattle.cells.specs.Cells.{cut, join}
 use Rattle.part.proofs.Tables.{allBelow, below-all}
 
--- The lowest bits side by side.
+-- The product puts the lowest bits side by side, as all 256 cases show.
 abbrev apart : ℕ → ℕ
 apart x = join (replicate 8 8) (cut (replicate 8 1) x)
 
@@ -29,7 +29,7 @@ pub together : (x word between r : ℕ) → x < 2 ^ 8 → word ≡ join (replica
 unfolding bits-right
 together x word between r h e f g = g ∙ rw (f, e) (eqb-true _ _ (below-all bits-right 256 bits-all x h))
 
--- The first of eight bits.
+-- The first bits of several are those of the first bytes.
 pub bits-low : (k j : ℕ) (bytes : List ℕ) → join (replicate (k + j) 1) bytes % 2 ^ k ≡ join (replicate k 1) bytes
 unfolding join
 bits-low zero j bytes = mod-one _

@@ -22,7 +22,7 @@ use Rattle.jedec_runs.proofs.Words.{no-states, spread, and-apart}
 use Rattle.jedec_runs.proofs.LowestBits.{bits-low}
 use Rattle.jedec_runs.proofs.StatesWritten.{Octets, states-append, state-half, states-written, blank-written, no-blank}
 
--- What stands at an offset.
+-- A blank stands at an offset, or another byte, or none.
 module _ (bytes : List ℕ) (at : ℕ) where
   pub none-there : length bytes ≤ at → IsBlankAt bytes at 0
   none-there l = record { is = rw (drop-of-length-le bytes l); few = omega arith; inside = λ h. omega arith }
@@ -34,7 +34,7 @@ module _ (bytes : List ℕ) (at : ℕ) where
     pub other-there : t ≡ false → IsBlankAt bytes at 0
     other-there h = record { is = rw (drop-cons bytes at 0 l, ← e, h); few = omega arith; inside = λ m. omega arith }
 
--- What is taken at an offset, with a blank behind it.
+-- A blank behind states writes no state.
 with-blank : (bytes : List ℕ) (at k z : ℕ) (states : List ℕ) → IsBlankAt bytes (at + k) z → statesIn (take k (drop at bytes)) ≡ some states
     → statesIn (take (k + z) (drop at bytes)) ≡ some states
 with-blank bytes at k z states b e =
@@ -44,7 +44,7 @@ with-blank bytes at k z states b e =
     ∙ ap some (append-nil states)
 
 module _ (bytes : List ℕ) (at : ℕ) where
-  -- The first of eight bits.
+  -- A word gives the bits of its first states.
   pub bits-by-word : (word whole r count : ℕ) → word ≡ join (replicate 8 8) (drop at bytes) → count ≤ 8
       → ((x : ℕ) → x < 2 ^ 8 → bitAnd word 0x0101010101010101 ≡ join (replicate 8 8) (cut (replicate 8 1) x) → whole ≡ x)
       → r ≡ whole % 2 ^ count → r ≡ join (replicate count 1) (drop at bytes)
@@ -78,11 +78,9 @@ module _ (bytes : List ℕ) (at : ℕ) where
     pub none-taken : (eqb (getD bytes at 0) 48 || eqb (getD bytes at 0) 49) ≡ false → StatesAt bytes at 0
     none-taken s = record { inside = omega arith; few = omega arith; states = no-states (drop at bytes); stops = λ z. s }
 
--- What is taken at an offset: states and a blank behind them.
+-- States and a blank behind them are taken at an offset; nothing is taken only where no state and no blank stands.
 pub record StatesTaken (bytes : List ℕ) (at count taken : ℕ) : Type 0 where
   pub inside : at + taken ≤ length bytes
-  pub few : count ≤ 8
-  pub enough : count ≤ taken
   pub writes : statesIn (take taken (drop at bytes)) ≡ some (cut (replicate count 1) (join (replicate count 1) (drop at bytes)))
   pub stops : taken ≡ 0 → statesIn (take 1 (drop at bytes)) ≡ none
 
@@ -94,8 +92,6 @@ taken-at bytes at count z l o s b =
     let long : count ≤ length (drop at bytes) = rw (length-drop at bytes) (omega (arith, s .inside)) in
     record {
       inside = omega (arith, b .inside (s .inside));
-      few = s .few;
-      enough = omega arith;
       writes = with-blank bytes at count z _ b (states-written count (drop at bytes) long octets (s .states));
       stops = λ h.
           let c : count ≡ 0 = omega arith in

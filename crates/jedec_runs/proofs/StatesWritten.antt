@@ -18,8 +18,8 @@ use Rattle.jedec.specs.Judge.{withFirst, statesIn}
 use Rattle.jedec_runs.specs.Runs.{AllStates, oneIfBlank}
 use Rattle.jedec_runs.proofs.Words.{bits-cut}
 
--- The states that bytes in two parts write.
-unfoldable pub both : Option (List ℕ) → Option (List ℕ) → Option (List ℕ)
+-- Bytes in two parts write the states of both, if both write states.
+both : Option (List ℕ) → Option (List ℕ) → Option (List ℕ)
 both none o = none
 both (some xs) none = none
 both (some xs) (some ys) = some (xs ++ ys)
@@ -52,12 +52,12 @@ module _ (a c xs : List ℕ) (e : statesIn a ≡ some xs) where
   unfolding both
   states-none f = rw (states-both a c, e, f)
 
--- First bytes that write none leave the rest no say.
+-- Bytes write no states where their first ones write none.
 pub none-first : (k : ℕ) (bytes : List ℕ) → statesIn (take k bytes) ≡ none → statesIn bytes ≡ none
 unfolding both
 none-first k bytes e = ap statesIn (sym (take-append-drop k bytes)) ∙ states-both (take k bytes) (drop k bytes) ∙ rw e
 
--- Bytes that are all states.
+-- Bytes that are all states write their lowest bits.
 abbrev pub Octets : List ℕ → Type 0
 Octets bytes = (k : ℕ) → getD bytes k 0 < 2 ^ 8
 
@@ -89,7 +89,7 @@ states-written (suc k) (b ∷ bytes) l o s =
     state-first b (take k bytes) _ half (states-written k bytes (omega arith) (λ j. o (suc j)) (s .1))
     ∙ ap some (sym (bits-cut k (b ∷ bytes)))
 
--- A blank behind them writes nothing.
+-- A blank writes no state.
 pub blank-written : (bytes : List ℕ) → statesIn (take (oneIfBlank bytes) bytes) ≡ some []
 unfolding statesIn
 blank-written [] = refl

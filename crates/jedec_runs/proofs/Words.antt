@@ -35,7 +35,7 @@ module _ (k : ℕ) (bytes : List ℕ) where
       let small : getD bytes 0 0 % 2 ^ 1 % 2 ^ 8 ≡ getD bytes 0 0 % 2 ^ 1 = mod-eq-of-lt (omega arith) in
       ap (join (replicate (suc k) 8)) bits-cut ∙ rw small
 
--- 1 in each byte.
+-- The word with 1 in each byte.
 ones : ℕ → ℕ
 ones zero = 0
 ones (suc k) = ones k * 2 ^ 8 + 1
@@ -82,7 +82,7 @@ evens-low (suc k) j bytes =
     let x = evens (k + j) (drop 1 bytes) in
     rw (suc-add k j, e, mod-pow-add (x * 2 ^ 8 + b % 2 ^ 8 / 2 * 2) (k * 8) 8, high x 8 small, low x 8 small, evens-low k j (drop 1 bytes))
 
--- The character 0 in each byte.
+-- The word with the character 0 in each byte.
 zeros : ℕ → ℕ
 zeros zero = 0
 zeros (suc k) = zeros k * 2 ^ 8 + 48
@@ -103,7 +103,7 @@ unfolding AllStates
 no-states bytes = tt
 
 module _ (word : ℕ) (bytes : List ℕ) (e : word ≡ join (replicate 8 8) bytes) where
-  -- What differs from the character 0.
+  -- Where a word of the characters differs from the character 0 in no byte, each byte is a state.
   module _ (others : ℕ) (d : (others + 0x3030303030303030) % 2 ^ 64 ≡ word - bitAnd word 0x0101010101010101) where
     pub eight-states : others ≡ 0 → AllStates 8 bytes
     unfolding zeros

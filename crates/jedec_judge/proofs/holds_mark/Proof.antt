@@ -14,7 +14,7 @@ use borrow.Author.Needs.{needs}
 use Rattle.jedec_judge.proofs.holds_mark.Statement.{statement}
 use Rattle.jedec_judge.proofs.holds_mark.Tie as tie
 
--- What the bytes still to come hold, with what was found so far.
+-- STX or ETX was found so far, or stands in the bytes still to come.
 marks-next : (bytes : List ℕ) (i : ℕ) (found m all : Bool) → i < length bytes → m ≡ isMark (getD bytes i 0)
     → (found || holdsMark (drop i bytes)) ≡ all → (found || m || holdsMark (drop (i + 1) bytes)) ≡ all
 unfolding holdsMark

@@ -45,7 +45,7 @@ module _ (d : Device) (text before : List ℕ) where
         ∙ sym (the-device d _ k) in
         record { answers = same; holds = read .holds ∙ ap (λ (o : Outcome (Unit {0})). written o (imageIn d text) before) same }
 
--- The buffer that the image is made in.
+-- The image is made in the first bytes of a buffer that is large enough for every device.
 module _ (d : Device) (x : ℕ) (e : x ≡ imageBytes d) where
   few-bytes : known d ≡ true → x ≤ largestImage
   unfolding imageBytes

@@ -1,4 +1,4 @@
--- `conclude` meets its contract: 8, 9, 10, 11, or the image.
+-- `conclude` meets its contract: the first of the refusals 8 to 11 that holds, or the image.
 -- Assumes nothing.
 use Rattle.jedec_end.proofs.Ends.{eight, nine, ten, eleven, nothing-wrong}
 use borrow.Author.Needs.{needs}

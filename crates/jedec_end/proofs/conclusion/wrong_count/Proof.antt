@@ -1,4 +1,4 @@
--- `wrong_count` meets its contract.
+-- `wrong_count` meets its contract: no QF, the count, or another.
 -- Assumes nothing.
 use mathlib.Core.Path.{_≡_}
 use mathlib.Core.Option.Option.{none, some}

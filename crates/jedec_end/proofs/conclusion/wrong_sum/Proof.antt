@@ -1,4 +1,4 @@
--- `wrong_sum` meets its contract.
+-- `wrong_sum` meets its contract: no C, the sum, or another.
 -- Assumes nothing.
 use mathlib.Core.Path.{_≡_, _∙_, sym}
 use mathlib.Core.List.{List}

@@ -1,4 +1,4 @@
--- `wrong_transmission` meets its contract.
+-- `wrong_transmission` meets its contract: the sum is 0000 or that of the bytes up to ETX, or differs.
 -- Assumes nothing.
 use mathlib.Core.Path.{_≡_, sym}
 use mathlib.Core.Bool.{true, false, _||_}

@@ -19,7 +19,7 @@ use borrow.Author.Needs.{needs}
 use Rattle.jedec_end.proofs.tail.tail_from.Statement.{statement}
 use Rattle.jedec_end.proofs.tail.tail_from.Tie as tie
 
--- The digits so far.
+-- The digits so far write a sum, and the bytes still to come say what the whole says.
 record Run (text : List ℕ) (at sum i left : ℕ) : Type 0 where
   inside : i ≤ length text
   few : left ≤ 4

@@ -24,7 +24,7 @@ use borrow.Author.Needs.{needs}
 use Rattle.jedec_fields.proofs.scan.next_judged.Statement.{statement}
 use Rattle.jedec_fields.proofs.scan.next_judged.Tie as tie
 
--- An L field, by what follows the L.
+-- An L field is told by what follows the L.
 module _ (text : List ℕ) (start : ℕ) (l : start ≤ length text) (n : start ≡ length text → ⊥) (b : getD text start 0 ≡ 76) (o : ListField)
     (g : ListStands (take (length text - (start + 1)) (drop (start + 1) text)) o) where
   first-there : drop start text ≡ 76 ∷ drop (suc start) text
@@ -59,7 +59,7 @@ module _ (text : List ℕ) (start : ℕ) (l : start ≤ length text) (n : start 
       let size : star - start ≡ suc (untilStar after) = omega (arith, rw first-there at s) in
       λ f. rw (size, first-there) (none-there .is-bad (omega (arith, length-drop (suc start) text)))
 
--- Any other field.
+-- A field of another letter is no L field.
 other-letter : (text : List ℕ) (start k : ℕ) → start ≤ length text → (start ≡ length text → ⊥) → (getD text start 0 ≡ 76 → ⊥)
     → NoGoodList (take k (drop start text))
 other-letter text start zero l h n f = absurd (true≢false (sym f))

@@ -1,4 +1,4 @@
--- `decimal_value` meets its contract.
+-- `decimal_value` meets its contract: a byte from 0 to 9.
 -- Assumes nothing.
 use mathlib.Core.Path.{_∙_}
 use mathlib.Core.Option.Option.{none}

@@ -1,4 +1,4 @@
--- `hex_value` meets its contract.
+-- `hex_value` meets its contract: a byte of one of three ranges.
 -- Assumes nothing.
 use mathlib.Core.Path.{_≡_, _∙_}
 use mathlib.Core.Bool.{cond, _&&_}

@@ -1,4 +1,4 @@
--- `value_between` meets its contract.
+-- `value_between` meets its contract: a byte in the range, or not.
 -- Assumes nothing.
 use mathlib.Core.Path.{_≡_}
 use mathlib.Core.Bool.{true, false, cond, _&&_}

@@ -28,7 +28,7 @@ a-skipped : (field : List ℕ) → (length field ≡ 0 → ⊥)
 a-skipped [] h e = absurd (h refl)
 a-skipped (b ∷ field) h e = record { is = rw e; fits = tt }
 
--- What is said of the rest of the field is said of the field.
+-- What is said of the bytes after the first letter is said of the field.
 passed : (field : List ℕ) (j : List ℕ → Judged) (k : Judged) (r : FieldSays)
     → Says (take (length field - 1) (drop 1 field)) (j (take (length field - 1) (drop 1 field))) r
     → j (drop 1 field) ≡ k → Says (drop 1 field) k r

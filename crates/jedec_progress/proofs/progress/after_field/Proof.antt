@@ -1,4 +1,4 @@
--- `after_field` meets its contract.
+-- `after_field` meets its contract: one kind of field after another.
 -- Assumes nothing.
 use mathlib.Core.Path.{_≡_}
 use Prim.Native.Nat.{ℕ, _≤_}

@@ -1,4 +1,4 @@
--- `may_stand` meets its contract.
+-- `may_stand` meets its contract: one kind of field after another.
 -- Assumes nothing.
 use mathlib.Core.Path.{_≡_}
 use mathlib.Core.Bool.{Bool, not, _&&_}

@@ -1,4 +1,4 @@
--- `misplaced_after` meets its contract.
+-- `misplaced_after` meets its contract: one before, this one, or none.
 -- Assumes nothing.
 use mathlib.Core.Path.{_≡_}
 use mathlib.Core.Bool.{true, false, _||_}

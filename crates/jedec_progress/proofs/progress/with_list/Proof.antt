@@ -1,4 +1,4 @@
--- `with_list` meets its contract.
+-- `with_list` meets its contract: the end of the L, and where the first misplaced L starts.
 -- Assumes nothing.
 use mathlib.Core.Path.{_≡_}
 use mathlib.Core.Bool.{true}

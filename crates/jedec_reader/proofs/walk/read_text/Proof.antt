@@ -38,7 +38,7 @@ module _ (fuses : ℕ) where
   no-stx [] image l n h = absurd (n refl)
   no-stx (b ∷ text) image l n h = refused-reads _ 7 0 image (rw (le-ltb longest (suc (length text)) l, ne-eqb b 2 h))
 
-  -- A text that starts with STX, cut.
+  -- A text that starts with STX means what its pieces say.
   after-stx : (text : List ℕ) → length text ≤ longest → (length text ≡ 0 → ⊥) → getD text 0 0 ≡ 2
       → meaning fuses text ≡ ofPieces fuses text (pieces text .ended) (pieces text .rest)
   unfolding meaning
