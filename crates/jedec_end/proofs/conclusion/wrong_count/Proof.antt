@@ -30,13 +30,13 @@ enum-known-count : tie.Need-enum-known-count
 enum-known-count c = search needs
 
 returns : tie.Need-returns
-returns c = search (needs, no-count, the-count, another)
+returns c = search (needs, the-count)
 
 returns-2 : tie.Need-returns-2
-returns-2 c = search (needs, no-count, the-count, another)
+returns-2 c = search (needs, no-count)
 
 returns-3 : tie.Need-returns-3
-returns-3 c = search (needs, no-count, the-count, another)
+returns-3 c = search (needs, another)
 
 pub wrong-count-spec : {M : Type 1} → statement M
 wrong-count-spec = tie.close (tie.spec enum-told enum-known-count returns returns-2 returns-3)

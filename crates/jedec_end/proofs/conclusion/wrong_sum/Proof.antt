@@ -38,13 +38,13 @@ cast-if1 : tie.Need-cast-if1
 cast-if1 c = search needs
 
 returns : tie.Need-returns
-returns c = search (needs, no-sum, the-sum, another)
+returns c = search (needs, the-sum)
 
 returns-2 : tie.Need-returns-2
-returns-2 c = search (needs, no-sum, the-sum, another)
+returns-2 c = search (needs, no-sum)
 
 returns-3 : tie.Need-returns-3
-returns-3 c = search (needs, no-sum, the-sum, another)
+returns-3 c = search (needs, another)
 
 pub wrong-sum-spec : {M : Type 1} → statement M
 wrong-sum-spec =

@@ -33,13 +33,13 @@ add-if1 : tie.Need-add-if1
 add-if1 c = search needs
 
 returns : tie.Need-returns
-returns c = search (needs, one-before, this-one, none-yet)
+returns c = search (needs, this-one)
 
 returns-2 : tie.Need-returns-2
-returns-2 c = search (needs, one-before, this-one, none-yet)
+returns-2 c = search (needs, one-before)
 
 returns-3 : tie.Need-returns-3
-returns-3 c = search (needs, one-before, this-one, none-yet)
+returns-3 c = search (needs, none-yet)
 
 pub misplaced-after-spec : {M : Type 1} → statement M
 misplaced-after-spec =
