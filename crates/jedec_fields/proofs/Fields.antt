@@ -1,31 +1,26 @@
--- Laws of fields by position:
---   rest-whole                  what a slice from an offset on holds
---   pieces-star, pieces-none    a text cut at its first `*`, or holding none
---   blanks-skipped              blanks before a field do not change the fields
---   nothing-left, the-end, no-star, a-field   what stands at the first byte that is no blank
+-- The fields of a text by position: cut at the first `*`, with blanks before a field left out.
+-- Assumes nothing.
 use mathlib.Core.Path.{_≡_, refl, sym, _∙_, ap}
-use mathlib.Core.Bool.{Bool, true, false, true≢false}
+use mathlib.Core.Bool.{Bool, true, false}
 use mathlib.Core.List.{List, [], _∷_}
 use mathlib.Core.Option.Option.{none, some}
 use Prim.Native.Nat.{ℕ, zero, suc, _+_, _-_, _≤_, _<_}
 use native.Mathlib.Omega.{arith}
-use native.Mathlib.Nat.{add-zero, le-refl, not-suc-le-zero}
+use native.Mathlib.Nat.{add-zero, not-suc-le-zero}
 use lib.Dec.{eqb}
 use lib.ListN.{length, getD, take, drop, length-drop, drop-of-length-le}
-use lib.Seq.{take-all, length-take-le, drop-cons, drop-drop}
+use lib.Seq.{length-take-le, drop-cons, drop-drop}
 use borrow.Author.Tests.{ne-eqb}
 use Rattle.jedec.specs.Characters.{etx, star, isBlank}
 use Rattle.jedec.specs.Cut.{onFirst, pieces, blanksBefore, Cut, startsWith, orEnd, fieldsFrom}
 use Rattle.jedec.specs.Judge.{judge}
-use Rattle.jedec_fields.specs.Fields.{Says, untilStar, fieldsAt, cutOf, Stands}
-use Rattle.jedec_fields.specs.declared.FieldSays.{FieldSays}
+use Rattle.jedec_judge.specs.Judged.{Says}
+use Rattle.jedec_fields.proofs.PlainBytes.{blank-other}
+use Rattle.jedec_fields.specs.Fields.{untilStar, fieldsAt, cutOf, Stands}
+use Rattle.jedec_judge.specs.declared.FieldSays.{FieldSays}
 use Rattle.jedec_fields.specs.declared.NextSays.the-variants.{Field, End, Early}
 
--- What a slice from an offset on holds.
-pub rest-whole : (k : ℕ) (l : List ℕ) → take (length l - k) (drop k l) ≡ drop k l
-rest-whole k l = take-all (length l - k) (drop k l) (rw (length-drop k l) (le-refl (length l - k)))
-
--- The first `*`.
+-- A text is cut at its first `*`, or holds none.
 pub record Cuts (bytes : List ℕ) (u : ℕ) : Type 0 where
   pub ended : pieces bytes .ended ≡ take u bytes ∷ pieces (drop (suc u) bytes) .ended
   pub rest : pieces bytes .rest ≡ pieces (drop (suc u) bytes) .rest
@@ -59,10 +54,7 @@ pieces-none (b ∷ bytes) h = go (eqb b star) refl (pieces-none bytes)
         let ih : Uncut bytes = shorter (omega arith) in
         record { ended = rw (e, ih .ended); rest = rw (e, ih .ended, ih .rest) }
 
--- Neither a blank nor ETX is a `*`.
-solid : (b k : ℕ) → isBlank k ≡ false → isBlank b ≡ true → b ≡ k → ⊥
-solid b k n h e = true≢false (sym h ∙ ap isBlank e ∙ n)
-
+-- A blank before a field does not change the fields.
 blank-on-first : (at b : ℕ) (ended : List (List ℕ)) (rest : List ℕ) → isBlank b ≡ true
     → fieldsFrom at (onFirst b ended rest .ended) (onFirst b ended rest .rest) ≡ fieldsFrom (at + 1) ended rest
 unfolding fieldsFrom blanksBefore
@@ -77,7 +69,7 @@ blank-on-first at b (p ∷ ps) rest h =
 blank-skipped : (at b : ℕ) (bytes : List ℕ) → isBlank b ≡ true → fieldsAt at (b ∷ bytes) ≡ fieldsAt (at + 1) bytes
 unfolding fieldsAt pieces
 blank-skipped at b bytes h =
-    rw (ne-eqb b star (solid b star refl h)) (blank-on-first at b (pieces bytes .ended) (pieces bytes .rest) h)
+    rw (ne-eqb b star (blank-other b star h refl)) (blank-on-first at b (pieces bytes .ended) (pieces bytes .rest) h)
 
 blanks-skipped : (at : ℕ) (bytes : List ℕ) → fieldsAt at bytes ≡ fieldsAt (at + blanksBefore bytes) (drop (blanksBefore bytes) bytes)
 unfolding blanksBefore
@@ -101,21 +93,21 @@ after-blanks (a ∷ bytes) b rest e = go (isBlank a) refl (after-blanks bytes b 
     go true f shorter = shorter (rw f at e)
     go false f shorter = let g : a ∷ bytes ≡ b ∷ rest = rw f at e in let h : a ≡ b = cc in rw (← h) f
 
--- A piece whose first byte is neither a blank nor ETX.
-abbrev Plain : List ℕ → Type 0
-Plain p = (blanksBefore p ≡ 0) × (startsWith etx p ≡ false)
+-- A field starts with neither a blank nor ETX.
+abbrev StartsField : List ℕ → Type 0
+StartsField p = (blanksBefore p ≡ 0) × (startsWith etx p ≡ false)
 
-plain-first : (b : ℕ) (bytes : List ℕ) → isBlank b ≡ false → (b ≡ 3 → ⊥) → Plain (b ∷ bytes)
+starts-first : (b : ℕ) (bytes : List ℕ) → isBlank b ≡ false → (b ≡ 3 → ⊥) → StartsField (b ∷ bytes)
 unfolding blanksBefore
-plain-first b bytes h n = (rw h, ne-eqb b 3 n)
+starts-first b bytes h n = (rw h, ne-eqb b 3 n)
 
-plain-take : (u b : ℕ) (bytes : List ℕ) → isBlank b ≡ false → (b ≡ 3 → ⊥) → Plain (take u (b ∷ bytes))
+starts-take : (u b : ℕ) (bytes : List ℕ) → isBlank b ≡ false → (b ≡ 3 → ⊥) → StartsField (take u (b ∷ bytes))
 unfolding blanksBefore
-plain-take zero b bytes h n = (refl, refl)
-plain-take (suc u) b bytes h n = plain-first b (take u bytes) h n
+starts-take zero b bytes h n = (refl, refl)
+starts-take (suc u) b bytes h n = starts-first b (take u bytes) h n
 
-plain-or-end : (at : ℕ) (p : List ℕ) (other : Cut) → Plain p → orEnd at p other ≡ other
-plain-or-end at p other e = rw (e .0, e .1)
+starts-or-end : (at : ℕ) (p : List ℕ) (other : Cut) → StartsField p → orEnd at p other ≡ other
+starts-or-end at p other e = rw (e .0, e .1)
 
 at-etx : (at : ℕ) (bytes : List ℕ) → fieldsAt at (3 ∷ bytes) ≡ record { fields = []; end = some at }
 unfolding fieldsAt pieces fieldsFrom blanksBefore
@@ -131,7 +123,7 @@ module _ (at b : ℕ) (bytes : List ℕ) (h : isBlank b ≡ false) (n : b ≡ 3 
   unfolding fieldsAt fieldsFrom
   at-none l =
       let u : Uncut (b ∷ bytes) = pieces-none (b ∷ bytes) l in
-      rw (u .ended, u .rest) (plain-or-end at (b ∷ bytes) _ (plain-first b bytes h n))
+      rw (u .ended, u .rest) (starts-or-end at (b ∷ bytes) _ (starts-first b bytes h n))
 
   at-field : (u : ℕ) → u ≡ untilStar (b ∷ bytes) → u < length (b ∷ bytes)
       → fieldsAt at (b ∷ bytes)
@@ -142,12 +134,12 @@ module _ (at b : ℕ) (bytes : List ℕ) (h : isBlank b ≡ false) (n : b ≡ 3 
   unfolding fieldsAt fieldsFrom
   at-field u e l =
       let c : Cuts (b ∷ bytes) u = rw e (pieces-star (b ∷ bytes) (rw e at l)) in
-      let p : Plain (take u (b ∷ bytes)) = plain-take u b bytes h n in
+      let p : StartsField (take u (b ∷ bytes)) = starts-take u b bytes h n in
       let k : length (take u (b ∷ bytes)) ≡ u = length-take-le u (b ∷ bytes) (omega arith) in
       let s : u + 1 ≡ suc u = omega arith in
       rw (s, c .ended, c .rest, p .0, p .1, k, add-zero at)
 
--- What stands next, from the first byte on that is no blank.
+-- What stands next is told from the first byte on that is no blank.
 nothing : (at : ℕ) → fieldsAt at [] ≡ record { fields = []; end = none }
 unfolding fieldsAt pieces fieldsFrom blanksBefore
 nothing at = refl

@@ -1,12 +1,8 @@
--- Laws of the image of so many fuses:
---   image-same                     only the states below the count matter
---   start-byte                     a byte of the image of a start state
---   put-states                     states put in place change the states of those fuses alone
---   put-listed                     an L field after the L fields before it
+-- The image of so many fuses: a byte of a start state, and states put in place, which change those fuses alone.
+-- Assumes nothing.
 use mathlib.Core.Path.{_≡_, refl, sym, _∙_, ap}
-use mathlib.Core.Bool.{Bool, true, false, cond, _&&_, _||_}
-use mathlib.Core.List.{List, [], _∷_, _++_}
-use mathlib.Core.Option.Option.{none, some}
+use mathlib.Core.Bool.{Bool, true, false, cond, _&&_}
+use mathlib.Core.List.{List, [], _∷_}
 use Prim.Native.Nat.{ℕ, zero, suc, _+_, _*_, _-_, _/_, _%_, _^_, _≤_, _<_}
 use native.Mathlib.Omega.{arith}
 use native.Mathlib.Nat.{mod-eq-of-lt, mul-add, mul-zero, zero-mul, add-zero, two-pow-succ}
@@ -20,12 +16,11 @@ use Rattle.part.proofs.Facts.{compared}
 use Rattle.image.specs.Bits.{bitOf, putBit, withBit, gathered}
 use Rattle.image.specs.Image.{withFuse}
 use Rattle.image.proofs.Bits.{put-same, put-other, put-small, gathered-small, gathered-bit, gathered-same, gathered-own}
-use Rattle.jedec.specs.Rules.{Listed, endOf, misplaced, stateGiven, within, imageWith}
-use Rattle.jedec.proofs.States.{placed, image-length, image-at, within-small}
-use Rattle.jedec.specs.Form.{lastEnd}
+use Rattle.jedec.specs.Rules.{stateGiven, within, imageWith}
+use Rattle.jedec.proofs.States.{image-length, image-at, within-small}
 use Rattle.jedec_image.specs.States.{withStates}
 
--- Two images are one where each byte is gathered from like bits.
+-- Two images are equal where each byte is gathered from the same bits.
 image-is : (fuses : ℕ) (f : ℕ → ℕ) (bytes : List ℕ) → length bytes ≡ (fuses + 7) / 8
     → ((i : ℕ) → i < (fuses + 7) / 8 → getD bytes i 0 ≡ gathered (λ bit. within fuses f (i * 8 + bit)) 8) → bytes ≡ imageWith fuses f
 image-is fuses f bytes e h =
@@ -40,7 +35,7 @@ image-same fuses f g e =
     image-is fuses g (imageWith fuses f) (image-length fuses f)
     (λ i l. image-at fuses f i l ∙ gathered-same _ _ 8 (λ b m. within-same fuses f g e (i * 8 + b)))
 
--- A byte of which the lowest bits have a state.
+-- A byte of which the lowest bits have a state is that state times a power of two less one.
 below-bit : (s r b : ℕ) → b < r → cond (ltb b r) s 0 ≡ s
 below-bit s r b l = rw (lt-ltb b r l)
 
@@ -57,7 +52,7 @@ gathered-below s r (suc w) h =
     rw (below-bit s r w l, lower, z, sums) (sym (mul-add s (2 ^ w - 1) (2 ^ w))))
     (λ m. rw (le-ltb w r m, zero-mul) (add-zero _ ∙ gathered-below s r w m))
 
--- A byte of the image of a start state, which has so many fuses.
+-- A byte of the image of a start state is told by how many fuses it has.
 pub start-byte : (fuses s i r : ℕ) → i < (fuses + 7) / 8 → r ≤ 8 → (i * 8 + 8 ≤ fuses → r ≡ 8) → (fuses < i * 8 + 8 → r ≡ fuses - i * 8)
     → s * (2 ^ r - 1) ≡ getD (imageWith fuses (stateGiven s [])) i 0
 unfolding stateGiven
@@ -72,7 +67,7 @@ start-byte fuses s i r l m e f =
         (λ more. let past : r ≤ b = compared fuses (i * 8 + 8) (λ p. omega (arith, f p)) (λ p. omega arith) in
         rw (le-ltb (i * 8 + b) fuses more, le-ltb b r past))
 
--- A byte gathered from bits, with one of them put in place.
+-- A bit put in place in a gathered byte changes that bit alone.
 module _ (h : ℕ → ℕ) (small : (b : ℕ) → h b < 2) (bit s : ℕ) (l : bit < 8) (m : s < 2) where
   gathered-put : putBit (gathered h 8) bit s ≡ gathered (λ b. cond (eqb b bit) s (h b)) 8
   gathered-put =
@@ -87,7 +82,7 @@ module _ (h : ℕ → ℕ) (small : (b : ℕ) → h b < 2) (bit s : ℕ) (l : bi
           either-way (yes e) = rw (eq-eqb b bit e, e) (put-same (gathered h 8) bit s m)
           either-way (no n) = rw (ne-eqb b bit n) (put-other (gathered h 8) bit s m b n ∙ gathered-bit h small 8 b lb)
 
--- The states with one changed, and with a list of states put in place.
+-- The states with one of them changed.
 abbrev changed : (ℕ → ℕ) → (fuse state : ℕ) → ℕ → ℕ
 changed f fuse s k = cond (eqb k fuse) s (f k)
 
@@ -173,99 +168,3 @@ put-states fuses (s ∷ states) f first small bits l =
     ap (λ (image : List ℕ). withStates image (first + 1) states) (put-state fuses f small first s (omega arith) (bits 0))
     ∙ put-states fuses states (changed f first s) (first + 1) (changed-small f first s small (bits 0)) (λ k. bits (suc k)) (omega arith)
     ∙ image-same fuses _ _ (λ k h. over-more f first s states k)
-
--- One L field more, where those before are in place, and where one is not.
-module _ (fuses : ℕ) (l : Listed) where
-  pub last-more : (end : ℕ) (lists : List Listed) → lastEnd end (lists ++ (l ∷ [])) ≡ endOf l
-  unfolding lastEnd
-  last-more end [] = refl
-  last-more end (a ∷ lists) = last-more (endOf a) lists
-
-  pub still-misplaced : (end : ℕ) (lists : List Listed) (at : ℕ)
-      → misplaced fuses end lists ≡ some at → misplaced fuses end (lists ++ (l ∷ [])) ≡ some at
-  unfolding misplaced
-  still-misplaced end [] at e = let z : _≡_ {A = ℕ} 0 1 = cc in absurd (omega arith)
-  still-misplaced end (a ∷ lists) at e = go (ltb (a .first) end || ltb fuses (endOf a)) (still-misplaced (endOf a) lists at) e
-    where
-      go : (t : Bool) → (misplaced fuses (endOf a) lists ≡ some at → misplaced fuses (endOf a) (lists ++ (l ∷ [])) ≡ some at)
-          → cond t (some (a .at)) (misplaced fuses (endOf a) lists)
-          ≡ some at → cond t (some (a .at)) (misplaced fuses (endOf a) (lists ++ (l ∷ []))) ≡ some at
-      go true ih h = h
-      go false ih h = ih h
-
-  pub now-misplaced : (end : ℕ) (lists : List Listed) → misplaced fuses end lists ≡ none
-      → misplaced fuses end (lists ++ (l ∷ [])) ≡ cond (ltb (l .first) (lastEnd end lists) || ltb fuses (endOf l)) (some (l .at)) none
-  unfolding misplaced lastEnd
-  now-misplaced end [] e = refl
-  now-misplaced end (a ∷ lists) e = go (ltb (a .first) end || ltb fuses (endOf a)) (now-misplaced (endOf a) lists) e
-    where
-      go : (t : Bool)
-          → (misplaced fuses (endOf a) lists ≡ none → misplaced fuses (endOf a) (lists ++ (l ∷ []))
-          ≡ cond (ltb (l .first) (lastEnd (endOf a) lists) || ltb fuses (endOf l)) (some (l .at)) none)
-          → cond t (some (a .at)) (misplaced fuses (endOf a) lists) ≡ none
-          → cond t (some (a .at)) (misplaced fuses (endOf a) (lists ++ (l ∷ [])))
-          ≡ cond (ltb (l .first) (lastEnd (endOf a) lists) || ltb fuses (endOf l)) (some (l .at)) none
-      go true ih h = let z : _≡_ {A = ℕ} 0 1 = cc in absurd (omega arith)
-      go false ih h = ih h
-
-ends-rise : (fuses end : ℕ) (lists : List Listed) → misplaced fuses end lists ≡ none → end ≤ lastEnd end lists
-unfolding lastEnd
-ends-rise fuses end [] e = omega arith
-ends-rise fuses end (a ∷ lists) e =
-    let p = placed fuses end a lists e in
-    omega (arith, p .0, ends-rise fuses (endOf a) lists (p .2))
-
-given-more : (fuses from end : ℕ) (l : Listed) (lists : List Listed) → misplaced fuses end lists ≡ none
-    → lastEnd end lists ≤ l .first → (k : ℕ) → over (stateGiven from lists) (l .first) (l .states) k ≡ stateGiven from (lists ++ (l ∷ [])) k
-unfolding stateGiven lastEnd
-given-more fuses from end l [] e h k = refl
-given-more fuses from end l (a ∷ lists) e h k = go (given-more fuses from (endOf a) l lists (placed fuses end a lists e .2) h k)
-  where
-    go : over (stateGiven from lists) (l .first) (l .states) k ≡ stateGiven from (lists ++ (l ∷ [])) k
-        → over (stateGiven from (a ∷ lists)) (l .first) (l .states) k ≡ stateGiven from ((a ∷ lists) ++ (l ∷ [])) k
-    go ih =
-        compared k (a .first) (λ m. rw (lt-leb (a .first) k m) ih)
-        (λ g. compared k (endOf a)
-        (λ m.
-        let before : k < l .first = omega (arith, ends-rise fuses (endOf a) lists (placed fuses end a lists e .2)) in
-        rw (le-leb (a .first) k g, lt-ltb k (endOf a) m, lt-leb (l .first) k before))
-        (λ m. rw (le-leb (a .first) k g, le-ltb k (endOf a) m) ih))
-
-over-small : (f : ℕ → ℕ) (first : ℕ) (states : List ℕ) → ((k : ℕ) → f k < 2) → Bits states → (k : ℕ) → over f first states k < 2
-over-small f first states small bits k = go (leb first k && ltb k (first + length states))
-  where
-    go : (t : Bool) → cond t (getD states (k - first) 0) (f k) < 2
-    go true = bits (k - first)
-    go false = small k
-
--- An image that holds what the fields gave.
-pub record Holds (fuses from : ℕ) (lists : List Listed) (image : List ℕ) : Type 0 where
-  pub is : image ≡ imageWith fuses (stateGiven from lists)
-  pub bits : (k : ℕ) → stateGiven from lists k < 2
-
-pub start-holds : (fuses from : ℕ) → from < 2 → Holds fuses from [] (imageWith fuses (stateGiven from []))
-unfolding stateGiven
-start-holds fuses from h = record { is = refl; bits = λ k. h }
-
-pub put-listed : (fuses from : ℕ) (lists : List Listed) (l : Listed) (image : List ℕ) → Holds fuses from lists image → Bits (l .states)
-    → misplaced fuses 0 (lists ++ (l ∷ [])) ≡ none → misplaced fuses 0 lists ≡ none
-    → Holds fuses from (lists ++ (l ∷ [])) (withStates image (l .first) (l .states))
-put-listed fuses from lists l image h bits e f =
-    let rule : misplaced fuses 0 (lists ++ (l ∷ [])) ≡ cond (ltb (l .first) (lastEnd 0 lists) || ltb fuses (endOf l)) (some (l .at)) none =
-    now-misplaced fuses l 0 lists f in
-    compared (l .first) (lastEnd 0 lists)
-    (λ m. let bad : none ≡ some (l .at) = sym e ∙ rule ∙ rw (lt-ltb (l .first) (lastEnd 0 lists) m) in
-    let z : _≡_ {A = ℕ} 0 1 = cc in absurd (omega arith))
-    (λ g. compared fuses (endOf l)
-    (λ m. let bad : none ≡ some (l .at) = sym e ∙ rule ∙ rw (le-ltb (l .first) (lastEnd 0 lists) g, lt-ltb fuses (endOf l) m) in
-    let z : _≡_ {A = ℕ} 0 1 = cc in absurd (omega arith))
-    (λ m.
-    let same : (k : ℕ) → over (stateGiven from lists) (l .first) (l .states) k ≡ stateGiven from (lists ++ (l ∷ [])) k =
-    given-more fuses from 0 l lists f g in
-    record {
-      is =
-          ap (λ (x : List ℕ). withStates x (l .first) (l .states)) (h .is)
-          ∙ put-states fuses (l .states) (stateGiven from lists) (l .first) (h .bits) bits m
-          ∙ image-same fuses _ _ (λ k p. same k);
-      bits = λ k. rw (← same k) (over-small (stateGiven from lists) (l .first) (l .states) (h .bits) bits k);
-    }))

@@ -1,4 +1,8 @@
 -- The laws about states put into an image.
 -- Assumes nothing.
-pub mod Puts
+pub mod WrittenStates
+pub mod Pending
+pub mod StatesPut
 pub mod Images
+pub mod ListedImages
+pub mod Lengths

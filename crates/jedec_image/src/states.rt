@@ -1,15 +1,17 @@
-// An image filled with a start state, and states put into it. For the reader.
+// An image filled with a start state, and states put into it: what a field does to the image that the reader makes.
 // A function here may require that the image has its length and that bytes write states.
 ghost use mathlib.Core.Path.{_≡_};
 ghost use mathlib.Core.List.{[]};
 ghost use mathlib.Core.Option.Option.{some};
 ghost use Prim.Native.Nat.{_+_, _*_, _-_, _/_, _^_, _<_, _≤_};
-ghost use lib.ListN.{length};
+ghost use lib.ListN.{length, drop};
 ghost use Rattle.jedec.specs.Judge.{statesIn};
 ghost use Rattle.jedec.specs.Rules.{stateGiven, imageWith};
-ghost use Rattle.jedec_fields.specs.Fields.{statesOf};
-ghost use Rattle.jedec_image.specs.States.{withStates};
+ghost use Rattle.jedec_judge.specs.Judged.{statesOf};
+ghost use Rattle.jedec_image.specs.States.{withStates, putField, PutFits};
 use cells::words::low_bits;
+use jedec_judge::FieldSays;
+use jedec_progress::progress::OptionalNumber;
 use jedec_runs::states::bits_at;
 use jedec_runs::states::blank_at;
 use jedec_runs::states::states_at;
@@ -22,7 +24,7 @@ fn byte_of(state: u32, bits: u32) -> u8
     (state * ((1 << bits) - 1)) as u8
 }
 
-// Every fuse at a start state; bits past the last fuse are 0.
+// Puts every fuse at a start state; bits past the last fuse are 0.
 pub fn fill(image: &mut [u8], fuses: u32, state: u32)
     requires { ⌜ (length (now image) ≡ (fuses + 7) / 8) × (state < 2) ⌝ }
     ensures { λ _. ⌜ now (image .exit) ≡ imageWith fuses (stateGiven state []) ⌝ }
@@ -41,7 +43,7 @@ pub fn fill(image: &mut [u8], fuses: u32, state: u32)
 
 // The states that some bytes write, put in place from a fuse on. A byte of the image is stored when its last bit is
 // known, and at the end; until then its new low bits stand in `low`.
-pub fn put_states(bytes: &[u8], image: &mut [u8], fuse: usize)
+fn put_states(bytes: &[u8], image: &mut [u8], fuse: usize)
     requires { ⌜ (statesIn (now bytes) ≡ some (statesOf (now bytes))) × (0 < length (statesOf (now bytes)))
         × (fuse + length (statesOf (now bytes)) ≤ length (now image) * 8) ⌝ }
     ensures { λ _. ⌜ now (image .exit) ≡ withStates (now (image .entry)) fuse (statesOf (now (bytes .entry))) ⌝ }
@@ -65,5 +67,37 @@ pub fn put_states(bytes: &[u8], image: &mut [u8], fuse: usize)
     if 0 < bit {
         let above = image[index] as u64 >> bit;
         image[index] = ((above << bit) + low) as u8;
+    }
+}
+
+// What a field puts into the image: a start state, or states unless an L is misplaced.
+pub fn put_field(
+    fuses: u32,
+    field: &[u8],
+    says: FieldSays,
+    misplaced: OptionalNumber,
+    image: &mut [u8],
+)
+    requires { ⌜ (length (now image) ≡ (fuses + 7) / 8) × PutFits fuses (drop 1 (now field)) says misplaced ⌝ }
+    ensures { λ _.
+        ⌜ now (image .exit) ≡ putField fuses (drop 1 (now (field .entry))) says misplaced (now (image .entry)) ⌝ }
+{
+    match says {
+        FieldSays::Start(s) => fill(image, fuses, s),
+        FieldSays::List {
+            first,
+            skip,
+            count: _,
+        } => match misplaced {
+            OptionalNumber::None => {
+                let from = skip + 1;
+                put_states(&field[from..], image, first as usize);
+            }
+            OptionalNumber::Some(_) => {}
+        },
+        FieldSays::Count(_) => {}
+        FieldSays::Sum(_) => {}
+        FieldSays::Skipped => {}
+        FieldSays::Bad => {}
     }
 }

@@ -1,4 +1,4 @@
 -- The laws about the reader.
 -- Assumes nothing.
 pub mod Steps
-pub mod Ends
+pub mod Walks

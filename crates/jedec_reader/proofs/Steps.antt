@@ -1,33 +1,29 @@
--- Laws of one field more:
---   in-order       what the reader knows says which field may stand
---   put-fits       what a field puts into the image fits it
---   given-after    what is known after a field, and the image it is put into, are what the fields gave
+-- One field more: whether it may stand, that it fits the image, and that what is then known is what the fields gave.
+-- Assumes nothing.
 use mathlib.Core.Path.{_≡_, refl, sym, _∙_}
 use mathlib.Core.Bool.{Bool, true, false, cond, not, _&&_, _||_, or-true}
 use mathlib.Core.List.{List, [], _∷_, _++_}
 use mathlib.Core.Option.{Option}
 use mathlib.Core.Option.Option.{none, some}
-use Prim.Native.Nat.{ℕ, _+_, _/_, _≤_, _<_}
+use Prim.Native.Nat.{ℕ, _+_, _≤_, _<_}
 use native.Mathlib.Omega.{arith}
 use lib.Dec.{ltb}
-use lib.ListN.{length, drop, length-set}
+use lib.ListN.{length, drop}
 use borrow.Author.Tests.{lt-ltb, not-true}
 use Rattle.part.proofs.Facts.{compared, and-iff}
-use Rattle.image.specs.Bits.{withBit}
-use Rattle.image.specs.Image.{withFuse}
-use Rattle.jedec.specs.Rules.{Listed, Known, has, hasAny, inOrder, after, endOf, misplaced, startState, stateGiven}
-use Rattle.jedec_fields.specs.Fields.{statesOf, judgedAfter, ListFits, SaysFits}
-use Rattle.jedec_fields.specs.declared.FieldSays.{FieldSays}
-use Rattle.jedec_fields.specs.declared.FieldSays.the-variants as says
+use Rattle.jedec.specs.Rules.{Listed, Known, has, hasAny, inOrder, after, endOf, misplaced, startState}
+use Rattle.jedec_judge.specs.Judged.{statesOf, judgedAfter, ListFits, SaysFits}
+use Rattle.jedec_judge.specs.declared.FieldSays.{FieldSays}
+use Rattle.jedec_judge.specs.declared.FieldSays.the-variants as says
 use Rattle.jedec.specs.Form.{lastEnd}
-use Rattle.jedec_image.specs.States.{withStates}
-use Rattle.jedec_image.proofs.Puts.{written-bits}
-use Rattle.jedec.proofs.States.{image-length}
-use Rattle.jedec_image.proofs.Images.{Holds, start-holds, put-listed, last-more, still-misplaced, now-misplaced}
-use Rattle.jedec_reader.specs.Progress.{seenOf, mayStand, misplacedAfter, afterField, putField, PutFits, ProgressKnows}
-use Rattle.jedec_reader.specs.declared.progress.Seen.{Seen}
-use Rattle.jedec_reader.specs.declared.progress.Seen.the-variants as seen
-use Rattle.jedec_reader.specs.declared.progress.Progress.{Progress}
+use Rattle.jedec_image.specs.States.{withStates, putField, PutFits}
+use Rattle.jedec_image.proofs.WrittenStates.{written-bits}
+use Rattle.jedec_image.proofs.ListedImages.{Holds, start-holds, put-listed, last-more, still-misplaced, now-misplaced}
+use Rattle.jedec_progress.specs.Progress.{optionalNumber, mayStand, misplacedAfter, afterField}
+use Rattle.jedec_progress.specs.Progress.{ProgressKnows}
+use Rattle.jedec_progress.specs.declared.progress.OptionalNumber.{OptionalNumber}
+use Rattle.jedec_progress.specs.declared.progress.OptionalNumber.the-variants as optional-number
+use Rattle.jedec_progress.specs.declared.progress.Progress.{Progress}
 
 pub in-order : (fuses : ℕ) (p : Progress) (k : Known) (image rest : List ℕ) (s : FieldSays) → ProgressKnows fuses p k image
     → mayStand p s ≡ inOrder k (judgedAfter rest s)
@@ -38,12 +34,12 @@ in-order fuses p k image rest (says.Sum x) g = rw (g .count, g .sum)
 in-order fuses p k image rest says.Skipped g = refl
 in-order fuses p k image rest says.Bad g = refl
 
-list-space : (fuses end at first number : ℕ) (before : Seen) → misplacedAfter fuses before end at first number ≡ seen.Nothing
-    → first + number ≤ fuses
-list-space fuses end at first number (seen.Number x) e = let z : _≡_ {A = ℕ} 0 1 = cc in absurd (omega arith)
-list-space fuses end at first number seen.Nothing e =
+list-space : (fuses end at first number : ℕ) (before : OptionalNumber)
+    → misplacedAfter fuses before end at first number ≡ optional-number.None → first + number ≤ fuses
+list-space fuses end at first number (optional-number.Some x) e = let z : _≡_ {A = ℕ} 0 1 = cc in absurd (omega arith)
+list-space fuses end at first number optional-number.None e =
     compared fuses (first + number)
-    (λ l. let bad : seen.Number at ≡ seen.Nothing = rw (lt-ltb fuses (first + number) l, or-true) at e in
+    (λ l. let bad : optional-number.Some at ≡ optional-number.None = rw (lt-ltb fuses (first + number) l, or-true) at e in
     let z : _≡_ {A = ℕ} 0 1 = cc in absurd (omega arith))
     (λ m. m)
 
@@ -65,19 +61,19 @@ any-listed : (lists : List Listed) (l : Listed) → true ≡ hasAny (lists ++ (l
 any-listed [] l = refl
 any-listed (a ∷ lists) l = refl
 
-nothing-seen : (s : Seen) → seenOf s ≡ none → s ≡ seen.Nothing
-nothing-seen seen.Nothing e = refl
-nothing-seen (seen.Number x) e = let z : _≡_ {A = ℕ} 0 1 = cc in absurd (omega arith)
+no-number : (s : OptionalNumber) → optionalNumber s ≡ none → s ≡ optional-number.None
+no-number optional-number.None e = refl
+no-number (optional-number.Some x) e = let z : _≡_ {A = ℕ} 0 1 = cc in absurd (omega arith)
 
--- One L field more.
+-- One L field more is misplaced exactly if the reader finds it so.
 module _ (fuses : ℕ) (lists : List Listed) (l : Listed) where
-  faulty-after : (s : Seen) (end : ℕ) → end ≡ lastEnd 0 lists → seenOf s ≡ misplaced fuses 0 lists
-      → seenOf (misplacedAfter fuses s end (l .at) (l .first) (length (l .states))) ≡ misplaced fuses 0 (lists ++ (l ∷ []))
-  faulty-after (seen.Number x) end e f = sym (still-misplaced fuses l 0 lists x (sym f))
-  faulty-after seen.Nothing end e f =
+  faulty-after : (s : OptionalNumber) (end : ℕ) → end ≡ lastEnd 0 lists → optionalNumber s ≡ misplaced fuses 0 lists
+      → optionalNumber (misplacedAfter fuses s end (l .at) (l .first) (length (l .states))) ≡ misplaced fuses 0 (lists ++ (l ∷ []))
+  faulty-after (optional-number.Some x) end e f = sym (still-misplaced fuses l 0 lists x (sym f))
+  faulty-after optional-number.None end e f =
       rw e (go (ltb (l .first) (lastEnd 0 lists) || ltb fuses (endOf l))) ∙ sym (now-misplaced fuses l 0 lists (sym f))
     where
-      go : (t : Bool) → seenOf (cond t (seen.Number (l .at)) seen.Nothing) ≡ cond t (some (l .at)) none
+      go : (t : Bool) → optionalNumber (cond t (optional-number.Some (l .at)) optional-number.None) ≡ cond t (some (l .at)) none
       go true = refl
       go false = refl
 
@@ -114,7 +110,8 @@ module _ (fuses : ℕ) (p : Progress) (k : Known) (image rest : List ℕ) (at : 
   list-after : (first skip number : ℕ) → ListFits rest skip number → After (says.List first skip number)
   list-after first skip number f =
       let l : Listed = record { at = at; first = first; states = statesOf (drop skip rest) } in
-      let faulty : seenOf (misplacedAfter fuses (p .misplaced) (p .end) at first number) ≡ misplaced fuses 0 (k .lists ++ (l ∷ [])) =
+      let faulty : optionalNumber (misplacedAfter fuses (p .misplaced) (p .end) at first number)
+      ≡ misplaced fuses 0 (k .lists ++ (l ∷ [])) =
       rw (← f .many) (faulty-after fuses (k .lists) l (p .misplaced) (p .end) (g .end) (g .faulty)) in
       let held : misplaced fuses 0 (k .lists ++ (l ∷ [])) ≡ none
       → Holds fuses (startState (k .start)) (k .lists ++ (l ∷ [])) (withStates image first (statesOf (drop skip rest))) =
@@ -130,7 +127,7 @@ module _ (fuses : ℕ) (p : Progress) (k : Known) (image rest : List ℕ) (at : 
         faulty = faulty;
         sum = g .sum;
         bits = λ m. held m .bits;
-        holds = λ m. rw (nothing-seen (misplacedAfter fuses (p .misplaced) (p .end) at first number) (faulty ∙ m)) (held m .is);
+        holds = λ m. rw (no-number (misplacedAfter fuses (p .misplaced) (p .end) at first number) (faulty ∙ m)) (held m .is);
       }
 
   pub given-after : (s : FieldSays) → SaysFits rest s → inOrder k (judgedAfter rest s) ≡ true → After s
@@ -160,20 +157,3 @@ module _ (fuses : ℕ) (p : Progress) (k : Known) (image rest : List ℕ) (at : 
       }
   given-after says.Skipped f e = g
   given-after says.Bad f e = g
-
--- The image keeps its length.
-put-states-length : (states image : List ℕ) (fuse : ℕ) → length (withStates image fuse states) ≡ length image
-unfolding withStates withBit
-put-states-length [] image fuse = refl
-put-states-length (s ∷ states) image fuse =
-    put-states-length states (withFuse image fuse s) (fuse + 1) ∙ length-set image (fuse / 8) _
-
-pub put-length : (fuses : ℕ) (rest : List ℕ) (s : FieldSays) (m : Seen) (image : List ℕ) → length image ≡ (fuses + 7) / 8
-    → length (putField fuses rest s m image) ≡ length image
-put-length fuses rest (says.Count n) m image e = refl
-put-length fuses rest (says.Start x) m image e = image-length fuses (stateGiven x []) ∙ sym e
-put-length fuses rest (says.List first skip number) seen.Nothing image e = put-states-length (statesOf (drop skip rest)) image first
-put-length fuses rest (says.List first skip number) (seen.Number x) image e = refl
-put-length fuses rest (says.Sum x) m image e = refl
-put-length fuses rest says.Skipped m image e = refl
-put-length fuses rest says.Bad m image e = refl

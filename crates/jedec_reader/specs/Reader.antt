@@ -1,24 +1,14 @@
 -- Text to image: what a call answers, refusals 1, 2 and 7 to 11 in this order, and the image that it puts in place.
 -- What a text means is defined in crate `jedec`.
 use Prim.Native.Nat.{ℕ}
-use mathlib.Core.List.{List, []}
+use mathlib.Core.List.{List}
 use lib.ListN.{length}
 use Rattle.part.specs.Outcome.{Outcome}
-use Rattle.part.specs.Outcome.Outcome.{accepted, refused}
 use Rattle.part.specs.Device.{fuseCount, imageBytes}
 use Rattle.part.specs.Convert.{ifKnown, ifLength}
 use Rattle.part.specs.declared.Device.{Device}
 use Rattle.jedec.specs.Meaning.{meaning}
-
--- What is answered, without the image.
-abbrev pub verdict : Outcome (List ℕ) → Outcome (Unit {0})
-verdict (accepted image) = accepted tt
-verdict (refused number value) = refused number value
-
--- The image, where there is one.
-abbrev pub resultOf : Outcome (List ℕ) → List ℕ
-resultOf (accepted image) = image
-resultOf (refused number value) = []
+pub use Rattle.jedec_end.specs.Outcome.{verdict, resultOf}
 
 unfoldable pub toImageFromText : Device → (text target : List ℕ) → Outcome (Unit {0})
 toImageFromText d text target =

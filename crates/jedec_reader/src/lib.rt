@@ -7,11 +7,10 @@ use part::Device;
 use part::DoneAnswer;
 use part::Refusal;
 
-mod progress;
 mod walk;
 
-// The image that a text describes, put into `image`. Refused: 1, 2, 7 to 11. It is made beside the caller's, since a
-// refusal changes no byte of that.
+// Puts the image that a text describes into `image`; refusals are 1, 2 and 7 to 11. The image is made beside the
+// caller's, since a refusal changes no byte of that.
 pub fn text_to_image(d: Device, text: &[u8], image: &mut [u8]) -> DoneAnswer
     ensures { λ r. ⌜ Written (toImageFromText d (now (text .entry)) (now (image .entry))) (doneOutcome r)
         (imageIn d (now (text .entry))) (now (image .entry)) (now (image .exit)) ⌝ }

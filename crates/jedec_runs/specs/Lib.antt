@@ -1,3 +1,3 @@
--- The definitions that the contracts of `jedec_runs` cite: what the proofs work with. No public contract rests on them.
+-- The definitions that the contracts of `jedec_runs` cite: the proofs work with them, and no public contract does.
 -- Assumes nothing.
 pub mod Runs

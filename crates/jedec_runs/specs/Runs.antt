@@ -1,4 +1,4 @@
--- States that stand next among bytes.
+-- States and blanks that stand at an offset among bytes.
 -- A state is written by the character 0 or 1, whose codes are 48 and 49: half of either is 24.
 use Prim.Native.Nat.{ℕ, zero, suc, _+_, _/_, _%_, _^_, _≤_}
 use mathlib.Core.Path.{_≡_}
@@ -18,12 +18,13 @@ abbrev pub oneIfBlank : List ℕ → ℕ
 oneIfBlank [] = 0
 oneIfBlank (b ∷ bytes) = cond (isBlank b) 1 0
 
+-- Whether a blank stands at an offset, which is then in the bytes.
 pub record IsBlankAt (bytes : List ℕ) (at r : ℕ) : Type 0 where
   pub is : r ≡ oneIfBlank (drop at bytes)
   pub few : r ≤ 1
   pub inside : at ≤ length bytes → at + r ≤ length bytes
 
--- States at an offset: none are told only where no state stands.
+-- So many states stand at an offset: none are told only where no state stands.
 pub record StatesAt (bytes : List ℕ) (at r : ℕ) : Type 0 where
   pub inside : at + r ≤ length bytes
   pub few : r ≤ 8

@@ -26,8 +26,8 @@ fn lowest_bits(ones: u64) -> u64
     low_bits((between * 0x0102_0408) >> 24, 8)
 }
 
-// How many of the first bytes of a word are taken for states at once: 8, 7, 6 or none. Without its
-// lowest bit each is the character 0.
+// How many of the first bytes of a word are taken for states at once: 8, 7, 6 or none. Without its lowest bit each of
+// them is the character 0.
 fn states_first(word: u64) -> usize
     ensures { λ r. ⌜ (r ≤ 8) × ((bytes : List ℕ) → word ≡ join (replicate 8 8) bytes → AllStates r bytes) ⌝ }
 {
@@ -44,8 +44,8 @@ fn states_first(word: u64) -> usize
     0
 }
 
-// How many states stand at an offset, one next to another: at most eight, and perhaps not
-// all; none only where none stands.
+// How many states stand at an offset, one next to another: at most eight, and perhaps not all; none only where none
+// stands.
 pub fn states_at(bytes: &[u8], at: usize) -> usize
     requires { ⌜ at < length (now bytes) ⌝ }
     ensures { λ r. ⌜ StatesAt (now (bytes .entry)) at r ⌝ }

@@ -5,14 +5,14 @@ ghost use lib.ListN.{length};
 use part::Device;
 use vectors::at_most;
 
-// A buffer for the longest text.
+// A buffer for the longest text that is written.
 fn buffer_for_text() -> [u8; 411293]
     ensures { λ r. ⌜ 411293 ≡ length r ⌝ }
 {
     [0; 411293]
 }
 
-// The answer of a call, and the digest of the image that was lent to it.
+// Prints the answer of a call, and the digest of the image that was passed to it.
 fn read(name: &[u8], d: Device, text: &[u8], image: &mut [u8]) {
     vectors::fill(image, 4);
     let answer = capi::xc9500_text_to_image(d.blocks, d.class, text, image);
@@ -20,19 +20,19 @@ fn read(name: &[u8], d: Device, text: &[u8], image: &mut [u8]) {
     vectors::put_answer(answer);
 }
 
-// The first bytes of a text.
+// Reads the first bytes of a text.
 fn read_first(name: &[u8], d: Device, text: &[u8], image: &mut [u8], length: usize) {
     let n = at_most(length, text.len());
     read(name, d, &text[..n], image);
 }
 
-// An image that is too short for any device.
+// Reads into an image that is too short for any device.
 fn read_short_image(d: Device, text: &[u8], image: &mut [u8]) {
     let n = at_most(2267, image.len());
     read(b" image short", d, text, &mut image[..n]);
 }
 
-// A text whole, without its last byte, its first half, and none; and an image that is too short.
+// Reads a text whole, without its last byte, its first half, and none; and into an image that is too short.
 fn lengths(d: Device, text: &[u8], image: &mut [u8]) {
     let n = text.len();
     read_first(b" whole", d, text, image, n);
@@ -47,18 +47,13 @@ const ETX: u8 = 3;
 
 // A byte to put in another's place: one that means something in a text.
 fn another(k: u64) -> u8 {
-    if k == 0 {
-        b'0'
-    } else if k == 1 {
-        b'1'
-    } else if k == 2 {
-        b'*'
-    } else if k == 3 {
-        b' '
-    } else if k == 4 {
-        ETX
-    } else {
-        b'9'
+    match k {
+        0 => b'0',
+        1 => b'1',
+        2 => b'*',
+        3 => b' ',
+        4 => ETX,
+        _ => b'9',
     }
 }
 
@@ -73,7 +68,7 @@ fn place(kind: u32, word: u64, length: usize) -> usize {
     word as usize
 }
 
-// One byte changed, the text read, and the byte put back.
+// Changes one byte, reads the text, and puts the byte back.
 fn changed(d: Device, text: &mut [u8], image: &mut [u8], at: usize, byte: u8) {
     if at < text.len() {
         let old = text[at];
@@ -86,6 +81,7 @@ fn changed(d: Device, text: &mut [u8], image: &mut [u8], at: usize, byte: u8) {
     }
 }
 
+// Reads the text thirty times, each time with one byte changed.
 fn damaged(d: Device, text: &mut [u8], image: &mut [u8]) {
     let mut word: u64 = 7;
     let mut k: u32 = 0;
@@ -106,7 +102,7 @@ fn known(d: Device) -> Device {
     vectors::SMALLEST
 }
 
-// The text of an image that looks random, by a device that is known, read as another's perhaps.
+// Reads the text of an image that looks random, written for a device that is known, as the text of a device.
 fn on_text(d: Device, text: &mut [u8], image: &mut [u8]) {
     vectors::fill(image, 2);
     let writer = known(d);
@@ -118,6 +114,7 @@ fn on_text(d: Device, text: &mut [u8], image: &mut [u8]) {
     }
 }
 
+// Reads texts for one device, in slices of its sizes.
 fn device(d: Device, text: &mut [u8], image: &mut [u8]) {
     let sizes = vectors::sizes(d);
     let n = at_most(sizes.image_bytes as usize, image.len());
@@ -125,6 +122,7 @@ fn device(d: Device, text: &mut [u8], image: &mut [u8]) {
     on_text(d, &mut text[..t], &mut image[..n]);
 }
 
+// Reads texts for each device.
 fn each_device(text: &mut [u8], image: &mut [u8]) {
     let mut k: u32 = 0;
     while k < vectors::DEVICES {

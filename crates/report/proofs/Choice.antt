@@ -17,12 +17,13 @@ use borrow.Author.Tests.{eq-eqb, ne-eqb}
 use Rattle.part.specs.Device.{known, fuseCount}
 use Rattle.jedec.specs.Cut.{pieces, Cut, fieldsFrom}
 use Rattle.jedec.specs.Judge.{judge}
-use Rattle.jedec_fields.specs.Fields.{judgedAfter, Says, untilStar, fieldsAt, cutOf, Inside, Stands}
-use Rattle.jedec_fields.specs.declared.FieldSays.{FieldSays}
-use Rattle.jedec_fields.specs.declared.FieldSays.the-variants as says
+use Rattle.jedec_judge.specs.Judged.{judgedAfter, Says}
+use Rattle.jedec_fields.specs.Fields.{untilStar, fieldsAt, cutOf, Inside, Stands}
+use Rattle.jedec_judge.specs.declared.FieldSays.{FieldSays}
+use Rattle.jedec_judge.specs.declared.FieldSays.the-variants as says
 use Rattle.jedec_fields.specs.declared.NextSays.{NextSays}
 use Rattle.jedec_fields.specs.declared.NextSays.the-variants as next
-use Rattle.jedec_fields.proofs.FieldSays.{the-type}
+use Rattle.jedec_judge.proofs.FieldSays.{the-type}
 use Rattle.jedec_fields.proofs.Fields.{Cuts, pieces-star, Uncut, pieces-none}
 use Rattle.report.specs.Report.{ofBlocks, fuseCountIn, firstCount, blocksBy, blocksFor}
 

@@ -15,8 +15,9 @@ use Rattle.part.proofs.Devices.{is-known, is-unknown, fuses-small}
 use Rattle.part.proofs.Checks.{no-device, the-device, other-length, the-length}
 use Rattle.part.proofs.Targets.{says}
 use Rattle.jedec.specs.Meaning.{meaning}
-use Rattle.jedec_reader.specs.Reader.{verdict, toImageFromText, imageIn}
-use Rattle.jedec_reader.specs.Progress.{ReadInto}
+use Rattle.jedec_end.specs.Outcome.{verdict}
+use Rattle.jedec_reader.specs.Reader.{toImageFromText, imageIn}
+use Rattle.jedec_reader.specs.Walk.{largestImage, ReadInto}
 use borrow.Author.Needs.{needs}
 use Rattle.jedec_reader.proofs.text_to_image.Statement.{statement}
 use Rattle.jedec_reader.proofs.text_to_image.Tie as tie
@@ -44,23 +45,23 @@ module _ (d : Device) (text before : List ℕ) where
         ∙ sym (the-device d _ k) in
         record { answers = same; holds = read .holds ∙ ap (λ (o : Outcome (Unit {0})). written o (imageIn d text) before) same }
 
--- The buffer that the image is made in.
+-- The image is made in the first bytes of a buffer that is large enough for every device.
 module _ (d : Device) (x : ℕ) (e : x ≡ imageBytes d) where
-  few-bytes : known d ≡ true → x ≤ 36288
+  few-bytes : known d ≡ true → x ≤ largestImage
   unfolding imageBytes
   few-bytes k = omega (arith, fuses-small d k)
 
-  in-space : (made : List ℕ) → known d ≡ true → length made ≡ 36288 → x ≤ length made
+  in-space : (made : List ℕ) → known d ≡ true → length made ≡ largestImage → x ≤ length made
   in-space made k l = omega (arith, few-bytes k)
 
-  so-long : (made : List ℕ) → known d ≡ true → length made ≡ 36288 → x ≡ length (take x made)
+  so-long : (made : List ℕ) → known d ≡ true → length made ≡ largestImage → x ≡ length (take x made)
   so-long made k l = sym (length-take-le x made (in-space made k l))
 
   image-size : (before : List ℕ) (fuses : ℕ) → length before ≡ x → fuses ≡ fuseCount d → length before ≡ (fuses + 7) / 8
   unfolding imageBytes
   image-size before fuses h f = rw f (h ∙ e)
 
-  buffer-size : (made : List ℕ) (fuses : ℕ) → known d ≡ true → length made ≡ 36288 → fuses ≡ fuseCount d
+  buffer-size : (made : List ℕ) (fuses : ℕ) → known d ≡ true → length made ≡ largestImage → fuses ≡ fuseCount d
       → length (take x made) ≡ (fuses + 7) / 8
   unfolding imageBytes
   buffer-size made fuses k l f = rw f (sym (so-long made k l) ∙ e)

@@ -1,4 +1,4 @@
--- `device` is safe: the parts that it lends are within the whole.
+-- `device` is safe: the parts that it passes are within the whole.
 -- Assumes nothing.
 use lib.Seq.{length-take-le}
 use borrow.Author.Needs.{needs}

@@ -1,4 +1,4 @@
--- `read_first` is safe: the part that it lends is within the whole.
+-- `read_first` is safe: the part that it passes is within the whole.
 -- Assumes nothing.
 use lib.Seq.{length-take-le}
 use borrow.Author.Needs.{needs}

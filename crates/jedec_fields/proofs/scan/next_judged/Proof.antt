@@ -1,7 +1,8 @@
 -- `next_judged` meets its contract: behind blanks stands the end of the text, ETX, or a field up to its `*`.
 -- Assumes nothing.
-use mathlib.Core.Path.{_≡_, refl, sym, _∙_}
-use mathlib.Core.Bool.{Bool, true, false, cond}
+use mathlib.Core.Path.{_≡_, sym, _∙_}
+use mathlib.Core.Bool.{true≢false}
+use mathlib.Core.Logic.{⊎-elim}
 use mathlib.Core.List.{List, _∷_}
 use Prim.Native.Nat.{ℕ, zero, suc, _+_, _-_, _^_, _≤_, _<_}
 use native.Mathlib.Omega.{arith}
@@ -9,22 +10,22 @@ use native.Mathlib.Numerals.{add-one}
 use lib.ListN.{length, getD, take, drop, length-drop}
 use lib.Seq.{drop-cons}
 use borrow.Author.Tests.{ne-eqb}
-use Rattle.jedec.specs.Cut.{blanksBefore, startsWith, holdsMark}
-use Rattle.jedec.specs.Judge.{judge, listIn}
-use Rattle.jedec.specs.Judge.Judged.{bad}
+use Rattle.jedec.specs.Cut.{blanksBefore, holdsMark}
+use Rattle.jedec.specs.Judge.{judge}
+use Rattle.jedec_judge.specs.Judged.{NoGoodList}
 use Rattle.jedec_fields.specs.Fields.{untilStar, ListAt, NoList, ListStands, Stands}
-use Rattle.jedec_fields.specs.declared.FieldSays.the-variants as says
-use Rattle.jedec_fields.specs.declared.ListField.{ListField}
-use Rattle.jedec_fields.specs.declared.ListField.the-variants as list-field
+use Rattle.jedec_judge.specs.declared.FieldSays.the-variants as says
+use Rattle.jedec_fields.specs.declared.lists.ListField.{ListField}
+use Rattle.jedec_fields.specs.declared.lists.ListField.the-variants as list-field
 use Rattle.jedec_fields.specs.declared.NextSays.the-variants.{Field}
-use Rattle.jedec_fields.proofs.Fields.{rest-whole, nothing-left, the-end, no-star, a-field}
+use Rattle.jedec_judge.proofs.Slices.{rest-whole}
+use Rattle.jedec_fields.proofs.Fields.{nothing-left, the-end, no-star, a-field}
 use borrow.Author.Needs.{needs}
 use Rattle.jedec_fields.proofs.scan.next_judged.Statement.{statement}
 use Rattle.jedec_fields.proofs.scan.next_judged.Tie as tie
 
--- An L field, by what follows the L.
-module _ (text : List ℕ) (at start : ℕ) (e : start ≡ at + blanksBefore (drop at text)) (l : start ≤ length text)
-    (n : start ≡ length text → ⊥) (m : getD text start 0 ≡ 3 → ⊥) (b : getD text start 0 ≡ 76) (o : ListField)
+-- An L field is told by what follows the L.
+module _ (text : List ℕ) (start : ℕ) (l : start ≤ length text) (n : start ≡ length text → ⊥) (b : getD text start 0 ≡ 76) (o : ListField)
     (g : ListStands (take (length text - (start + 1)) (drop (start + 1) text)) o) where
   first-there : drop start text ≡ 76 ∷ drop (suc start) text
   first-there = drop-cons text start 0 (omega arith) ∙ rw b
@@ -39,9 +40,10 @@ module _ (text : List ℕ) (at start : ℕ) (e : start ≡ at + blanksBefore (dr
     star-small : length text < 2 ^ 64 → start + 1 + long < 2 ^ 64
     star-small h = omega (arith, found .inside, length-drop (suc start) text)
 
-    good-list : Stands text at (Field start (start + 1 + long) (says.List fuse skip number))
+    good-list : (at : ℕ) → start ≡ at + blanksBefore (drop at text) → (getD text start 0 ≡ 3 → ⊥)
+        → Stands text at (Field start (start + 1 + long) (says.List fuse skip number))
     unfolding judge holdsMark untilStar
-    good-list =
+    good-list at e m =
         let inside : start + 1 + long < length text = omega (arith, found .inside, length-drop (suc start) text) in
         let size : start + 1 + long - start ≡ suc long = omega arith in
         let until : start + 1 + long ≡ start + untilStar (drop start text) = rw (first-there, found .until) (omega arith) in
@@ -49,25 +51,20 @@ module _ (text : List ℕ) (at start : ℕ) (e : start ≡ at + blanksBefore (dr
         (rw (size, first-there, found .unmarked) (found .says))
 
   bad-list : (star : ℕ) → star ≡ start + untilStar (drop start text) → star ≤ length text → (star ≡ length text → ⊥) → o ≡ list-field.Other
-      → Stands text at (Field start star says.Bad)
-  unfolding judge untilStar
+      → NoGoodList (take (star - start) (drop start text))
+  unfolding untilStar
   bad-list star s k h w =
       let after = drop (suc start) text in
       let none-there : NoList after = rw w at stands in
       let size : star - start ≡ suc (untilStar after) = omega (arith, rw first-there at s) in
-      let bad-after : listIn (take (untilStar after) after) ≡ bad = none-there .is-bad (omega (arith, length-drop (suc start) text)) in
-      a-field text at start e l n m star s k h says.Bad
-      (record { is = sym (rw (size, first-there, bad-after) (either (holdsMark (76 ∷ take (untilStar after) after)))); fits = tt })
-    where
-      either : (marked : Bool) → cond marked bad bad ≡ bad
-      either true = refl
-      either false = refl
+      λ f. rw (size, first-there) (none-there .is-bad (omega (arith, length-drop (suc start) text)))
 
--- Any other field.
+-- A field of another letter is no L field.
 other-letter : (text : List ℕ) (start k : ℕ) → start ≤ length text → (start ≡ length text → ⊥) → (getD text start 0 ≡ 76 → ⊥)
-    → startsWith 76 (take k (drop start text)) ≡ false
-other-letter text start zero l h n = refl
-other-letter text start (suc k) l h n = rw (drop-cons text start 0 (omega arith)) (ne-eqb (getD text start 0) 76 n)
+    → NoGoodList (take k (drop start text))
+other-letter text start zero l h n f = absurd (true≢false (sym f))
+other-letter text start (suc k) l h n f =
+    absurd (true≢false (sym (rw (drop-cons text start 0 (omega arith)) at f) ∙ ne-eqb (getD text start 0) 76 n))
 
 skip-blanks-requires : tie.Need-skip-blanks-requires
 skip-blanks-requires c κs = search needs
@@ -114,15 +111,6 @@ next-star-requires c κs = search needs
 returns-4 : tie.Need-returns-4
 returns-4 c = search (needs, no-star)
 
-returns-5 : tie.Need-returns-5
-returns-5 c = search (needs, bad-list)
-
-next-star-requires-2 : tie.Need-next-star-requires-2
-next-star-requires-2 c κs = search needs
-
-returns-6 : tie.Need-returns-6
-returns-6 c = search (needs, no-star)
-
 sub-judge-field : tie.Need-sub-judge-field
 sub-judge-field c = search needs
 
@@ -133,10 +121,11 @@ part-judge-field-end : tie.Need-part-judge-field-end
 part-judge-field-end c = search needs
 
 judge-field-requires : tie.Need-judge-field-requires
-judge-field-requires c κs = search (needs, other-letter)
+judge-field-requires c κs =
+    ⊎-elim (λ w. search (needs, bad-list)) (λ w. search (needs, other-letter)) (c .before .before .before .if3 .came)
 
-returns-7 : tie.Need-returns-7
-returns-7 c = search (needs, a-field)
+returns-5 : tie.Need-returns-5
+returns-5 c = search (needs, a-field)
 
 pub next-judged-spec : {M : Type 1} → statement M
 next-judged-spec =
@@ -157,11 +146,8 @@ next-judged-spec =
     enum-told
     next-star-requires
     returns-4
-    returns-5
-    next-star-requires-2
-    returns-6
     sub-judge-field
     part-judge-field-start
     part-judge-field-end
     judge-field-requires
-    returns-7)
+    returns-5)

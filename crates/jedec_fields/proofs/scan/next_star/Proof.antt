@@ -5,7 +5,7 @@ use Prim.Native.Nat.{_+_, _-_, _≤_}
 use native.Mathlib.Omega.{arith}
 use lib.ListN.{length, drop}
 use Rattle.jedec_fields.specs.Fields.{untilStar}
-use Rattle.jedec_fields.proofs.Runs.{star-stops, star-goes, star-ends}
+use Rattle.jedec_fields.proofs.Counts.{star-stops, star-goes, star-ends}
 use borrow.Author.Needs.{needs}
 use Rattle.jedec_fields.proofs.scan.next_star.Statement.{statement}
 use Rattle.jedec_fields.proofs.scan.next_star.Tie as tie

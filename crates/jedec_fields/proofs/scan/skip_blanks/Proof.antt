@@ -5,7 +5,7 @@ use Prim.Native.Nat.{_+_, _-_, _≤_}
 use native.Mathlib.Omega.{arith}
 use lib.ListN.{length, drop}
 use Rattle.jedec.specs.Cut.{blanksBefore}
-use Rattle.jedec_fields.proofs.Runs.{blanks-stop, blanks-go, blanks-end}
+use Rattle.jedec_fields.proofs.Counts.{blanks-stop, blanks-go, blanks-end}
 use borrow.Author.Needs.{needs}
 use Rattle.jedec_fields.proofs.scan.skip_blanks.Statement.{statement}
 use Rattle.jedec_fields.proofs.scan.skip_blanks.Tie as tie

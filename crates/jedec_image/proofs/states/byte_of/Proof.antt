@@ -1,4 +1,4 @@
--- `byte_of` meets its contract.
+-- `byte_of` meets its contract: the product is below 256.
 -- Assumes nothing.
 use mathlib.Core.Path.{_≡_, ap}
 use Prim.Native.Nat.{ℕ, _*_, _-_, _%_, _^_, _≤_, _<_}

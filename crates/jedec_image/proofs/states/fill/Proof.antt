@@ -25,7 +25,7 @@ record Filled (image₀ : List ℕ) (fuses state whole : ℕ) (image : List ℕ)
 starts : (image : List ℕ) (fuses state : ℕ) → length image ≡ (fuses + 7) / 8 → Filled image fuses state (fuses / 8) image 0
 starts image fuses state e = record { upto = omega arith; all = refl; same = refl; size = e; so-far = refl }
 
--- One byte more of what is meant.
+-- One byte more is as it is meant to be.
 more : (image meant : List ℕ) (i byte : ℕ) → i < length image → i < length meant → take i image ≡ take i meant → byte ≡ getD meant i 0
     → take (i + 1) (set image i byte) ≡ take (i + 1) meant
 more image meant i byte l m e f =

@@ -9,7 +9,8 @@ use Rattle.part.specs.Answer.{refusalNumber, refusalValue, doneOutcome}
 use Rattle.part.specs.declared.Refusal.{Refusal}
 use Rattle.part.specs.declared.DoneAnswer.{DoneAnswer}
 use Rattle.part.specs.declared.DoneAnswer.the-variants as answer
-use Rattle.jedec_reader.specs.Progress.{TextRead, ReadInto}
+use Rattle.jedec_end.specs.End.{TextRead}
+use Rattle.jedec_reader.specs.Walk.{ReadInto}
 use borrow.Author.Needs.{needs}
 use Rattle.jedec_reader.proofs.walk.read_beside.Statement.{statement}
 use Rattle.jedec_reader.proofs.walk.read_beside.Tie as tie

@@ -13,37 +13,37 @@ use borrow.Author.Tests.{lt-ltb, le-ltb, eq-eqb, ne-eqb}
 use Rattle.part.specs.Outcome.{Outcome}
 use Rattle.part.specs.Outcome.Outcome.{refused}
 use Rattle.jedec.specs.Cut.{pieces, holdsMark}
-use Rattle.jedec.specs.Meaning.{ofCut, ofPieces, meaning}
+use Rattle.jedec.specs.Meaning.{longest, ofCut, ofPieces, meaning}
 use Rattle.jedec_fields.specs.Fields.{untilStar, fieldsAt}
 use Rattle.jedec_fields.proofs.Fields.{Cuts, pieces-star, Uncut, pieces-none}
-use Rattle.jedec_reader.specs.Progress.{TextRead}
-use Rattle.jedec_reader.proofs.Ends.{refused-reads}
+use Rattle.jedec_end.specs.End.{TextRead}
+use Rattle.jedec_end.proofs.Ends.{refused-reads}
 use borrow.Author.Needs.{needs}
 use Rattle.jedec_reader.proofs.walk.read_text.Statement.{statement}
 use Rattle.jedec_reader.proofs.walk.read_text.Tie as tie
 
 module _ (fuses : ℕ) where
-  too-long : (text image : List ℕ) → 1048576 < length text → TextRead (meaning fuses text) (refused 7 1048576) image
+  too-long : (text image : List ℕ) → longest < length text → TextRead (meaning fuses text) (refused 7 longest) image
   unfolding meaning
-  too-long text image l = refused-reads _ 7 1048576 image (rw (lt-ltb 1048576 (length text) l))
+  too-long text image l = refused-reads _ 7 longest image (rw (lt-ltb longest (length text) l))
 
   nothing-there : (text image : List ℕ) → length text ≡ 0 → TextRead (meaning fuses text) (refused 7 0) image
   unfolding meaning
   nothing-there [] image e = refused-reads _ 7 0 image refl
   nothing-there (b ∷ text) image e = absurd (omega arith)
 
-  no-stx : (text image : List ℕ) → length text ≤ 1048576 → (length text ≡ 0 → ⊥) → (getD text 0 0 ≡ 2 → ⊥)
+  no-stx : (text image : List ℕ) → length text ≤ longest → (length text ≡ 0 → ⊥) → (getD text 0 0 ≡ 2 → ⊥)
       → TextRead (meaning fuses text) (refused 7 0) image
   unfolding meaning
   no-stx [] image l n h = absurd (n refl)
-  no-stx (b ∷ text) image l n h = refused-reads _ 7 0 image (rw (le-ltb 1048576 (suc (length text)) l, ne-eqb b 2 h))
+  no-stx (b ∷ text) image l n h = refused-reads _ 7 0 image (rw (le-ltb longest (suc (length text)) l, ne-eqb b 2 h))
 
-  -- A text that starts with STX, cut.
-  after-stx : (text : List ℕ) → length text ≤ 1048576 → (length text ≡ 0 → ⊥) → getD text 0 0 ≡ 2
+  -- A text that starts with STX means what its pieces say.
+  after-stx : (text : List ℕ) → length text ≤ longest → (length text ≡ 0 → ⊥) → getD text 0 0 ≡ 2
       → meaning fuses text ≡ ofPieces fuses text (pieces text .ended) (pieces text .rest)
   unfolding meaning
   after-stx [] l n h = absurd (n refl)
-  after-stx (b ∷ text) l n h = rw (le-ltb 1048576 (suc (length text)) l, eq-eqb b 2 h)
+  after-stx (b ∷ text) l n h = rw (le-ltb longest (suc (length text)) l, eq-eqb b 2 h)
 
 past-first : (text : List ℕ) → (length text ≡ 0 → ⊥) → getD text 0 0 ≡ 2 → 1 ≤ untilStar text
 unfolding untilStar
@@ -55,7 +55,7 @@ design-rest text zero l = absurd (omega arith)
 design-rest [] (suc s) l = sym (take-nil (suc s - 1))
 design-rest (b ∷ text) (suc s) l = let e : suc s - 1 ≡ s = omega arith in rw e
 
-module _ (fuses : ℕ) (text image : List ℕ) (l : length text ≤ 1048576) (n : length text ≡ 0 → ⊥) (h : getD text 0 0 ≡ 2) (star : ℕ)
+module _ (fuses : ℕ) (text image : List ℕ) (l : length text ≤ longest) (n : length text ≡ 0 → ⊥) (h : getD text 0 0 ≡ 2) (star : ℕ)
     (e : star ≡ 0 + untilStar (drop 0 text)) where
   is : star ≡ untilStar text
   is = e ∙ zero-add (untilStar text)

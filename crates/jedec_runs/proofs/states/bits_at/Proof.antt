@@ -1,7 +1,7 @@
 -- `bits_at` meets its contract: the lowest bits of a word's first bytes, or of bytes one by one.
 -- Assumes nothing.
 use lib.Bits.{and-le-r}
-use Rattle.jedec_runs.proofs.Words.{bits-by-word}
+use Rattle.jedec_runs.proofs.StatesTaken.{bits-by-word}
 use borrow.Author.Needs.{needs}
 use Rattle.jedec_runs.proofs.states.bits_at.Statement.{statement}
 use Rattle.jedec_runs.proofs.states.bits_at.Tie as tie

@@ -1,6 +1,6 @@
 -- `blank_at` meets its contract: a blank, another byte, or the end.
 -- Assumes nothing.
-use Rattle.jedec_runs.proofs.Words.{blank-there, other-there, none-there}
+use Rattle.jedec_runs.proofs.StatesTaken.{blank-there, other-there, none-there}
 use borrow.Author.Needs.{needs}
 use Rattle.jedec_runs.proofs.states.blank_at.Statement.{statement}
 use Rattle.jedec_runs.proofs.states.blank_at.Tie as tie

@@ -1,6 +1,6 @@
 -- `lowest_bits` meets its contract: a computed test over all eight bits.
 -- Assumes nothing.
-use Rattle.jedec_runs.proofs.Words.{together}
+use Rattle.jedec_runs.proofs.LowestBits.{together}
 use borrow.Author.Needs.{needs}
 use Rattle.jedec_runs.proofs.states.lowest_bits.Statement.{statement}
 use Rattle.jedec_runs.proofs.states.lowest_bits.Tie as tie

@@ -1,6 +1,6 @@
 -- `states_at` meets its contract: by a word, or else by one byte.
 -- Assumes nothing.
-use Rattle.jedec_runs.proofs.Words.{by-word, one-state, none-taken}
+use Rattle.jedec_runs.proofs.StatesTaken.{by-word, one-state, none-taken}
 use borrow.Author.Needs.{needs}
 use Rattle.jedec_runs.proofs.states.states_at.Statement.{statement}
 use Rattle.jedec_runs.proofs.states.states_at.Tie as tie

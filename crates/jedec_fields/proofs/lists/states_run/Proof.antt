@@ -1,0 +1,52 @@
+-- `states_run` meets its contract: the states counted over the first bytes.
+-- Assumes nothing.
+use Prim.Native.Nat.{_-_}
+use lib.ListN.{length}
+use Rattle.jedec_fields.proofs.StatesCounted.{StatesCounted, counted-start, counted-stop, counted-next, counted-end, counted-inside}
+use borrow.Author.Needs.{needs}
+use Rattle.jedec_fields.proofs.lists.states_run.Statement.{statement}
+use Rattle.jedec_fields.proofs.lists.states_run.Tie as tie
+
+abbrev Inv-loop : tie.InvT-loop
+Inv-loop bytes n₀ i₀ n i = StatesCounted bytes n i
+
+abbrev μ-loop : tie.MeasureT-loop
+μ-loop bytes n₀ i₀ n i = length bytes - i
+
+loop-holds : tie.Need-loop-holds Inv-loop μ-loop
+loop-holds c = search (needs, counted-start)
+
+states-at-requires : tie.Need-states-at-requires Inv-loop μ-loop
+states-at-requires c κs = search needs
+
+add-blank-at : tie.Need-add-blank-at Inv-loop μ-loop
+add-blank-at c = search needs
+
+blank-at-requires : tie.Need-blank-at-requires Inv-loop μ-loop
+blank-at-requires c κs = search needs
+
+add-taken : tie.Need-add-taken Inv-loop μ-loop
+add-taken c = search needs
+
+returns : tie.Need-returns Inv-loop μ-loop
+returns c = search (needs, counted-stop)
+
+add-n : tie.Need-add-n Inv-loop μ-loop
+add-n c = search needs
+
+add-i : tie.Need-add-i Inv-loop μ-loop
+add-i c = search (needs, counted-inside)
+
+loop-less : tie.Need-loop-less Inv-loop μ-loop
+loop-less c = search needs
+
+loop-again : tie.Need-loop-again Inv-loop μ-loop
+loop-again c = search (needs, counted-next)
+
+returns-2 : tie.Need-returns-2 Inv-loop μ-loop
+returns-2 c = search (needs, counted-end)
+
+pub states-run-spec : {M : Type 1} → statement M
+states-run-spec =
+    tie.close (tie.spec Inv-loop μ-loop loop-holds states-at-requires add-blank-at blank-at-requires add-taken returns add-n add-i
+    loop-less loop-again returns-2)
