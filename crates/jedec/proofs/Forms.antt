@@ -16,8 +16,8 @@ use Rattle.part.proofs.Facts.{and-iff}
 use Rattle.jedec.specs.Characters.{stx, etx, star, isBlank, andThen, hexValue, digitsRead, sumIn}
 use Rattle.jedec.specs.Cut.{pieces, tailFrom, fieldsFrom}
 use Rattle.jedec.specs.Cut.Tail.{given}
-use Rattle.jedec.specs.Rules.{Known, nothingKnown, allFields}
-use Rattle.jedec.specs.Rules.Fields.{known}
+use Rattle.jedec.specs.Rules.{Given, nothingGiven, allFields}
+use Rattle.jedec.specs.Rules.Fields.{allGood}
 use Rattle.jedec.specs.Meaning.{longest, meaning}
 use Rattle.jedec.specs.Form.{all, notStar, Part, partsText, fieldsOf, headOf, assembled, RightForm, firstAt, etxAt, Concluded}
 use Rattle.jedec.specs.Form.{GoodForm}
@@ -109,8 +109,8 @@ module _ (design : List ℕ) (parts : List Part) (gap digits blanks : List ℕ) 
       (all-append notStar digits blanks (hex-no-star digits 0 sum (f .1)) (blank-no-star blanks (right .blank-end)))
       (firstAt design) parts (right .right-parts)
 
-  pub assembled-form : (k : Known) → length (assembled design parts gap digits blanks) ≤ longest
-      → allFields nothingKnown (fieldsOf (firstAt design) parts) ≡ known k
+  pub assembled-form : (k : Given) → length (assembled design parts gap digits blanks) ≤ longest
+      → allFields nothingGiven (fieldsOf (firstAt design) parts) ≡ allGood k
       → GoodForm (assembled design parts gap digits blanks) k (etxAt design parts gap) sum
   unfolding text
   assembled-form k short read =
@@ -128,8 +128,8 @@ module _ (design : List ℕ) (parts : List Part) (gap digits blanks : List ℕ) 
             (tail-read digits blanks (etxAt design parts gap + 1) sum (right .hex-digits) (right .blank-end));
       }
 
-  pub assembled-accepted : (fuses : ℕ) (image : List ℕ) (k : Known) → length (assembled design parts gap digits blanks) ≤ longest
-      → allFields nothingKnown (fieldsOf (firstAt design) parts) ≡ known k
+  pub assembled-accepted : (fuses : ℕ) (image : List ℕ) (k : Given) → length (assembled design parts gap digits blanks) ≤ longest
+      → allFields nothingGiven (fieldsOf (firstAt design) parts) ≡ allGood k
       → Concluded fuses (assembled design parts gap digits blanks) image (etxAt design parts gap) sum k
       → meaning fuses (assembled design parts gap digits blanks) ≡ accepted image
   assembled-accepted fuses image k short read concluded =

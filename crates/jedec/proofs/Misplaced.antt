@@ -10,7 +10,7 @@ use native.Mathlib.Omega.{arith}
 use borrow.Author.Tests.{lt-ltb, le-ltb}
 use Rattle.part.specs.Outcome.Outcome.{accepted, refused}
 use Rattle.part.proofs.Facts.{compared}
-use Rattle.jedec.specs.Rules.{Listed, Known, wrongCount, endOf, misplaced, finished}
+use Rattle.jedec.specs.Rules.{Listed, Given, wrongCount, endOf, misplaced, finished}
 use Rattle.jedec.specs.Meaning.{unless, wrongSum, wrongTransmission, concluded, meaning}
 use Rattle.jedec.specs.Form.{Counted, InPlace, lastEnd, OutOfPlace, FirstMisplaced, Refused9}
 use Rattle.jedec.proofs.Conditions.{Not, not-refused, no-place, the-count, count-none, formed, form-means}
@@ -84,7 +84,7 @@ rule-9 none ten eleven image at e =
     absurd (not-refused 9 image at (sym (past-11 .1)))
 
 module _ (fuses : ℕ) (text : List ℕ) (at : ℕ) where
-  by-rule-9 : (etx sum : ℕ) (k : Known)
+  by-rule-9 : (etx sum : ℕ) (k : Given)
       → concluded fuses text etx sum k ≡ refused 9 at → Counted fuses k × (misplaced fuses 0 (k .lists) ≡ some at)
   unfolding concluded
   by-rule-9 etx sum k e =

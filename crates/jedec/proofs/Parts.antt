@@ -17,8 +17,8 @@ use Rattle.part.proofs.Facts.{and-iff}
 use Rattle.jedec.specs.Characters.{stx, etx, star, isBlank, hexValue, digitsRead, sumIn}
 use Rattle.jedec.specs.Cut.{Pieces, onFirst, pieces, Cut, startsWith, orEnd, fieldsFrom, holdsMark, digitOr, tailFrom}
 use Rattle.jedec.specs.Cut.Tail.{given, wrong}
-use Rattle.jedec.specs.Rules.{Known, nothingKnown, allFields}
-use Rattle.jedec.specs.Rules.Fields.{known}
+use Rattle.jedec.specs.Rules.{Given, nothingGiven, allFields}
+use Rattle.jedec.specs.Rules.Fields.{allGood}
 use Rattle.jedec.specs.Meaning.{longest, meaning}
 use Rattle.jedec.specs.Form.{all, notStar, Part, starts, RightPart, RightParts, partsText, next, fieldsOf, partsEnd, headOf, firstAt}
 use Rattle.jedec.specs.Form.{Concluded, GoodForm, Assembled}
@@ -197,8 +197,8 @@ module _ (text design others : List ℕ) (cut : Cut) (end : ℕ) (is : text ≡ 
       ap (drop (end + 1)) by-parts
       ∙ drop-at (headOf design (p .parts) (p .gap)) (p .tail) (end + 1) (omega (arith, head-length design (p .parts) (p .gap), p .its-end))
 
-  from-parts : (k : Known) (sum : ℕ) → length text ≤ longest → all notStar design ≡ true → holdsMark design ≡ false
-      → allFields nothingKnown (cut .fields) ≡ known k → Digits 4 0 sum (p .tail) → Assembled text k end sum
+  from-parts : (k : Given) (sum : ℕ) → length text ≤ longest → all notStar design ≡ true → holdsMark design ≡ false
+      → allFields nothingGiven (cut .fields) ≡ allGood k → Digits 4 0 sum (p .tail) → Assembled text k end sum
   unfolding sumIn
   from-parts k sum short no-star no-mark good d =
       record {
@@ -218,14 +218,14 @@ module _ (text design others : List ℕ) (cut : Cut) (end : ℕ) (is : text ≡ 
               blank-end = d .blank;
             };
         its-bytes = by-parts ∙ ap (λ (r : List ℕ). headOf design (p .parts) (p .gap) ++ r) (d .its-bytes);
-        good-fields = ap (allFields nothingKnown) (sym (p .its-fields)) ∙ good;
+        good-fields = ap (allFields nothingGiven) (sym (p .its-fields)) ∙ good;
         its-end = p .its-end;
       }
 
 -- The first piece is STX and the design text.
-from-pieces : (text first : List ℕ) (ended : List (List ℕ)) (rest : List ℕ) (k : Known) (end sum : ℕ) → length text ≤ longest
+from-pieces : (text first : List ℕ) (ended : List (List ℕ)) (rest : List ℕ) (k : Given) (end sum : ℕ) → length text ≤ longest
     → startsWith stx text ≡ true → text ≡ first ++ star ∷ joined ended rest → NoStars (first ∷ ended) → holdsMark (drop 1 first) ≡ false
-    → allFields nothingKnown (fieldsFrom (length first + 1) ended rest .fields) ≡ known k
+    → allFields nothingGiven (fieldsFrom (length first + 1) ended rest .fields) ≡ allGood k
     → fieldsFrom (length first + 1) ended rest .end ≡ some end
     → tailFrom (end + 1) 4 0 (drop (end + 1) text) ≡ given sum → Assembled text k end sum
 unfolding all
@@ -242,7 +242,7 @@ from-pieces text (b ∷ design) ended rest k end sum short begins is no-star no-
     good
     (digits-then 4 (p .tail) (end + 1) 0 sum (rw (after-etx text design (joined ended rest) _ end from-stx p) at tail))
 
-pub form-iff : (text : List ℕ) (k : Known) (end sum : ℕ) → GoodForm text k end sum ↔ Assembled text k end sum
+pub form-iff : (text : List ℕ) (k : Given) (end sum : ℕ) → GoodForm text k end sum ↔ Assembled text k end sum
 unfolding joined
 form-iff text k end sum = (
   λ f.
@@ -260,7 +260,7 @@ form-iff text k end sum = (
 )
 
 pub assembled-iff : (fuses : ℕ) (text image : List ℕ) → (meaning fuses text ≡ accepted image)
-    ↔ ((k : Known) × (end : ℕ) × (sum : ℕ) × Assembled text k end sum × Concluded fuses text image end sum k)
+    ↔ ((k : Given) × (end : ℕ) × (sum : ℕ) × Assembled text k end sum × Concluded fuses text image end sum k)
 assembled-iff fuses text image = (
   λ e.
       let a = accepted-iff fuses text image .0 e in

@@ -21,9 +21,9 @@ use Rattle.jedec.specs.Characters.{stx, etx, lf, star, letterC, letterF,
 use Rattle.jedec.specs.Cut.{Field, holdsMark}
 use Rattle.jedec.specs.Judge.{Judged, judge}
 use Rattle.jedec.specs.Judge.Judged.{count, start, sum}
-use Rattle.jedec.specs.Rules.{At, Listed, Known, nothingKnown, inOrder, after, allFields, misplaced, stateGiven, within}
+use Rattle.jedec.specs.Rules.{At, Listed, Given, nothingGiven, inOrder, after, allFields, misplaced, stateGiven, within}
 use Rattle.jedec.specs.Rules.{imageWith}
-use Rattle.jedec.specs.Rules.Fields.{known}
+use Rattle.jedec.specs.Rules.Fields.{allGood}
 use Rattle.jedec.specs.Meaning.{longest, meaning}
 use Rattle.jedec.specs.WrittenText.{lineEnd, linesText, patternFuses, NoneEmpty, footText, upToEtx, textWith}
 use Rattle.jedec.specs.Form as form
@@ -118,7 +118,7 @@ parts-right fuses pattern image = (
 )
 
 -- The fields are read one after the other.
-read-one : (k : Known) (at : ℕ) (bytes : List ℕ) (fields : List Field) (j : Judged) → judge bytes ≡ j → inOrder k j ≡ true
+read-one : (k : Given) (at : ℕ) (bytes : List ℕ) (fields : List Field) (j : Judged) → judge bytes ≡ j → inOrder k j ≡ true
     → allFields k (record { start = at; bytes = bytes } ∷ fields) ≡ allFields (after k at j) fields
 unfolding allFields
 read-one k at bytes fields j e h = rw (e, h)
@@ -129,22 +129,22 @@ listsOf at image fuse (widths ∷ pattern) =
     record { at = at + 1; first = fuse; states = statesOf image fuse (total widths) }
     ∷ listsOf (next at (part (lineBytes image fuse widths))) image (fuse + total widths) pattern
 
--- What is known after the count, the start state and some lines.
-knownWith : At → List Listed → Known
-knownWith q lists = record { count = some q; start = some 0; lists = lists; sum = none }
+-- What is given by the count, the start state and some lines.
+givenWith : At → List Listed → Given
+givenWith q lists = record { count = some q; start = some 0; lists = lists; sum = none }
 
 read-line : (q : At) (image : List ℕ) (at fuse : ℕ) (widths : List ℕ) (lists : List Listed) (fields : List Field)
     → 0 < total widths → fuse < 10 ^ 7
-    → allFields (knownWith q lists) (record { start = at + 1; bytes = lineBytes image fuse widths } ∷ fields)
-    ≡ allFields (knownWith q (lists ++ (record { at = at + 1; first = fuse; states = statesOf image fuse (total widths) } ∷ []))) fields
-unfolding knownWith
+    → allFields (givenWith q lists) (record { start = at + 1; bytes = lineBytes image fuse widths } ∷ fields)
+    ≡ allFields (givenWith q (lists ++ (record { at = at + 1; first = fuse; states = statesOf image fuse (total widths) } ∷ []))) fields
+unfolding givenWith
 read-line q image at fuse widths lists fields positive h =
-    read-one (knownWith q lists) (at + 1) (lineBytes image fuse widths) fields _ (line-judged image fuse widths h positive) refl
+    read-one (givenWith q lists) (at + 1) (lineBytes image fuse widths) fields _ (line-judged image fuse widths h positive) refl
 
 lines-read : (q : At) (image : List ℕ) (at fuse : ℕ) (pattern : List (List ℕ)) (lists : List Listed) (more : List Part)
     → NoneEmpty pattern → fuse + patternFuses pattern < 10 ^ 7
-    → allFields (knownWith q lists) (fieldsOf at (lineParts image fuse pattern ++ more))
-    ≡ allFields (knownWith q (lists ++ listsOf at image fuse pattern)) (fieldsOf (form.partsEnd at (lineParts image fuse pattern)) more)
+    → allFields (givenWith q lists) (fieldsOf at (lineParts image fuse pattern ++ more))
+    ≡ allFields (givenWith q (lists ++ listsOf at image fuse pattern)) (fieldsOf (form.partsEnd at (lineParts image fuse pattern)) more)
 unfolding fieldsOf lineParts listsOf patternFuses form.partsEnd part
 lines-read q image at fuse [] lists more positive h = rw (append-nil lists)
 lines-read q image at fuse (widths ∷ pattern) lists more positive h =
@@ -153,7 +153,7 @@ lines-read q image at fuse (widths ∷ pattern) lists more positive h =
     read-line q image at fuse widths lists _ (positive .0) (omega arith)
     ∙ lines-read q image (next at p) (fuse + total widths) pattern (lists ++ (l ∷ [])) more (positive .1) (omega arith)
     ∙ ap (λ (ls : List Listed).
-    allFields (knownWith q ls) (fieldsOf (form.partsEnd (next at p) (lineParts image (fuse + total widths) pattern)) more))
+    allFields (givenWith q ls) (fieldsOf (form.partsEnd (next at p) (lineParts image (fuse + total widths) pattern)) more))
     (append-snoc lists l (listsOf (next at p) image (fuse + total widths) pattern))
 
 states-length : (image : List ℕ) (fuse width : ℕ) → length (statesOf image fuse width) ≡ width
@@ -262,7 +262,7 @@ module _ (fuses : ℕ) (pattern : List (List ℕ)) (image : List ℕ) (few : fus
   lists : List Listed
   lists = listsOf lines-at image 0 pattern
 
-  gives : Known
+  gives : Given
   gives =
       record {
         count = some q;
@@ -271,17 +271,17 @@ module _ (fuses : ℕ) (pattern : List (List ℕ)) (image : List ℕ) (few : fus
         sum = some (record { at = form.partsEnd lines-at (lineParts image 0 pattern) + 1; value = sum16 image });
       }
 
-  fields-read : allFields nothingKnown (fieldsOf (firstAt []) parts) ≡ known gives
-  unfolding parts writtenParts fieldsOf part allFields knownWith gives lists q lines-at count-part start-part sum16
+  fields-read : allFields nothingGiven (fieldsOf (firstAt []) parts) ≡ allGood gives
+  unfolding parts writtenParts fieldsOf part allFields givenWith gives lists q lines-at count-part start-part sum16
   fields-read =
       let sum-part = part (letterC ∷ fourHex (sum16 image)) in
       let others = lineParts image 0 pattern ++ (sum-part ∷ []) in
-      let counted : Known = record { count = some q; start = none; lists = []; sum = none } in
-      read-one nothingKnown 3 (letterQ ∷ letterF ∷ countDigits fuses) (fieldsOf (next 2 count-part) (start-part ∷ others)) (count fuses)
+      let counted : Given = record { count = some q; start = none; lists = []; sum = none } in
+      read-one nothingGiven 3 (letterQ ∷ letterF ∷ countDigits fuses) (fieldsOf (next 2 count-part) (start-part ∷ others)) (count fuses)
       (count-judged fuses few) refl
       ∙ read-one counted (next 2 count-part + 1) (letterF ∷ decimalDigit 0 ∷ []) (fieldsOf lines-at others) (start 0) start-judged refl
       ∙ lines-read q image lines-at 0 pattern [] (sum-part ∷ []) none-empty (omega (arith, every-fuse))
-      ∙ read-one (knownWith q lists) (form.partsEnd lines-at (lineParts image 0 pattern) + 1) (letterC ∷ fourHex (sum16 image)) []
+      ∙ read-one (givenWith q lists) (form.partsEnd lines-at (lineParts image 0 pattern) + 1) (letterC ∷ fourHex (sum16 image)) []
       (sum (sum16 image)) (sum-judged (sum16 image) (mod-lt _ (omega arith))) refl
 
   concluded : Concluded fuses (assembled [] parts (lf ∷ []) (fourHex its-sum) []) image (etxAt [] parts (lf ∷ [])) its-sum gives

@@ -20,9 +20,9 @@ use Rattle.jedec.specs.Characters.{letterV, letterX}
 use Rattle.jedec.specs.Cut.{Field, holdsMark}
 use Rattle.jedec.specs.Judge.{Judged, orBad, startIn, unbroken, withFirst, statesIn, statesFrom, listIn, afterQ, byLetters, judge}
 use Rattle.jedec.specs.Judge.Judged.{count, start, list, sum, skipped, bad}
-use Rattle.jedec.specs.Rules.{Listed, Known, nothingKnown, inOrder, after, Fields, allFields, endOf, misplaced, startState}
+use Rattle.jedec.specs.Rules.{Listed, Given, nothingGiven, inOrder, after, Fields, allFields, endOf, misplaced, startState}
 use Rattle.jedec.specs.Rules.{stateGiven, within, imageWith, finished}
-use Rattle.jedec.specs.Rules.Fields.{known, badAt}
+use Rattle.jedec.specs.Rules.Fields.{allGood, badAt}
 use Rattle.jedec.specs.Form.{InPlace, Each, Outside, Gives, Image, Described}
 use Rattle.jedec.proofs.Places.{chosen}
 use Rattle.jedec.proofs.ReadBack.{image-given}
@@ -124,12 +124,12 @@ judged-bits bytes = chosen JudgedBits (holdsMark bytes) tt (by-letters bytes)
         (some-states (statesIn (drop (unbroken rest) rest)) (states-bits (drop (unbroken rest) rest))))
         (chosen JudgedBits (eqb b letterC) (number (sumIn rest) sum (λ x. tt)) tt))))
 
-record KnownBits (k : Known) : Type 0 where
+record GivenBits (k : Given) : Type 0 where
   start : startState (k .start) < 2
   lists : Each (λ l. Bits (l .states)) (k .lists)
 
 abbrev FieldsBits : Fields → Type 0
-FieldsBits (known k) = KnownBits k
+FieldsBits (allGood k) = GivenBits k
 FieldsBits (badAt at) = Unit {0}
 
 one-more : (lists : List Listed) (l : Listed) → Each (λ m. Bits (m .states)) lists → Bits (l .states)
@@ -137,7 +137,7 @@ one-more : (lists : List Listed) (l : Listed) → Each (λ m. Bits (m .states)) 
 one-more [] l bits h = (h, tt)
 one-more (m ∷ lists) l bits h = (bits .0, one-more lists l (bits .1) h)
 
-after-bits : (k : Known) (at : ℕ) (j : Judged) → KnownBits k → JudgedBits j → KnownBits (after k at j)
+after-bits : (k : Given) (at : ℕ) (j : Judged) → GivenBits k → JudgedBits j → GivenBits (after k at j)
 after-bits k at (count n) bits h = record { start = bits .start; lists = bits .lists }
 after-bits k at (start s) bits h = record { start = h; lists = bits .lists }
 after-bits k at (list first states) bits h = record { start = bits .start; lists = one-more (k .lists) _ (bits .lists) h }
@@ -145,7 +145,7 @@ after-bits k at (sum x) bits h = record { start = bits .start; lists = bits .lis
 after-bits k at skipped bits h = bits
 after-bits k at bad bits h = bits
 
-fields-bits : (fields : List Field) (k : Known) → KnownBits k → FieldsBits (allFields k fields)
+fields-bits : (fields : List Field) (k : Given) → GivenBits k → FieldsBits (allFields k fields)
 unfolding allFields
 fields-bits [] k bits = bits
 fields-bits (f ∷ fields) k bits =
@@ -251,11 +251,11 @@ module _ (fuses : ℕ) (states : ℕ → ℕ) (bits : (fuse : ℕ) → states fu
         no-more = λ fuse past. state-given fuse ∙ rw (le-ltb fuse fuses past);
       }
 
-module _ (fuses : ℕ) (fields : List Field) (k : Known) (in-order : allFields nothingKnown fields ≡ known k)
+module _ (fuses : ℕ) (fields : List Field) (k : Given) (in-order : allFields nothingGiven fields ≡ allGood k)
     (in-place : InPlace fuses 0 (k .lists)) where
   bits : (fuse : ℕ) → stateGiven (startState (k .start)) (k .lists) fuse < 2
   bits =
-      let b : KnownBits k = subst FieldsBits in-order (fields-bits fields nothingKnown (record { start = omega arith; lists = tt })) in
+      let b : GivenBits k = subst FieldsBits in-order (fields-bits fields nothingGiven (record { start = omega arith; lists = tt })) in
       given-bit (startState (k .start)) (k .lists) (b .start) (b .lists)
 
   is-given : (fuse : ℕ) → fuse < fuses → state (finished fuses k) fuse ≡ stateGiven (startState (k .start)) (k .lists) fuse

@@ -12,8 +12,8 @@ use Rattle.image.specs.Image.{state, sum16}
 use Rattle.jedec.specs.Characters.{stx, etx, star, isBlank, sumIn}
 use Rattle.jedec.specs.Cut.{pieces, Field, startsWith, fieldsFrom, holdsMark, tailFrom}
 use Rattle.jedec.specs.Cut.Tail.{given}
-use Rattle.jedec.specs.Rules.{At, Listed, Known, nothingKnown, allFields, misplaced, startState, finished}
-use Rattle.jedec.specs.Rules.Fields.{known}
+use Rattle.jedec.specs.Rules.{At, Listed, Given, nothingGiven, allFields, misplaced, startState, finished}
+use Rattle.jedec.specs.Rules.Fields.{allGood}
 use Rattle.jedec.specs.Meaning.{longest}
 
 -- Every byte passes a test.
@@ -83,7 +83,7 @@ abbrev pub etxAt : (design : List ℕ) → List Part → (gap : List ℕ) → �
 etxAt design parts gap = partsEnd (firstAt design) parts + length gap
 
 -- QF gives the count.
-pub record Counted (fuses : ℕ) (k : Known) : Type 0 where
+pub record Counted (fuses : ℕ) (k : Given) : Type 0 where
   pub count-field : At
   pub has-count : k .count ≡ some count-field
   pub right-count : count-field .value ≡ fuses
@@ -91,7 +91,7 @@ pub record Counted (fuses : ℕ) (k : Known) : Type 0 where
 -- What a text of good form needs to be accepted with an image: QF gives the count, no L is out of place, C gives the
 -- fuse sum of the image, and the transmission sum is 0000 or the sum of the bytes from STX to ETX; `in-place` and
 -- `as-image` in plain terms are `InPlace` and `Described` below.
-pub record Concluded (fuses : ℕ) (text image : List ℕ) (end sum : ℕ) (k : Known) : Type 0 where
+pub record Concluded (fuses : ℕ) (text image : List ℕ) (end sum : ℕ) (k : Given) : Type 0 where
   pub counted : Counted fuses k
   pub in-place : misplaced fuses 0 (k .lists) ≡ none
   pub as-image : image ≡ finished fuses k
@@ -100,7 +100,7 @@ pub record Concluded (fuses : ℕ) (text image : List ℕ) (end sum : ℕ) (k : 
 
 -- A text of good form, with what its fields give, where its ETX stands, and its transmission sum: it is not too long;
 -- STX, a design text without STX and ETX, good fields in order, ETX, four hex digits and blanks.
-pub record GoodForm (text : List ℕ) (gives : Known) (end sum : ℕ) : Type 0 where
+pub record GoodForm (text : List ℕ) (gives : Given) (end sum : ℕ) : Type 0 where
   pub not-long : length text ≤ longest
   pub begins : startsWith stx text ≡ true
   pub design : List ℕ
@@ -108,13 +108,13 @@ pub record GoodForm (text : List ℕ) (gives : Known) (end sum : ℕ) : Type 0 w
   pub its-pieces : pieces text .ended ≡ design ∷ ended
   pub good-design : holdsMark (drop 1 design) ≡ false
   pub good-fields :
-      allFields nothingKnown (fieldsFrom (length design + 1) ended (pieces text .rest) .fields) ≡ known gives
+      allFields nothingGiven (fieldsFrom (length design + 1) ended (pieces text .rest) .fields) ≡ allGood gives
   pub has-end : fieldsFrom (length design + 1) ended (pieces text .rest) .end ≡ some end
   pub good-tail : tailFrom (end + 1) 4 0 (drop (end + 1) text) ≡ given sum
 
 -- A text that is accepted, and its image: it is of good form, and its counts and sums are right.
 pub record Accepted (fuses : ℕ) (text image : List ℕ) : Type 0 where
-  pub gives : Known
+  pub gives : Given
   pub end : ℕ
   pub sum : ℕ
   pub form : GoodForm text gives end sum
@@ -122,7 +122,7 @@ pub record Accepted (fuses : ℕ) (text image : List ℕ) : Type 0 where
 
 -- A text put together from its parts, with what its fields give, where its ETX stands, and its transmission sum: it is
 -- not too long, its parts hold what they may, and its fields are good and in order.
-pub record Assembled (text : List ℕ) (gives : Known) (end sum : ℕ) : Type 0 where
+pub record Assembled (text : List ℕ) (gives : Given) (end sum : ℕ) : Type 0 where
   pub not-long : length text ≤ longest
   pub design : List ℕ
   pub parts : List Part
@@ -131,7 +131,7 @@ pub record Assembled (text : List ℕ) (gives : Known) (end sum : ℕ) : Type 0 
   pub blanks : List ℕ
   pub right-form : RightForm design parts gap digits blanks sum
   pub its-bytes : text ≡ assembled design parts gap digits blanks
-  pub good-fields : allFields nothingKnown (fieldsOf (firstAt design) parts) ≡ known gives
+  pub good-fields : allFields nothingGiven (fieldsOf (firstAt design) parts) ≡ allGood gives
   pub its-end : end ≡ etxAt design parts gap
 
 -- An image of so many fuses: its bytes, and nothing past the last fuse.
@@ -169,7 +169,7 @@ pub record FirstMisplaced (fuses end : ℕ) (lists : List Listed) (at : ℕ) : T
 -- A text that is refused 9, and the refusal's value: it is of good form, QF gives the count, and the first L
 -- that is out of place starts there.
 pub record Refused9 (fuses : ℕ) (text : List ℕ) (at : ℕ) : Type 0 where
-  pub gives : Known
+  pub gives : Given
   pub end : ℕ
   pub sum : ℕ
   pub form : GoodForm text gives end sum
@@ -190,7 +190,7 @@ abbrev pub Gives : (stateOf : ℕ → ℕ) → Listed → Type 0
 Gives stateOf l = (i : ℕ) → i < length (l .states) → stateOf (l .first + i) ≡ getD (l .states) i 0
 
 -- The image that fields describe: each L gives its fuses their states, and every other fuse has the start state.
-pub record Described (fuses : ℕ) (k : Known) (image : List ℕ) : Type 0 where
+pub record Described (fuses : ℕ) (k : Given) (image : List ℕ) : Type 0 where
   pub its : Image fuses image
   pub listed : Each (Gives (state image)) (k .lists)
   pub others : (fuse : ℕ) → fuse < fuses → Each (Outside fuse) (k .lists) → state image fuse ≡ startState (k .start)

@@ -8,7 +8,7 @@ use Prim.Native.Nat.{ℕ}
 use native.Mathlib.Omega.{arith}
 use Rattle.part.specs.Outcome.{Outcome}
 use Rattle.part.specs.Outcome.Outcome.{accepted, refused}
-use Rattle.jedec.specs.Rules.{Known, wrongCount, misplaced, finished}
+use Rattle.jedec.specs.Rules.{Given, wrongCount, misplaced, finished}
 use Rattle.jedec.specs.Meaning.{wrongSum, wrongTransmission, concluded}
 use Rattle.jedec_reader.specs.Progress.{notedOf, seenOf, ProgressKnows, TextRead}
 use Rattle.jedec_reader.specs.declared.progress.Seen.{Seen}
@@ -22,7 +22,7 @@ refused-reads o number value image e =
 
 module _ (fuses : ℕ) (text : List ℕ) (etx sum : ℕ) (p : Progress) (image : List ℕ) where
   abbrev pub Concludes : Outcome (Unit {0}) → Type 0
-  Concludes answer = (k : Known) → ProgressKnows fuses p k image → TextRead (concluded fuses text etx sum k) answer image
+  Concludes answer = (k : Given) → ProgressKnows fuses p k image → TextRead (concluded fuses text etx sum k) answer image
 
   module _ (a : Seen) (f : seenOf a ≡ wrongCount fuses etx (notedOf (p .count))) where
     pub eight : (at : ℕ) → a ≡ seen.Number at → Concludes (refused 8 at)
@@ -32,7 +32,7 @@ module _ (fuses : ℕ) (text : List ℕ) (etx sum : ℕ) (p : Progress) (image :
         refused-reads _ 8 at image (rw there)
 
     module _ (w : a ≡ seen.Nothing) where
-      right-count : (k : Known) → ProgressKnows fuses p k image → wrongCount fuses etx (k .count) ≡ none
+      right-count : (k : Given) → ProgressKnows fuses p k image → wrongCount fuses etx (k .count) ≡ none
       right-count k g = rw (← g .count) (sym f ∙ ap seenOf w)
 
       pub nine : (at : ℕ) → p .misplaced ≡ seen.Number at → Concludes (refused 9 at)
@@ -42,11 +42,11 @@ module _ (fuses : ℕ) (text : List ℕ) (etx sum : ℕ) (p : Progress) (image :
           refused-reads _ 9 at image (rw (right-count k g, there))
 
       module _ (v : p .misplaced ≡ seen.Nothing) where
-        in-place : (k : Known) → ProgressKnows fuses p k image → misplaced fuses 0 (k .lists) ≡ none
+        in-place : (k : Given) → ProgressKnows fuses p k image → misplaced fuses 0 (k .lists) ≡ none
         in-place k g = sym (g .faulty) ∙ ap seenOf v
 
         module _ (b : Seen) (h : seenOf b ≡ wrongSum image (notedOf (p .sum))) where
-          its-sum : (k : Known) → ProgressKnows fuses p k image → wrongSum (finished fuses k) (k .sum) ≡ seenOf b
+          its-sum : (k : Given) → ProgressKnows fuses p k image → wrongSum (finished fuses k) (k .sum) ≡ seenOf b
           its-sum k g = rw (← g .holds (in-place k g), ← g .sum) (sym h)
 
           pub ten : (at : ℕ) → b ≡ seen.Number at → Concludes (refused 10 at)

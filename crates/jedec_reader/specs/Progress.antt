@@ -1,4 +1,4 @@
--- What the reader knows after some fields, and what `Known` of crate `jedec` says of it. The reader keeps no list of
+-- What the reader knows after some fields, and what `Given` of crate `jedec` says of it. The reader keeps no list of
 -- states: they are put into the image it makes.
 use Prim.Native.Nat.{ℕ, _+_, _≤_, _<_}
 use mathlib.Core.Path.{_≡_}
@@ -10,7 +10,7 @@ use lib.Dec.{ltb}
 use lib.ListN.{drop}
 use Rattle.part.specs.Outcome.{Outcome, written}
 use Rattle.part.specs.Outcome.Outcome.{accepted}
-use Rattle.jedec.specs.Rules.{At, Known, has, hasAny, misplaced, startState, stateGiven, imageWith}
+use Rattle.jedec.specs.Rules.{At, Given, has, hasAny, misplaced, startState, stateGiven, imageWith}
 use Rattle.jedec_fields.specs.Fields.{statesOf, ListFits}
 use Rattle.jedec_fields.specs.declared.FieldSays.{FieldSays}
 use Rattle.jedec_fields.specs.declared.FieldSays.the-variants as says
@@ -131,7 +131,7 @@ PutFits fuses after says.Skipped m = Unit {0}
 PutFits fuses after says.Bad m = Unit {0}
 
 -- What the reader knows is what the fields gave, and unless an L is misplaced the image holds it.
-pub record ProgressKnows (fuses : ℕ) (p : Progress) (k : Known) (image : List ℕ) : Type 0 where
+pub record ProgressKnows (fuses : ℕ) (p : Progress) (k : Given) (image : List ℕ) : Type 0 where
   pub count : notedOf (p .count) ≡ k .count
   pub start : seenOf (p .start) ≡ k .start
   pub listed : p .listed ≡ hasAny (k .lists)

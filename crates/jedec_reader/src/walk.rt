@@ -5,7 +5,7 @@ ghost use Prim.Native.Nat.{_+_, _/_, _<_, _≤_};
 ghost use lib.ListN.{length, drop};
 ghost use Rattle.part.specs.Answer.{doneOutcome};
 ghost use mathlib.Core.List.{[]};
-ghost use Rattle.jedec.specs.Rules.{Known, wrongCount, stateGiven, imageWith};
+ghost use Rattle.jedec.specs.Rules.{Given, wrongCount, stateGiven, imageWith};
 ghost use Rattle.jedec.specs.Meaning.{wrongSum, wrongTransmission, concluded, withEnd, ofCut, meaning};
 ghost use mathlib.Core.Option.Option.{some};
 ghost use Rattle.jedec_fields.specs.Fields.{fieldsAt};
@@ -103,7 +103,7 @@ fn conclude(
     image: &[u8],
 ) -> DoneAnswer
     requires { ⌜ (etx < length (now text)) × (length (now text) ≤ 1048576) ⌝ }
-    ensures { λ r. ⌜ ((k : Known) → ProgressKnows fuses p k (now (image .entry))
+    ensures { λ r. ⌜ ((k : Given) → ProgressKnows fuses p k (now (image .entry))
         → TextRead (concluded fuses (now (text .entry)) etx given k) (doneOutcome r) (now (image .entry))) ⌝ }
 {
     let count = p.count;
@@ -130,7 +130,7 @@ fn conclude(
 // From the ETX after the fields on.
 fn finish(fuses: u32, text: &[u8], etx: usize, p: Progress, image: &[u8]) -> DoneAnswer
     requires { ⌜ (etx < length (now text)) × (length (now text) ≤ 1048576) ⌝ }
-    ensures { λ r. ⌜ ((k : Known) → ProgressKnows fuses p k (now (image .entry))
+    ensures { λ r. ⌜ ((k : Given) → ProgressKnows fuses p k (now (image .entry))
         → TextRead (withEnd fuses (now (text .entry)) k (some etx)) (doneOutcome r) (now (image .entry))) ⌝ }
 {
     let tail = jedec_fields::scan::tail_from(text, etx + 1);

@@ -12,7 +12,7 @@ use Rattle.part.specs.Outcome.{Outcome}
 use Rattle.part.specs.Outcome.Outcome.{refused}
 use Rattle.jedec.specs.Cut.{Cut}
 use Rattle.jedec.specs.Judge.{judge}
-use Rattle.jedec.specs.Rules.{Known, nothingKnown, inOrder, after, allFields, misplaced, stateGiven, imageWith}
+use Rattle.jedec.specs.Rules.{Given, nothingGiven, inOrder, after, allFields, misplaced, stateGiven, imageWith}
 use Rattle.jedec.specs.Meaning.{withEnd, withFields, ofCut}
 use Rattle.jedec_fields.specs.Fields.{judgedAfter, SaysFits, Says, fieldsAt, cutOf, Inside, Stands}
 use Rattle.jedec_fields.specs.declared.FieldSays.{FieldSays}
@@ -33,12 +33,12 @@ use Rattle.jedec_reader.proofs.walk.walk.Statement.{statement}
 use Rattle.jedec_reader.proofs.walk.walk.Tie as tie
 
 -- The outcome of a text, by what is known before some of its fields.
-abbrev ofRest : (fuses : ℕ) → (text : List ℕ) → Known → Cut → Outcome (List ℕ)
+abbrev ofRest : (fuses : ℕ) → (text : List ℕ) → Given → Cut → Outcome (List ℕ)
 ofRest fuses text k cut = withFields fuses text (cut .end) (allFields k (cut .fields))
 
 -- What the fields so far gave, and the fields still to come.
 record Walks (fuses : ℕ) (text : List ℕ) (from : ℕ) (image₀ image : List ℕ) (p : Progress) (at : ℕ) : Type 0 where
-  k : Known
+  k : Given
   given : ProgressKnows fuses p k image
   size : length image ≡ (fuses + 7) / 8
   same : length image ≡ length image₀
@@ -51,7 +51,7 @@ starts : (fuses : ℕ) (text : List ℕ) (from : ℕ) (image : List ℕ) → fro
 unfolding misplaced lastEnd
 starts fuses text from image l e =
     record {
-      k = nothingKnown;
+      k = nothingGiven;
       given = record {
         count = refl;
         start = refl;
@@ -92,7 +92,7 @@ module _ (fuses : ℕ) (text : List ℕ) (from : ℕ) (image₀ image : List ℕ
     etx-there etx w = rw w at (s .inside)
 
     the-end : (etx : ℕ) (answer : Outcome (Unit {0})) → n ≡ next.End etx
-        → ((k : Known) → ProgressKnows fuses p k image → TextRead (withEnd fuses text k (some etx)) answer image)
+        → ((k : Given) → ProgressKnows fuses p k image → TextRead (withEnd fuses text k (some etx)) answer image)
         → TextRead (ofCut fuses text (fieldsAt from (drop from text))) answer image
     unfolding allFields
     the-end etx answer w f = rw (← by-next (next.End etx) w) (f (r .k) (r .given))
