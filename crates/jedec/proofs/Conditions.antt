@@ -119,10 +119,10 @@ module _ (fuses : ℕ) (text image : List ℕ) (etx sum : ℕ) (k : Given) where
 -- A text that is not refused 7 is of good form, and means what its end answers.
 pub record Formed (fuses : ℕ) (text : List ℕ) (answer : Outcome (List ℕ)) : Type 0 where
   pub gives : Given
-  pub end : ℕ
+  pub etx-offset : ℕ
   pub sum : ℕ
-  pub form : GoodForm text gives end sum
-  pub its-answer : concluded fuses text end sum gives ≡ answer
+  pub form : GoodForm text gives etx-offset sum
+  pub end-answer : concluded fuses text etx-offset sum gives ≡ answer
 
 module _ (fuses : ℕ) (text : List ℕ) (answer : Outcome (List ℕ)) (not-7 : Not 7 answer) where
   -- The form, step by step.
@@ -131,11 +131,11 @@ module _ (fuses : ℕ) (text : List ℕ) (answer : Outcome (List ℕ)) (not-7 : 
     has : end ≡ some at
     sum : ℕ
     good-tail : tailFrom (at + 1) 4 0 (drop (at + 1) text) ≡ given sum
-    its-answer : concluded fuses text at sum k ≡ answer
+    end-answer : concluded fuses text at sum k ≡ answer
 
   of-tail : (k : Given) (etx : ℕ) (t : Tail) → tailFrom (etx + 1) 4 0 (drop (etx + 1) text) ≡ t → withTail fuses text etx k t ≡ answer
       → Ended k (some etx)
-  of-tail k etx (given sum) w e = record { at = etx; has = refl; sum = sum; good-tail = w; its-answer = e }
+  of-tail k etx (given sum) w e = record { at = etx; has = refl; sum = sum; good-tail = w; end-answer = e }
   of-tail k etx (wrong at) w e = absurd (not-7 at e)
 
   of-end : (k : Given) (end : Option ℕ) → withEnd fuses text k end ≡ answer → Ended k end
@@ -160,7 +160,7 @@ module _ (fuses : ℕ) (text : List ℕ) (answer : Outcome (List ℕ)) (not-7 : 
       let r = of-fields (cut .end) (allFields nothingGiven (cut .fields)) (good .1) in
       record {
         gives = r .gives;
-        end = r .ended .at;
+        etx-offset = r .ended .at;
         sum = r .ended .sum;
         form =
             record {
@@ -168,13 +168,13 @@ module _ (fuses : ℕ) (text : List ℕ) (answer : Outcome (List ℕ)) (not-7 : 
               begins = stx-there;
               design = design;
               ended = ended;
-              its-pieces = w;
+              text-pieces = w;
               good-design = good .0;
               good-fields = r .good;
-              has-end = r .ended .has;
+              has-etx = r .ended .has;
               good-tail = r .ended .good-tail;
             };
-        its-answer = r .ended .its-answer;
+        end-answer = r .ended .end-answer;
       }
 
   pub formed : meaning fuses text ≡ answer → Formed fuses text answer
@@ -184,11 +184,11 @@ module _ (fuses : ℕ) (text : List ℕ) (answer : Outcome (List ℕ)) (not-7 : 
       let there = was (startsWith stx text) 7 0 _ answer not-7 (short .1) in
       of-pieces (ltb-false longest (length text) (short .0)) (there .0) (pieces text .ended) refl (there .1)
 
-pub form-means : (fuses : ℕ) (text : List ℕ) (k : Given) (end sum : ℕ) → GoodForm text k end sum
-    → meaning fuses text ≡ concluded fuses text end sum k
+pub form-means : (fuses : ℕ) (text : List ℕ) (k : Given) (etxOffset sum : ℕ) → GoodForm text k etxOffset sum
+    → meaning fuses text ≡ concluded fuses text etxOffset sum k
 unfolding meaning
-form-means fuses text k end sum f =
-    rw (le-ltb longest (length text) (f .not-long), f .begins, f .its-pieces, f .good-design, f .good-fields, f .has-end, f .good-tail)
+form-means fuses text k etxOffset sum f =
+    rw (le-ltb longest (length text) (f .not-long), f .begins, f .text-pieces, f .good-design, f .good-fields, f .has-etx, f .good-tail)
 
 pub accepted-iff : (fuses : ℕ) (text image : List ℕ) → (meaning fuses text ≡ accepted image) ↔ Accepted fuses text image
 accepted-iff fuses text image = (
@@ -196,12 +196,12 @@ accepted-iff fuses text image = (
       let f = formed fuses text (accepted image) (not-refused 7 image) e in
       record {
         gives = f .gives;
-        end = f .end;
+        etx-offset = f .etx-offset;
         sum = f .sum;
         form = f .form;
-        concluded = conclusion fuses text image (f .end) (f .sum) (f .gives) (f .its-answer);
+        concluded = conclusion fuses text image (f .etx-offset) (f .sum) (f .gives) (f .end-answer);
       },
   λ a.
-      form-means fuses text (a .gives) (a .end) (a .sum) (a .form)
-      ∙ concluding fuses text image (a .end) (a .sum) (a .gives) (a .concluded),
+      form-means fuses text (a .gives) (a .etx-offset) (a .sum) (a .form)
+      ∙ concluding fuses text image (a .etx-offset) (a .sum) (a .gives) (a .concluded),
 )

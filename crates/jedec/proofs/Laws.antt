@@ -28,7 +28,7 @@ pub use Rattle.jedec.proofs.Conditions.{accepted-iff}
 pub use Rattle.jedec.proofs.Misplaced.{misplaced-iff, refused-9-iff}
 pub use Rattle.jedec.proofs.States.{in-place-iff, finished-state}
 pub use Rattle.jedec.proofs.Forms.{assembled-accepted}
-pub use Rattle.jedec.proofs.Parts.{form-iff, assembled-iff}
+pub use Rattle.jedec.proofs.FormIff.{form-iff, assembled-iff}
 pub use Rattle.jedec.proofs.ReadBack.{read-back}
 pub use Rattle.jedec.proofs.Numbers.{seven-back, count-back, sum-back}
 pub use Rattle.jedec.proofs.Places.{values-small}

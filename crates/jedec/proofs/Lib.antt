@@ -6,9 +6,12 @@ pub mod Conditions
 pub mod Misplaced
 pub mod Cutting
 pub mod Forms
-pub mod Parts
+pub mod TakenApart
+pub mod FormIff
 pub mod Judging
+pub mod WrittenFields
 pub mod ReadBack
 pub mod Places
+pub mod StateBits
 pub mod States
 pub mod Laws

@@ -88,9 +88,9 @@ unless-small : {number : ℕ} {o : Option ℕ} {answer : Outcome (List ℕ)} →
 unless-small low high nowhere s = s
 unless-small low high (place h) s = refusal low high h
 
-count-small : (fuses end : ℕ) (o : Option At) → end ≤ longest → AtSmall o → PlaceSmall (wrongCount fuses end o)
-count-small fuses end none h s = place h
-count-small fuses end (some q) h s = chosen PlaceSmall (eqb (q .value) fuses) nowhere (place s)
+count-small : (fuses etxOffset : ℕ) (o : Option At) → etxOffset ≤ longest → AtSmall o → PlaceSmall (wrongCount fuses etxOffset o)
+count-small fuses etxOffset none h s = place h
+count-small fuses etxOffset (some q) h s = chosen PlaceSmall (eqb (q .value) fuses) nowhere (place s)
 
 lists-small : (fuses end : ℕ) (lists : List Listed) → ListsSmall lists → PlaceSmall (misplaced fuses end lists)
 unfolding misplaced
@@ -102,14 +102,15 @@ sum-small : (image : List ℕ) (o : Option At) → AtSmall o → PlaceSmall (wro
 sum-small image none s = nowhere
 sum-small image (some c) s = chosen PlaceSmall (eqb (c .value) (sum16 image)) nowhere (place s)
 
-concluded-small : (fuses : ℕ) (text : List ℕ) (end x : ℕ) (k : Given) → end ≤ longest → GivenSmall k → Small (concluded fuses text end x k)
+concluded-small : (fuses : ℕ) (text : List ℕ) (etxOffset x : ℕ) (k : Given) → etxOffset ≤ longest → GivenSmall k
+    → Small (concluded fuses text etxOffset x k)
 unfolding concluded
-concluded-small fuses text end x k h s =
-    unless-small {number = 8} (omega arith) (omega arith) (count-small fuses end (k .count) h (s .count))
+concluded-small fuses text etxOffset x k h s =
+    unless-small {number = 8} (omega arith) (omega arith) (count-small fuses etxOffset (k .count) h (s .count))
     (unless-small {number = 9} (omega arith) (omega arith) (lists-small fuses 0 (k .lists) (s .lists))
     (unless-small {number = 10} (omega arith) (omega arith) (sum-small (finished fuses k) (k .sum) (s .sum))
     (unless-small {number = 11} (omega arith) (omega arith)
-    (chosen PlaceSmall (eqb x 0 || eqb x (sum16 (take (end + 1) text))) nowhere (place h)) described)))
+    (chosen PlaceSmall (eqb x 0 || eqb x (sum16 (take (etxOffset + 1) text))) nowhere (place h)) described)))
 
 -- After ETX.
 abbrev TailSmall : Tail → Type 0
