@@ -6,11 +6,11 @@ use mathlib.Core.Bool.{Bool, true, false, cond, _||_}
 use mathlib.Core.List.{List, [], _∷_}
 use mathlib.Core.Option.{Option}
 use mathlib.Core.Option.Option.{none, some}
-use Prim.Native.Nat.{ℕ, _+_, _≤_}
+use Prim.Native.Nat.{ℕ, _+_, _≤_, _<_}
 use native.Mathlib.Omega.{arith}
 use lib.Dec.{eqb, ltb}
 use lib.ListN.{length, take, drop}
-use borrow.Author.Tests.{ltb-false, le-ltb, eqb-true, eq-eqb}
+use borrow.Author.Tests.{ltb-false, lt-ltb, le-ltb, eqb-true, eq-eqb}
 use Rattle.part.specs.Outcome.{Outcome}
 use Rattle.part.specs.Outcome.Outcome.{accepted, refused}
 use Rattle.part.proofs.Facts.{either}
@@ -205,3 +205,12 @@ accepted-iff fuses text image = (
       form-means fuses text (a .gives) (a .etx-offset) (a .sum) (a .form)
       ∙ concluding fuses text image (a .etx-offset) (a .sum) (a .gives) (a .concluded),
 )
+
+-- A text that is too long, and one that does not start with STX.
+pub too-long : (fuses : ℕ) (text : List ℕ) → longest < length text → meaning fuses text ≡ refused 7 longest
+unfolding meaning
+too-long fuses text h = rw (lt-ltb longest (length text) h)
+
+pub no-start : (fuses : ℕ) (text : List ℕ) → length text ≤ longest → startsWith stx text ≡ false → meaning fuses text ≡ refused 7 0
+unfolding meaning
+no-start fuses text h e = rw (le-ltb longest (length text) h, e)

@@ -13,7 +13,8 @@ use borrow.Author.Tests.{not-true, ne-eqb}
 use Rattle.part.proofs.Facts.{and-iff}
 use Rattle.jedec.specs.Characters.{etx, star, isBlank}
 use Rattle.jedec.specs.Cut.{onFirst, pieces, blanksBefore, Cut, startsWith, orEnd, fieldsFrom}
-use Rattle.jedec.specs.Form.{all, notStar, SpacedField, starts, RightField, RightFields, spacedText, offsetAfter, fieldsOf, offsetAfterAll}
+use Rattle.jedec.specs.Form.{all, notStar, SpacedField, starts, RightField, RightFields, spacedText, offsetAfter, fieldsOf}
+use Rattle.jedec.specs.Form.{offsetAfterAll}
 
 -- Bytes without a `*` stay together.
 piece-byte : (b : ℕ) → notStar b ≡ true → (bytes : List ℕ) → pieces (b ∷ bytes) ≡ onFirst b (pieces bytes .ended) (pieces bytes .rest)

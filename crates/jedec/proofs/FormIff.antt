@@ -77,7 +77,8 @@ module _ (text design others : List ℕ) (cut : Cut) (etxOffset : ℕ) (is : tex
   after-etx : drop (etxOffset + 1) text ≡ p .tail
   after-etx =
       ap (drop (etxOffset + 1)) by-fields
-      ∙ drop-at (headOf design (p .spaced) (p .gap)) (p .tail) (etxOffset + 1) (omega (arith, head-length design (p .spaced) (p .gap), p .etx-place))
+      ∙ drop-at (headOf design (p .spaced) (p .gap)) (p .tail) (etxOffset + 1)
+      (omega (arith, head-length design (p .spaced) (p .gap), p .etx-place))
 
   from-fields : (k : Given) (sum : ℕ) → length text ≤ longest → all notStar design ≡ true → holdsMark design ≡ false
       → allFields nothingGiven (cut .fields) ≡ allGood k → Digits 4 0 sum (p .tail) → Assembled text k etxOffset sum

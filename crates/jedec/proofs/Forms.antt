@@ -74,7 +74,8 @@ tail-read digits blanks at sum h blank =
     rw (f .0) at (hex-tail digits at 0 sum blanks (f .1)) ∙ blank-tail blanks (at + 4) sum blank
 
 -- Where the text after ETX begins.
-pub head-length : (design : List ℕ) (spaced : List SpacedField) (gap : List ℕ) → length (headOf design spaced gap) ≡ etxAt design spaced gap + 1
+pub head-length : (design : List ℕ) (spaced : List SpacedField) (gap : List ℕ)
+    → length (headOf design spaced gap) ≡ etxAt design spaced gap + 1
 head-length design spaced gap =
     omega (
       arith,

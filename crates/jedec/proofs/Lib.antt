@@ -1,6 +1,5 @@
 -- Laws lists what holds of texts; the other modules prove it.
 -- Assumes nothing.
-pub mod Cases
 pub mod Numbers
 pub mod Conditions
 pub mod Misplaced

@@ -62,7 +62,8 @@ read-line q image at fuse widths lists fields positive h =
 lines-read : (q : At) (image : List ℕ) (at fuse : ℕ) (pattern : List (List ℕ)) (lists : List Listed) (more : List SpacedField)
     → NoneEmpty pattern → fuse + patternFuses pattern < 10 ^ 7
     → allFields (givenWith q lists) (fieldsOf at (lineFields image fuse pattern ++ more))
-    ≡ allFields (givenWith q (lists ++ listsOf at image fuse pattern)) (fieldsOf (form.offsetAfterAll at (lineFields image fuse pattern)) more)
+    ≡ allFields (givenWith q (lists ++ listsOf at image fuse pattern)) (fieldsOf (form.offsetAfterAll at
+    (lineFields image fuse pattern)) more)
 unfolding fieldsOf lineFields listsOf patternFuses form.offsetAfterAll afterLf
 lines-read q image at fuse [] lists more positive h = rw (append-nil lists)
 lines-read q image at fuse (widths ∷ pattern) lists more positive h =
@@ -195,9 +196,11 @@ module _ (fuses : ℕ) (pattern : List (List ℕ)) (image : List ℕ) (few : fus
       let sum-part = afterLf (letterC ∷ fourHex (sum16 image)) in
       let others = lineFields image 0 pattern ++ (sum-part ∷ []) in
       let counted : Given = record { count = some q; start = none; lists = []; sum = none } in
-      read-one nothingGiven 3 (letterQ ∷ letterF ∷ countDigits fuses) (fieldsOf (offsetAfter 2 written-count) (written-start ∷ others)) (count fuses)
+      read-one nothingGiven 3 (letterQ ∷ letterF ∷ countDigits fuses) (fieldsOf (offsetAfter 2 written-count) (written-start ∷ others))
+      (count fuses)
       (count-judged fuses few) refl
-      ∙ read-one counted (offsetAfter 2 written-count + 1) (letterF ∷ decimalDigit 0 ∷ []) (fieldsOf lines-at others) (start 0) start-judged refl
+      ∙ read-one counted (offsetAfter 2 written-count + 1) (letterF ∷ decimalDigit 0 ∷ []) (fieldsOf lines-at others)
+      (start 0) start-judged refl
       ∙ lines-read q image lines-at 0 pattern [] (sum-part ∷ []) none-empty (omega (arith, every-fuse))
       ∙ read-one (givenWith q lists) (form.offsetAfterAll lines-at (lineFields image 0 pattern) + 1) (letterC ∷ fourHex (sum16 image)) []
       (sum (sum16 image)) (sum-judged (sum16 image) (mod-lt _ (omega arith))) refl

@@ -11,7 +11,8 @@ use lib.ListN.{length}
 use borrow.Author.Tests.{eqb-true}
 use Rattle.jedec.specs.Characters.{etx, star, isBlank}
 use Rattle.jedec.specs.Cut.{Pieces, onFirst, pieces, Cut, orEnd, fieldsFrom}
-use Rattle.jedec.specs.Form.{all, notStar, SpacedField, starts, RightField, RightFields, spacedText, offsetAfter, fieldsOf, offsetAfterAll}
+use Rattle.jedec.specs.Form.{all, notStar, SpacedField, starts, RightField, RightFields, spacedText, offsetAfter, fieldsOf}
+use Rattle.jedec.specs.Form.{offsetAfterAll}
 use Rattle.jedec.proofs.Cutting.{all-behind, no-end, at-end, one-field}
 
 -- Pieces one after the other, each with its `*`.
@@ -107,23 +108,27 @@ one-piece at p right ended rest etxOffset q =
     }
 
 -- All pieces up to the one with ETX.
-pub taken-apart : (ended : List (List ℕ)) (at : ℕ) (rest : List ℕ) (etxOffset : ℕ) → NoStars ended → fieldsFrom at ended rest .end ≡ some etxOffset
+pub taken-apart : (ended : List (List ℕ)) (at : ℕ) (rest : List ℕ) (etxOffset : ℕ) → NoStars ended
+    → fieldsFrom at ended rest .end ≡ some etxOffset
     → TakenApart at (joined ended rest) (fieldsFrom at ended rest) etxOffset
 unfolding fieldsFrom joined
 taken-apart [] at rest etxOffset no-star e = go rest (piece rest) e
   where
-    go : (bytes : List ℕ) → Piece bytes → fieldsFrom at [] bytes .end ≡ some etxOffset → TakenApart at bytes (fieldsFrom at [] bytes) etxOffset
+    go : (bytes : List ℕ) → Piece bytes → fieldsFrom at [] bytes .end ≡ some etxOffset
+        → TakenApart at bytes (fieldsFrom at [] bytes) etxOffset
     go bytes (field p blank begins) e =
         let nowhere : none ≡ some etxOffset = rw (no-end at p blank begins (record { fields = []; end = none })) at e in
         let z : _≡_ {A = ℕ} 0 1 = cc in
         absurd (omega arith)
     go bytes (last gap tail blank) e = last-piece at gap tail blank _ etxOffset e (gap ++ etx ∷ tail) tail refl
-taken-apart (p ∷ ps) at rest etxOffset no-star e = go p (piece p) (no-star .0) (taken-apart ps (at + length p + 1) rest etxOffset (no-star .1)) e
+taken-apart (p ∷ ps) at rest etxOffset no-star e =
+    go p (piece p) (no-star .0) (taken-apart ps (at + length p + 1) rest etxOffset (no-star .1)) e
   where
     go : (bytes : List ℕ) → Piece bytes → all notStar bytes ≡ true
         → (fieldsFrom (at + length bytes + 1) ps rest .end ≡ some etxOffset
         → TakenApart (at + length bytes + 1) (joined ps rest) (fieldsFrom (at + length bytes + 1) ps rest) etxOffset)
-        → fieldsFrom at (bytes ∷ ps) rest .end ≡ some etxOffset → TakenApart at (bytes ++ star ∷ joined ps rest) (fieldsFrom at (bytes ∷ ps) rest) etxOffset
+        → fieldsFrom at (bytes ∷ ps) rest .end ≡ some etxOffset
+        → TakenApart at (bytes ++ star ∷ joined ps rest) (fieldsFrom at (bytes ∷ ps) rest) etxOffset
     go bytes (field q blank begins) no-star others e =
         let right : RightField q = record { blank = blank; no-star = all-behind notStar (q .blanks) (q .bytes) no-star; begins = begins } in
         one-piece at q right ps rest etxOffset (others (rw (one-field at q right ps rest) at e))

@@ -53,7 +53,8 @@ offsetAfter at p = at + length (p .blanks ++ p .bytes) + 1
 
 unfoldable pub fieldsOf : ℕ → List SpacedField → List Field
 fieldsOf at [] = []
-fieldsOf at (p ∷ spaced) = record { start = at + length (p .blanks); bytes = p .bytes } ∷ fieldsOf (offsetAfter at p) spaced
+fieldsOf at (p ∷ spaced) =
+    record { start = at + length (p .blanks); bytes = p .bytes } ∷ fieldsOf (offsetAfter at p) spaced
 
 unfoldable pub offsetAfterAll : ℕ → List SpacedField → ℕ
 offsetAfterAll at [] = at
