@@ -6,11 +6,11 @@ use mathlib.Core.Bool.{Bool, true, false, cond, _||_}
 use mathlib.Core.List.{List, [], _∷_}
 use mathlib.Core.Option.{Option}
 use mathlib.Core.Option.Option.{none, some}
-use Prim.Native.Nat.{ℕ, _+_, _≤_}
+use Prim.Native.Nat.{ℕ, _+_, _≤_, _<_}
 use native.Mathlib.Omega.{arith}
 use lib.Dec.{eqb, ltb}
 use lib.ListN.{length, take, drop}
-use borrow.Author.Tests.{ltb-false, le-ltb, eqb-true, eq-eqb}
+use borrow.Author.Tests.{ltb-false, lt-ltb, le-ltb, eqb-true, eq-eqb}
 use Rattle.part.specs.Outcome.{Outcome}
 use Rattle.part.specs.Outcome.Outcome.{accepted, refused}
 use Rattle.part.proofs.Facts.{either}
@@ -18,8 +18,8 @@ use Rattle.image.specs.Image.{sum16}
 use Rattle.jedec.specs.Characters.{stx}
 use Rattle.jedec.specs.Cut.{pieces, startsWith, fieldsFrom, holdsMark, Tail, tailFrom}
 use Rattle.jedec.specs.Cut.Tail.{given, wrong}
-use Rattle.jedec.specs.Rules.{At, Known, nothingKnown, Fields, allFields, wrongCount, misplaced, finished}
-use Rattle.jedec.specs.Rules.Fields.{known, badAt}
+use Rattle.jedec.specs.Rules.{At, Given, nothingGiven, Fields, allFields, wrongCount, misplaced, finished}
+use Rattle.jedec.specs.Rules.Fields.{allGood, badAt}
 use Rattle.jedec.specs.Meaning.{longest, unless, wrongSum, wrongTransmission, concluded, withTail, withEnd, withFields, ofPieces}
 use Rattle.jedec.specs.Meaning.{meaning}
 use Rattle.jedec.specs.Form.{Counted, Concluded, GoodForm, Accepted}
@@ -48,7 +48,7 @@ no-place n none other answer never e = (refl, e)
 no-place n (some at) other answer never e = absurd (never at e)
 
 -- Each rule, from its place to what it says, and back.
-pub the-count : (fuses etx : ℕ) (k : Known) → wrongCount fuses etx (k .count) ≡ none → Counted fuses k
+pub the-count : (fuses etx : ℕ) (k : Given) → wrongCount fuses etx (k .count) ≡ none → Counted fuses k
 the-count fuses etx k e = given-as (k .count) refl e
   where
     right : (q : At) (t : Bool) → eqb (q .value) fuses ≡ t → cond t none (some (q .at)) ≡ none → q .value ≡ fuses
@@ -59,7 +59,7 @@ the-count fuses etx k e = given-as (k .count) refl e
     given-as none w e = let z : _≡_ {A = ℕ} 0 1 = cc in absurd (omega arith)
     given-as (some q) w e = record { count-field = q; has-count = w; right-count = right q (eqb (q .value) fuses) refl e }
 
-pub count-none : (fuses etx : ℕ) (k : Known) → Counted fuses k → wrongCount fuses etx (k .count) ≡ none
+pub count-none : (fuses etx : ℕ) (k : Given) → Counted fuses k → wrongCount fuses etx (k .count) ≡ none
 count-none fuses etx k c = rw (c .has-count, eq-eqb (c .count-field .value) fuses (c .right-count))
 
 the-sum : (image : List ℕ) (o : Option At) → wrongSum image o ≡ none → (c : At) → o ≡ some c → c .value ≡ sum16 image
@@ -91,7 +91,7 @@ transmission-none text etx sum (inr s) = go (eqb sum 0)
     go false = rw (eq-eqb sum (sum16 (take (etx + 1) text)) s)
 
 -- What the end answers.
-module _ (fuses : ℕ) (text image : List ℕ) (etx sum : ℕ) (k : Known) where
+module _ (fuses : ℕ) (text image : List ℕ) (etx sum : ℕ) (k : Given) where
   conclusion : concluded fuses text etx sum k ≡ accepted image → Concluded fuses text image etx sum k
   unfolding concluded
   conclusion e =
@@ -118,38 +118,38 @@ module _ (fuses : ℕ) (text image : List ℕ) (etx sum : ℕ) (k : Known) where
 
 -- A text that is not refused 7 is of good form, and means what its end answers.
 pub record Formed (fuses : ℕ) (text : List ℕ) (answer : Outcome (List ℕ)) : Type 0 where
-  pub gives : Known
-  pub end : ℕ
+  pub gives : Given
+  pub etx-offset : ℕ
   pub sum : ℕ
-  pub form : GoodForm text gives end sum
-  pub its-answer : concluded fuses text end sum gives ≡ answer
+  pub form : GoodForm text gives etx-offset sum
+  pub end-answer : concluded fuses text etx-offset sum gives ≡ answer
 
 module _ (fuses : ℕ) (text : List ℕ) (answer : Outcome (List ℕ)) (not-7 : Not 7 answer) where
   -- The form, step by step.
-  record Ended (k : Known) (end : Option ℕ) : Type 0 where
+  record Ended (k : Given) (end : Option ℕ) : Type 0 where
     at : ℕ
     has : end ≡ some at
     sum : ℕ
     good-tail : tailFrom (at + 1) 4 0 (drop (at + 1) text) ≡ given sum
-    its-answer : concluded fuses text at sum k ≡ answer
+    end-answer : concluded fuses text at sum k ≡ answer
 
-  of-tail : (k : Known) (etx : ℕ) (t : Tail) → tailFrom (etx + 1) 4 0 (drop (etx + 1) text) ≡ t → withTail fuses text etx k t ≡ answer
+  of-tail : (k : Given) (etx : ℕ) (t : Tail) → tailFrom (etx + 1) 4 0 (drop (etx + 1) text) ≡ t → withTail fuses text etx k t ≡ answer
       → Ended k (some etx)
-  of-tail k etx (given sum) w e = record { at = etx; has = refl; sum = sum; good-tail = w; its-answer = e }
+  of-tail k etx (given sum) w e = record { at = etx; has = refl; sum = sum; good-tail = w; end-answer = e }
   of-tail k etx (wrong at) w e = absurd (not-7 at e)
 
-  of-end : (k : Known) (end : Option ℕ) → withEnd fuses text k end ≡ answer → Ended k end
+  of-end : (k : Given) (end : Option ℕ) → withEnd fuses text k end ≡ answer → Ended k end
   of-end k none e = absurd (not-7 (length text) e)
   of-end k (some etx) e = of-tail k etx (tailFrom (etx + 1) 4 0 (drop (etx + 1) text)) refl e
 
   record Read (fields : Fields) (end : Option ℕ) : Type 0 where
-    gives : Known
-    good : fields ≡ known gives
+    gives : Given
+    good : fields ≡ allGood gives
     ended : Ended gives end
 
   of-fields : (end : Option ℕ) (fields : Fields) → withFields fuses text end fields ≡ answer → Read fields end
   of-fields end (badAt at) e = absurd (not-7 at e)
-  of-fields end (known k) e = record { gives = k; good = refl; ended = of-end k end e }
+  of-fields end (allGood k) e = record { gives = k; good = refl; ended = of-end k end e }
 
   of-pieces : length text ≤ longest → startsWith stx text ≡ true → (all : List (List ℕ)) → pieces text .ended ≡ all
       → ofPieces fuses text all (pieces text .rest) ≡ answer → Formed fuses text answer
@@ -157,10 +157,10 @@ module _ (fuses : ℕ) (text : List ℕ) (answer : Outcome (List ℕ)) (not-7 : 
   of-pieces short stx-there (design ∷ ended) w e =
       let good = passed (holdsMark (drop 1 design)) 7 1 _ answer not-7 e in
       let cut = fieldsFrom (length design + 1) ended (pieces text .rest) in
-      let r = of-fields (cut .end) (allFields nothingKnown (cut .fields)) (good .1) in
+      let r = of-fields (cut .end) (allFields nothingGiven (cut .fields)) (good .1) in
       record {
         gives = r .gives;
-        end = r .ended .at;
+        etx-offset = r .ended .at;
         sum = r .ended .sum;
         form =
             record {
@@ -168,13 +168,13 @@ module _ (fuses : ℕ) (text : List ℕ) (answer : Outcome (List ℕ)) (not-7 : 
               begins = stx-there;
               design = design;
               ended = ended;
-              its-pieces = w;
+              text-pieces = w;
               good-design = good .0;
               good-fields = r .good;
-              has-end = r .ended .has;
+              has-etx = r .ended .has;
               good-tail = r .ended .good-tail;
             };
-        its-answer = r .ended .its-answer;
+        end-answer = r .ended .end-answer;
       }
 
   pub formed : meaning fuses text ≡ answer → Formed fuses text answer
@@ -184,11 +184,11 @@ module _ (fuses : ℕ) (text : List ℕ) (answer : Outcome (List ℕ)) (not-7 : 
       let there = was (startsWith stx text) 7 0 _ answer not-7 (short .1) in
       of-pieces (ltb-false longest (length text) (short .0)) (there .0) (pieces text .ended) refl (there .1)
 
-pub form-means : (fuses : ℕ) (text : List ℕ) (k : Known) (end sum : ℕ) → GoodForm text k end sum
-    → meaning fuses text ≡ concluded fuses text end sum k
+pub form-means : (fuses : ℕ) (text : List ℕ) (k : Given) (etxOffset sum : ℕ) → GoodForm text k etxOffset sum
+    → meaning fuses text ≡ concluded fuses text etxOffset sum k
 unfolding meaning
-form-means fuses text k end sum f =
-    rw (le-ltb longest (length text) (f .not-long), f .begins, f .its-pieces, f .good-design, f .good-fields, f .has-end, f .good-tail)
+form-means fuses text k etxOffset sum f =
+    rw (le-ltb longest (length text) (f .not-long), f .begins, f .text-pieces, f .good-design, f .good-fields, f .has-etx, f .good-tail)
 
 pub accepted-iff : (fuses : ℕ) (text image : List ℕ) → (meaning fuses text ≡ accepted image) ↔ Accepted fuses text image
 accepted-iff fuses text image = (
@@ -196,12 +196,21 @@ accepted-iff fuses text image = (
       let f = formed fuses text (accepted image) (not-refused 7 image) e in
       record {
         gives = f .gives;
-        end = f .end;
+        etx-offset = f .etx-offset;
         sum = f .sum;
         form = f .form;
-        concluded = conclusion fuses text image (f .end) (f .sum) (f .gives) (f .its-answer);
+        concluded = conclusion fuses text image (f .etx-offset) (f .sum) (f .gives) (f .end-answer);
       },
   λ a.
-      form-means fuses text (a .gives) (a .end) (a .sum) (a .form)
-      ∙ concluding fuses text image (a .end) (a .sum) (a .gives) (a .concluded),
+      form-means fuses text (a .gives) (a .etx-offset) (a .sum) (a .form)
+      ∙ concluding fuses text image (a .etx-offset) (a .sum) (a .gives) (a .concluded),
 )
+
+-- A text that is too long, and one that does not start with STX.
+pub too-long : (fuses : ℕ) (text : List ℕ) → longest < length text → meaning fuses text ≡ refused 7 longest
+unfolding meaning
+too-long fuses text h = rw (lt-ltb longest (length text) h)
+
+pub no-start : (fuses : ℕ) (text : List ℕ) → length text ≤ longest → startsWith stx text ≡ false → meaning fuses text ≡ refused 7 0
+unfolding meaning
+no-start fuses text h e = rw (le-ltb longest (length text) h, e)

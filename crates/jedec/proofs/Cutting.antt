@@ -1,4 +1,4 @@
--- A text put together from its parts is cut into these parts: `assembled` in specs/Form.antt.
+-- A text put together from fields and blanks is cut into these fields: `assembled` in specs/Form.antt.
 -- Assumes nothing.
 use mathlib.Core.Path.{_≡_, refl, sym, _∙_, ap}
 use mathlib.Core.Bool.{Bool, true, false, not, true≢false}
@@ -13,7 +13,8 @@ use borrow.Author.Tests.{not-true, ne-eqb}
 use Rattle.part.proofs.Facts.{and-iff}
 use Rattle.jedec.specs.Characters.{etx, star, isBlank}
 use Rattle.jedec.specs.Cut.{onFirst, pieces, blanksBefore, Cut, startsWith, orEnd, fieldsFrom}
-use Rattle.jedec.specs.Form.{all, notStar, Part, starts, RightPart, RightParts, partsText, next, fieldsOf, partsEnd}
+use Rattle.jedec.specs.Form.{all, notStar, SpacedField, starts, RightField, RightFields, spacedText, offsetAfter, fieldsOf}
+use Rattle.jedec.specs.Form.{offsetAfterAll}
 
 -- Bytes without a `*` stay together.
 piece-byte : (b : ℕ) → notStar b ≡ true → (bytes : List ℕ) → pieces (b ∷ bytes) ≡ onFirst b (pieces bytes .ended) (pieces bytes .rest)
@@ -82,7 +83,7 @@ blank-no-star (b ∷ bytes) h =
     one b h = rw (ne-eqb b star (λ e. true≢false (sym (rw e at h))))
 
 -- A piece with a field is no end, and the one with ETX after blanks is.
-pub no-end : (at : ℕ) (p : Part) → all isBlank (p .blanks) ≡ true → starts (p .bytes) ≡ true → (other : Cut)
+pub no-end : (at : ℕ) (p : SpacedField) → all isBlank (p .blanks) ≡ true → starts (p .bytes) ≡ true → (other : Cut)
     → orEnd at (p .blanks ++ p .bytes) other ≡ other
 no-end at p blank begins other =
     let s = starting (p .bytes) begins in
@@ -94,11 +95,11 @@ unfolding blanksBefore
 at-end at gap tail blank other = rw (blanks-before gap (etx ∷ tail) blank refl, drop-append-seam gap (etx ∷ tail))
 
 -- One field, and the rest of the pieces.
-pub one-field : (at : ℕ) (p : Part) → RightPart p → (ended : List (List ℕ)) (rest : List ℕ)
+pub one-field : (at : ℕ) (p : SpacedField) → RightField p → (ended : List (List ℕ)) (rest : List ℕ)
     → fieldsFrom at ((p .blanks ++ p .bytes) ∷ ended) rest
     ≡ record {
-      fields = record { start = at + length (p .blanks); bytes = p .bytes } ∷ fieldsFrom (next at p) ended rest .fields;
-      end = fieldsFrom (next at p) ended rest .end;
+      fields = record { start = at + length (p .blanks); bytes = p .bytes } ∷ fieldsFrom (offsetAfter at p) ended rest .fields;
+      end = fieldsFrom (offsetAfter at p) ended rest .end;
     }
 unfolding fieldsFrom
 one-field at p right ended rest =
@@ -106,7 +107,7 @@ one-field at p right ended rest =
     no-end at p (right .blank) (right .begins) _
     ∙ rw (blanks-before (p .blanks) (p .bytes) (right .blank) (s .no-blank), drop-append-seam (p .blanks) (p .bytes))
 
--- The parts before blanks and ETX.
+-- The fields before blanks and ETX.
 module _ (gap tail : List ℕ) (blank : all isBlank gap ≡ true) (no-star : all notStar tail ≡ true) where
   last : List ℕ
   last = gap ++ etx ∷ tail
@@ -122,30 +123,30 @@ module _ (gap tail : List ℕ) (blank : all isBlank gap ≡ true) (no-star : all
   cutFrom : ℕ → List ℕ → Cut
   cutFrom at text = fieldsFrom at (pieces text .ended) (pieces text .rest)
 
-  parts-last : (at : ℕ) (parts : List Part) → RightParts parts
-      → cutFrom at (partsText parts ++ last) ≡ record { fields = fieldsOf at parts; end = some (partsEnd at parts + length gap) }
-  unfolding partsText fieldsOf partsEnd cutFrom
-  parts-last at [] right = rw last-pieces (last-cut at)
-  parts-last at (p ∷ parts) right =
+  fields-last : (at : ℕ) (spaced : List SpacedField) → RightFields spaced
+      → cutFrom at (spacedText spaced ++ last) ≡ record { fields = fieldsOf at spaced; end = some (offsetAfterAll at spaced + length gap) }
+  unfolding spacedText fieldsOf offsetAfterAll cutFrom
+  fields-last at [] right = rw last-pieces (last-cut at)
+  fields-last at (p ∷ spaced) right =
       let piece = p .blanks ++ p .bytes in
-      let regrouped : partsText (p ∷ parts) ++ last ≡ piece ++ (star ∷ (partsText parts ++ last)) =
-      append-assoc piece (star ∷ partsText parts) last in
+      let regrouped : spacedText (p ∷ spaced) ++ last ≡ piece ++ (star ∷ (spacedText spaced ++ last)) =
+      append-assoc piece (star ∷ spacedText spaced) last in
       let no-star-in : all notStar piece ≡ true =
       all-append notStar (p .blanks) (p .bytes) (blank-no-star (p .blanks) (right .0 .blank)) (right .0 .no-star) in
-      rw (regrouped, star-pieces piece (partsText parts ++ last) no-star-in)
-      (one-field at p (right .0) (pieces (partsText parts ++ last) .ended) (pieces (partsText parts ++ last) .rest)
-      ∙ rw (parts-last (next at p) parts (right .1)))
+      rw (regrouped, star-pieces piece (spacedText spaced ++ last) no-star-in)
+      (one-field at p (right .0) (pieces (spacedText spaced ++ last) .ended) (pieces (spacedText spaced ++ last) .rest)
+      ∙ rw (fields-last (offsetAfter at p) spaced (right .1)))
 
-  pub parts-cut : (at : ℕ) (parts : List Part) → RightParts parts
-      → fieldsFrom at (pieces (partsText parts ++ (gap ++ etx ∷ tail)) .ended) (pieces (partsText parts ++ (gap ++ etx ∷ tail)) .rest)
-      ≡ record { fields = fieldsOf at parts; end = some (partsEnd at parts + length gap) }
+  pub fields-cut : (at : ℕ) (spaced : List SpacedField) → RightFields spaced
+      → fieldsFrom at (pieces (spacedText spaced ++ (gap ++ etx ∷ tail)) .ended) (pieces (spacedText spaced ++ (gap ++ etx ∷ tail)) .rest)
+      ≡ record { fields = fieldsOf at spaced; end = some (offsetAfterAll at spaced + length gap) }
   unfolding last cutFrom
-  parts-cut at parts right = parts-last at parts right
+  fields-cut at spaced right = fields-last at spaced right
 
--- Where the parts end.
-pub end-of : (at : ℕ) (parts : List Part) → partsEnd at parts ≡ at + length (partsText parts)
-unfolding partsEnd partsText
-end-of at [] = omega arith
-end-of at (p ∷ parts) =
-    end-of (next at p) parts
-    ∙ omega (arith, length-append (p .blanks ++ p .bytes) (star ∷ partsText parts))
+-- The offset after all fields.
+pub offset-after-all : (at : ℕ) (spaced : List SpacedField) → offsetAfterAll at spaced ≡ at + length (spacedText spaced)
+unfolding offsetAfterAll spacedText
+offset-after-all at [] = omega arith
+offset-after-all at (p ∷ spaced) =
+    offset-after-all (offsetAfter at p) spaced
+    ∙ omega (arith, length-append (p .blanks ++ p .bytes) (star ∷ spacedText spaced))

@@ -16,13 +16,13 @@ use Rattle.part.proofs.Facts.{and-iff}
 use Rattle.jedec.specs.Characters.{stx, etx, star, isBlank, andThen, hexValue, digitsRead, sumIn}
 use Rattle.jedec.specs.Cut.{pieces, tailFrom, fieldsFrom}
 use Rattle.jedec.specs.Cut.Tail.{given}
-use Rattle.jedec.specs.Rules.{Known, nothingKnown, allFields}
-use Rattle.jedec.specs.Rules.Fields.{known}
+use Rattle.jedec.specs.Rules.{Given, nothingGiven, allFields}
+use Rattle.jedec.specs.Rules.Fields.{allGood}
 use Rattle.jedec.specs.Meaning.{longest, meaning}
-use Rattle.jedec.specs.Form.{all, notStar, Part, partsText, fieldsOf, headOf, assembled, RightForm, firstAt, etxAt, Concluded}
+use Rattle.jedec.specs.Form.{all, notStar, SpacedField, spacedText, fieldsOf, headOf, assembled, RightForm, firstAt, etxAt, Concluded}
 use Rattle.jedec.specs.Form.{GoodForm}
 use Rattle.jedec.proofs.Conditions.{accepted-iff}
-use Rattle.jedec.proofs.Cutting.{star-pieces, all-append, blank-no-star, parts-cut, end-of}
+use Rattle.jedec.proofs.Cutting.{star-pieces, all-append, blank-no-star, fields-cut, offset-after-all}
 
 -- Hex digits are read as the tail's, and none is a `*`.
 hex-tail : (digits : List ℕ) (at acc sum : ℕ) (rest : List ℕ) → digitsRead 16 hexValue acc digits ≡ some sum
@@ -74,44 +74,45 @@ tail-read digits blanks at sum h blank =
     rw (f .0) at (hex-tail digits at 0 sum blanks (f .1)) ∙ blank-tail blanks (at + 4) sum blank
 
 -- Where the text after ETX begins.
-pub head-length : (design : List ℕ) (parts : List Part) (gap : List ℕ) → length (headOf design parts gap) ≡ etxAt design parts gap + 1
-head-length design parts gap =
+pub head-length : (design : List ℕ) (spaced : List SpacedField) (gap : List ℕ)
+    → length (headOf design spaced gap) ≡ etxAt design spaced gap + 1
+head-length design spaced gap =
     omega (
       arith,
-      end-of (firstAt design) parts,
-      length-append ((stx ∷ design) ++ (star ∷ (partsText parts ++ gap))) (etx ∷ []),
-      length-append (stx ∷ design) (star ∷ (partsText parts ++ gap)),
-      length-append (partsText parts) gap,
+      offset-after-all (firstAt design) spaced,
+      length-append ((stx ∷ design) ++ (star ∷ (spacedText spaced ++ gap))) (etx ∷ []),
+      length-append (stx ∷ design) (star ∷ (spacedText spaced ++ gap)),
+      length-append (spacedText spaced) gap,
     )
 
-module _ (design : List ℕ) (parts : List Part) (gap digits blanks : List ℕ) (sum : ℕ)
-    (right : RightForm design parts gap digits blanks sum) where
+module _ (design : List ℕ) (spaced : List SpacedField) (gap digits blanks : List ℕ) (sum : ℕ)
+    (right : RightForm design spaced gap digits blanks sum) where
   text : List ℕ
-  text = assembled design parts gap digits blanks
+  text = assembled design spaced gap digits blanks
 
   rest : List ℕ
-  rest = partsText parts ++ (gap ++ etx ∷ (digits ++ blanks))
+  rest = spacedText spaced ++ (gap ++ etx ∷ (digits ++ blanks))
 
   regrouped : text ≡ (stx ∷ design) ++ (star ∷ rest)
   unfolding text rest
   regrouped = simp append-assoc
 
-  its-pieces : pieces text ≡ record { ended = (stx ∷ design) ∷ pieces rest .ended; rest = pieces rest .rest }
+  text-pieces : pieces text ≡ record { ended = (stx ∷ design) ∷ pieces rest .ended; rest = pieces rest .rest }
   unfolding all
-  its-pieces = ap pieces regrouped ∙ star-pieces (stx ∷ design) rest (right .design-no-star)
+  text-pieces = ap pieces regrouped ∙ star-pieces (stx ∷ design) rest (right .design-no-star)
 
-  its-cut : fieldsFrom (firstAt design) (pieces rest .ended) (pieces rest .rest)
-      ≡ record { fields = fieldsOf (firstAt design) parts; end = some (etxAt design parts gap) }
+  text-cut : fieldsFrom (firstAt design) (pieces rest .ended) (pieces rest .rest)
+      ≡ record { fields = fieldsOf (firstAt design) spaced; end = some (etxAt design spaced gap) }
   unfolding rest
-  its-cut =
+  text-cut =
       let f = four digits sum (right .hex-digits) in
-      parts-cut gap (digits ++ blanks) (right .blank-gap)
-      (all-append notStar digits blanks (hex-no-star digits 0 sum (f .1)) (blank-no-star blanks (right .blank-end)))
-      (firstAt design) parts (right .right-parts)
+      fields-cut gap (digits ++ blanks) (right .blank-gap)
+      (all-append notStar digits blanks (hex-no-star digits 0 sum (f .1)) (blank-no-star blanks (right .blank-tail)))
+      (firstAt design) spaced (right .right-fields)
 
-  pub assembled-form : (k : Known) → length (assembled design parts gap digits blanks) ≤ longest
-      → allFields nothingKnown (fieldsOf (firstAt design) parts) ≡ known k
-      → GoodForm (assembled design parts gap digits blanks) k (etxAt design parts gap) sum
+  pub assembled-form : (k : Given) → length (assembled design spaced gap digits blanks) ≤ longest
+      → allFields nothingGiven (fieldsOf (firstAt design) spaced) ≡ allGood k
+      → GoodForm (assembled design spaced gap digits blanks) k (etxAt design spaced gap) sum
   unfolding text
   assembled-form k short read =
       record {
@@ -119,19 +120,19 @@ module _ (design : List ℕ) (parts : List Part) (gap digits blanks : List ℕ) 
         begins = refl;
         design = stx ∷ design;
         ended = pieces rest .ended;
-        its-pieces = rw its-pieces;
+        text-pieces = rw text-pieces;
         good-design = right .design-no-mark;
-        good-fields = rw (its-pieces, its-cut) read;
-        has-end = rw (its-pieces, its-cut);
+        good-fields = rw (text-pieces, text-cut) read;
+        has-etx = rw (text-pieces, text-cut);
         good-tail =
-            rw (drop-at (headOf design parts gap) (digits ++ blanks) (etxAt design parts gap + 1) (head-length design parts gap))
-            (tail-read digits blanks (etxAt design parts gap + 1) sum (right .hex-digits) (right .blank-end));
+            rw (drop-at (headOf design spaced gap) (digits ++ blanks) (etxAt design spaced gap + 1) (head-length design spaced gap))
+            (tail-read digits blanks (etxAt design spaced gap + 1) sum (right .hex-digits) (right .blank-tail));
       }
 
-  pub assembled-accepted : (fuses : ℕ) (image : List ℕ) (k : Known) → length (assembled design parts gap digits blanks) ≤ longest
-      → allFields nothingKnown (fieldsOf (firstAt design) parts) ≡ known k
-      → Concluded fuses (assembled design parts gap digits blanks) image (etxAt design parts gap) sum k
-      → meaning fuses (assembled design parts gap digits blanks) ≡ accepted image
+  pub assembled-accepted : (fuses : ℕ) (image : List ℕ) (k : Given) → length (assembled design spaced gap digits blanks) ≤ longest
+      → allFields nothingGiven (fieldsOf (firstAt design) spaced) ≡ allGood k
+      → Concluded fuses (assembled design spaced gap digits blanks) image (etxAt design spaced gap) sum k
+      → meaning fuses (assembled design spaced gap digits blanks) ≡ accepted image
   assembled-accepted fuses image k short read concluded =
-      accepted-iff fuses (assembled design parts gap digits blanks) image .1
-      (record { gives = k; end = etxAt design parts gap; sum = sum; form = assembled-form k short read; concluded = concluded })
+      accepted-iff fuses (assembled design spaced gap digits blanks) image .1
+      (record { gives = k; etx-offset = etxAt design spaced gap; sum = sum; form = assembled-form k short read; concluded = concluded })

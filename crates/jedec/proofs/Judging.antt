@@ -191,7 +191,7 @@ unfolding listIn
 line-judged image fuse widths h positive =
     let digits = sevenDigits fuse in
     let columns = columnsText image fuse widths in
-    let seven : length digits ≡ 7 = digits-length 10 (omega arith) decimalValue decimalDigit 7 fuse in
+    let seven : length digits ≡ 7 = digits-length 10 decimalDigit 7 fuse in
     let run : unbroken (digits ++ columns) ≡ 7 =
     run-ends digits columns (all-digits (λ b. not (isBlank b)) 10 (omega arith) decimalDigit decimal-no-blank 7 fuse)
     (columns-blank image fuse widths) ∙ seven in

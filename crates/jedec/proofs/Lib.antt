@@ -1,14 +1,16 @@
 -- Laws lists what holds of texts; the other modules prove it.
 -- Assumes nothing.
-pub mod Cases
 pub mod Numbers
 pub mod Conditions
 pub mod Misplaced
 pub mod Cutting
 pub mod Forms
-pub mod Parts
+pub mod TakenApart
+pub mod FormIff
 pub mod Judging
+pub mod WrittenFields
 pub mod ReadBack
 pub mod Places
+pub mod StateBits
 pub mod States
 pub mod Laws

@@ -10,7 +10,7 @@ use native.Mathlib.Omega.{arith}
 use borrow.Author.Tests.{lt-ltb, le-ltb}
 use Rattle.part.specs.Outcome.Outcome.{accepted, refused}
 use Rattle.part.proofs.Facts.{compared}
-use Rattle.jedec.specs.Rules.{Listed, Known, wrongCount, endOf, misplaced, finished}
+use Rattle.jedec.specs.Rules.{Listed, Given, wrongCount, endOf, misplaced, finished}
 use Rattle.jedec.specs.Meaning.{unless, wrongSum, wrongTransmission, concluded, meaning}
 use Rattle.jedec.specs.Form.{Counted, InPlace, lastEnd, OutOfPlace, FirstMisplaced, Refused9}
 use Rattle.jedec.proofs.Conditions.{Not, not-refused, no-place, the-count, count-none, formed, form-means}
@@ -30,7 +30,7 @@ module _ (fuses : ℕ) where
   unfolding lastEnd
   here end l lists at e out =
       let same : some (l .at) ≡ some at = rw (named end l lists out) at e in
-      record { before = []; it = l; behind = lists; its-place = refl; before-in-place = tt; out-of-place = out; its-start = cc }
+      record { before = []; found = l; behind = lists; all-lists = refl; before-in-place = tt; out-of-place = out; found-start = cc }
 
   later : (end : ℕ) (l : Listed) (lists : List Listed) (at : ℕ) → end ≤ l .first → endOf l ≤ fuses → FirstMisplaced fuses (endOf l) lists at
       → FirstMisplaced fuses end (l ∷ lists) at
@@ -38,12 +38,12 @@ module _ (fuses : ℕ) where
   later end l lists at late fits f =
       record {
         before = l ∷ f .before;
-        it = f .it;
+        found = f .found;
         behind = f .behind;
-        its-place = ap (λ (others : List Listed). l ∷ others) (f .its-place);
+        all-lists = ap (λ (others : List Listed). l ∷ others) (f .all-lists);
         before-in-place = (late, fits, f .before-in-place);
         out-of-place = f .out-of-place;
-        its-start = f .its-start;
+        found-start = f .found-start;
       }
 
   first-of : (end : ℕ) (lists : List Listed) (at : ℕ) → misplaced fuses end lists ≡ some at → FirstMisplaced fuses end lists at
@@ -58,17 +58,17 @@ module _ (fuses : ℕ) where
       (λ fits. later end l lists at late fits
       (first-of (endOf l) lists at (rw (le-ltb (l .first) end late, le-ltb fuses (endOf l) fits) at e))))
 
-  of-first : (end : ℕ) (before : List Listed) (it : Listed) (behind : List Listed) → InPlace fuses end before
-      → OutOfPlace fuses (lastEnd end before) it → misplaced fuses end (before ++ (it ∷ behind)) ≡ some (it .at)
+  of-first : (end : ℕ) (before : List Listed) (found : Listed) (behind : List Listed) → InPlace fuses end before
+      → OutOfPlace fuses (lastEnd end before) found → misplaced fuses end (before ++ (found ∷ behind)) ≡ some (found .at)
   unfolding misplaced lastEnd
-  of-first end [] it behind p out = named end it behind out
-  of-first end (l ∷ before) it behind p out =
-      rw (le-ltb (l .first) end (p .0), le-ltb fuses (endOf l) (p .1)) (of-first (endOf l) before it behind (p .2) out)
+  of-first end [] found behind p out = named end found behind out
+  of-first end (l ∷ before) found behind p out =
+      rw (le-ltb (l .first) end (p .0), le-ltb fuses (endOf l) (p .1)) (of-first (endOf l) before found behind (p .2) out)
 
   pub misplaced-iff : (end : ℕ) (lists : List Listed) (at : ℕ) → (misplaced fuses end lists ≡ some at) ↔ FirstMisplaced fuses end lists at
   misplaced-iff end lists at = (
     first-of end lists at,
-    λ f. rw (f .its-place, ← f .its-start) (of-first end (f .before) (f .it) (f .behind) (f .before-in-place) (f .out-of-place)),
+    λ f. rw (f .all-lists, ← f .found-start) (of-first end (f .before) (f .found) (f .behind) (f .before-in-place) (f .out-of-place)),
   )
 
 -- An answer 9 is no refusal of another number, and comes from its rule where the rules after it are of others.
@@ -84,7 +84,7 @@ rule-9 none ten eleven image at e =
     absurd (not-refused 9 image at (sym (past-11 .1)))
 
 module _ (fuses : ℕ) (text : List ℕ) (at : ℕ) where
-  by-rule-9 : (etx sum : ℕ) (k : Known)
+  by-rule-9 : (etx sum : ℕ) (k : Given)
       → concluded fuses text etx sum k ≡ refused 9 at → Counted fuses k × (misplaced fuses 0 (k .lists) ≡ some at)
   unfolding concluded
   by-rule-9 etx sum k e =
@@ -99,16 +99,16 @@ module _ (fuses : ℕ) (text : List ℕ) (at : ℕ) where
   refused-9-iff = (
     λ e.
         let f = formed fuses text (refused 9 at) (other-number 7 at (λ s. omega arith)) e in
-        let n = by-rule-9 (f .end) (f .sum) (f .gives) (f .its-answer) in
+        let n = by-rule-9 (f .etx-offset) (f .sum) (f .gives) (f .end-answer) in
         record {
           gives = f .gives;
-          end = f .end;
+          etx-offset = f .etx-offset;
           sum = f .sum;
           form = f .form;
           counted = n .0;
           first-misplaced = misplaced-iff fuses 0 (f .gives .lists) at .0 (n .1);
         },
     λ r.
-        form-means fuses text (r .gives) (r .end) (r .sum) (r .form)
-        ∙ rw (count-none fuses (r .end) (r .gives) (r .counted), misplaced-iff fuses 0 (r .gives .lists) at .1 (r .first-misplaced)),
+        form-means fuses text (r .gives) (r .etx-offset) (r .sum) (r .form)
+        ∙ rw (count-none fuses (r .etx-offset) (r .gives) (r .counted), misplaced-iff fuses 0 (r .gives .lists) at .1 (r .first-misplaced)),
   )

@@ -29,13 +29,14 @@ read-append base value x (b ∷ xs) ys = go (value b) (λ y. read-append base va
     go none step = refl
     go (some y) step = step y
 
-module _ (base : ℕ) (positive : 0 < base) (value : ℕ → Option ℕ) (digit : ℕ → ℕ) where
+module _ (base : ℕ) (digit : ℕ → ℕ) where
   pub digits-length : (count x : ℕ) → length (digitsOf base digit count x) ≡ count
   unfolding digitsOf
   digits-length zero x = refl
   digits-length (suc count) x =
       length-append (digitsOf base digit count (x / base)) (digit (x % base) ∷ []) ∙ rw (digits-length count (x / base)) (omega arith)
 
+module _ (base : ℕ) (positive : 0 < base) (value : ℕ → Option ℕ) (digit : ℕ → ℕ) where
   pub digits-back : ((y : ℕ) → y < base → value (digit y) ≡ some y) → (count x : ℕ) → x < base ^ count
       → digitsRead base value 0 (digitsOf base digit count x) ≡ some x
   unfolding digitsOf digitsRead
@@ -61,7 +62,7 @@ hex-digit =
 pub number-back : (count x : ℕ) → 1 ≤ count → count ≤ 7 → x < 10 ^ count → numberIn (digitsOf 10 decimalDigit count x) ≡ some x
 unfolding numberIn
 number-back count x some-digits few h =
-    rw (digits-length 10 (omega arith) decimalValue decimalDigit count x, le-leb 1 count some-digits, le-leb count 7 few)
+    rw (digits-length 10 decimalDigit count x, le-leb 1 count some-digits, le-leb count 7 few)
     (digits-back 10 (omega arith) decimalValue decimalDigit decimal-digit count x h)
 
 pub seven-back : (x : ℕ) → x < 10 ^ 7 → numberIn (sevenDigits x) ≡ some x
@@ -91,4 +92,4 @@ count-back x h = let e = enough-digits x h in number-back (decimalDigits x) x (e
 -- Four hex digits.
 pub sum-back : (x : ℕ) → x < 2 ^ 16 → sumIn (fourHex x) ≡ some x
 unfolding sumIn
-sum-back x h = rw (digits-length 16 (omega arith) hexValue hexDigit 4 x) (digits-back 16 (omega arith) hexValue hexDigit hex-digit 4 x h)
+sum-back x h = rw (digits-length 16 hexDigit 4 x) (digits-back 16 (omega arith) hexValue hexDigit hex-digit 4 x h)

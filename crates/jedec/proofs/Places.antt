@@ -19,9 +19,9 @@ use Rattle.jedec.specs.Cut.{tailFrom}
 use Rattle.jedec.specs.Cut.Tail.{given, wrong}
 use Rattle.jedec.specs.Judge.{Judged, judge}
 use Rattle.jedec.specs.Judge.Judged.{count, start, list, sum, skipped, bad}
-use Rattle.jedec.specs.Rules.{At, Listed, Known, nothingKnown, inOrder, after, Fields, allFields, wrongCount, endOf, misplaced}
+use Rattle.jedec.specs.Rules.{At, Listed, Given, nothingGiven, inOrder, after, Fields, allFields, wrongCount, endOf, misplaced}
 use Rattle.jedec.specs.Rules.{finished}
-use Rattle.jedec.specs.Rules.Fields.{known, badAt}
+use Rattle.jedec.specs.Rules.Fields.{allGood, badAt}
 use Rattle.jedec.specs.Meaning.{longest, unless, wrongSum, concluded, withTail, withEnd, withFields, ofCut, ofPieces, meaning}
 
 -- What holds of both holds of the choice.
@@ -49,7 +49,7 @@ abbrev ListsSmall : List Listed → Type 0
 ListsSmall [] = Unit {0}
 ListsSmall (l ∷ lists) = (l .at ≤ longest) × ListsSmall lists
 
-record KnownSmall (k : Known) : Type 0 where
+record GivenSmall (k : Given) : Type 0 where
   count : AtSmall (k .count)
   lists : ListsSmall (k .lists)
   sum : AtSmall (k .sum)
@@ -58,7 +58,7 @@ one-more : (lists : List Listed) (l : Listed) → ListsSmall lists → l .at ≤
 one-more [] l s h = (h, tt)
 one-more (m ∷ lists) l s h = (s .0, one-more lists l (s .1) h)
 
-after-small : (k : Known) (at : ℕ) (j : Judged) → KnownSmall k → at ≤ longest → KnownSmall (after k at j)
+after-small : (k : Given) (at : ℕ) (j : Judged) → GivenSmall k → at ≤ longest → GivenSmall (after k at j)
 after-small k at (count n) s h = record { count = h; lists = s .lists; sum = s .sum }
 after-small k at (start x) s h = record { count = s .count; lists = s .lists; sum = s .sum }
 after-small k at (list first states) s h = record { count = s .count; lists = one-more (k .lists) _ (s .lists) h; sum = s .sum }
@@ -71,10 +71,10 @@ StartsSmall [] = Unit {0}
 StartsSmall (f ∷ fields) = (f .start ≤ longest) × StartsSmall fields
 
 abbrev FieldsSmall : Fields → Type 0
-FieldsSmall (known k) = KnownSmall k
+FieldsSmall (allGood k) = GivenSmall k
 FieldsSmall (badAt at) = at ≤ longest
 
-fields-small : (fields : List Field) (k : Known) → KnownSmall k → StartsSmall fields → FieldsSmall (allFields k fields)
+fields-small : (fields : List Field) (k : Given) → GivenSmall k → StartsSmall fields → FieldsSmall (allFields k fields)
 unfolding allFields
 fields-small [] k s h = s
 fields-small (f ∷ fields) k s h =
@@ -88,9 +88,9 @@ unless-small : {number : ℕ} {o : Option ℕ} {answer : Outcome (List ℕ)} →
 unless-small low high nowhere s = s
 unless-small low high (place h) s = refusal low high h
 
-count-small : (fuses end : ℕ) (o : Option At) → end ≤ longest → AtSmall o → PlaceSmall (wrongCount fuses end o)
-count-small fuses end none h s = place h
-count-small fuses end (some q) h s = chosen PlaceSmall (eqb (q .value) fuses) nowhere (place s)
+count-small : (fuses etxOffset : ℕ) (o : Option At) → etxOffset ≤ longest → AtSmall o → PlaceSmall (wrongCount fuses etxOffset o)
+count-small fuses etxOffset none h s = place h
+count-small fuses etxOffset (some q) h s = chosen PlaceSmall (eqb (q .value) fuses) nowhere (place s)
 
 lists-small : (fuses end : ℕ) (lists : List Listed) → ListsSmall lists → PlaceSmall (misplaced fuses end lists)
 unfolding misplaced
@@ -102,14 +102,15 @@ sum-small : (image : List ℕ) (o : Option At) → AtSmall o → PlaceSmall (wro
 sum-small image none s = nowhere
 sum-small image (some c) s = chosen PlaceSmall (eqb (c .value) (sum16 image)) nowhere (place s)
 
-concluded-small : (fuses : ℕ) (text : List ℕ) (end x : ℕ) (k : Known) → end ≤ longest → KnownSmall k → Small (concluded fuses text end x k)
+concluded-small : (fuses : ℕ) (text : List ℕ) (etxOffset x : ℕ) (k : Given) → etxOffset ≤ longest → GivenSmall k
+    → Small (concluded fuses text etxOffset x k)
 unfolding concluded
-concluded-small fuses text end x k h s =
-    unless-small {number = 8} (omega arith) (omega arith) (count-small fuses end (k .count) h (s .count))
+concluded-small fuses text etxOffset x k h s =
+    unless-small {number = 8} (omega arith) (omega arith) (count-small fuses etxOffset (k .count) h (s .count))
     (unless-small {number = 9} (omega arith) (omega arith) (lists-small fuses 0 (k .lists) (s .lists))
     (unless-small {number = 10} (omega arith) (omega arith) (sum-small (finished fuses k) (k .sum) (s .sum))
     (unless-small {number = 11} (omega arith) (omega arith)
-    (chosen PlaceSmall (eqb x 0 || eqb x (sum16 (take (end + 1) text))) nowhere (place h)) described)))
+    (chosen PlaceSmall (eqb x 0 || eqb x (sum16 (take (etxOffset + 1) text))) nowhere (place h)) described)))
 
 -- After ETX.
 abbrev TailSmall : Tail → Type 0
@@ -181,7 +182,7 @@ cut-small (p ∷ ps) at rest h =
     or-end-small at p _ (omega arith) (record { starts = (omega (arith, blanks-few p), others .starts); end = others .end })
 
 module _ (fuses : ℕ) (text : List ℕ) (h : length text ≤ longest) where
-  end-small : (k : Known) (o : Option ℕ) → KnownSmall k → EndSmall o → Small (withEnd fuses text k o)
+  end-small : (k : Given) (o : Option ℕ) → GivenSmall k → EndSmall o → Small (withEnd fuses text k o)
   end-small k none s l = seven (length text) h
   end-small k (some at) s l =
       let rest = drop (at + 1) text in
@@ -192,13 +193,13 @@ module _ (fuses : ℕ) (text : List ℕ) (h : length text ≤ longest) where
       go (wrong byte) m = seven byte m
 
   fields-then : (o : Option ℕ) (f : Fields) → FieldsSmall f → EndSmall o → Small (withFields fuses text o f)
-  fields-then o (known k) s l = end-small k o s l
+  fields-then o (allGood k) s l = end-small k o s l
   fields-then o (badAt at) s l = seven at s
 
   cut-then : (cut : Cut) → CutSmall cut → Small (ofCut fuses text cut)
   cut-then cut s =
-      fields-then (cut .end) (allFields nothingKnown (cut .fields))
-      (fields-small (cut .fields) nothingKnown (record { count = tt; lists = tt; sum = tt }) (s .starts)) (s .end)
+      fields-then (cut .end) (allFields nothingGiven (cut .fields))
+      (fields-small (cut .fields) nothingGiven (record { count = tt; lists = tt; sum = tt }) (s .starts)) (s .end)
 
   pieces-small : (ended : List (List ℕ)) (rest : List ℕ) → size ended + length rest ≡ length text → Small (ofPieces fuses text ended rest)
   unfolding size

@@ -3,7 +3,7 @@
 use mathlib.Core.Path.{_≡_, refl, sym, _∙_, ap}
 use mathlib.Core.Logic.{inr}
 use mathlib.Core.Bool.{true}
-use mathlib.Core.List.{List, [], _∷_, _++_, append-assoc, append-nil}
+use mathlib.Core.List.{List, [], _∷_, _++_, append-nil}
 use mathlib.Core.Option.Option.{none, some}
 use Prim.Native.Nat.{ℕ, zero, suc, _+_, _*_, _-_, _/_, _%_, _^_, _<_, _≤_}
 use native.Mathlib.Omega.{arith}
@@ -17,108 +17,26 @@ use Rattle.cells.specs.Cells.{total}
 use Rattle.image.specs.Bits.{bitOf, bitAt, tabulate}
 use Rattle.image.specs.Image.{state, sum16}
 use Rattle.image.proofs.Bits.{gathered-same, gathered-own, tabulate-length, tabulate-at}
-use Rattle.jedec.specs.Characters.{stx, etx, lf, star, letterC, letterF, letterQ, decimalDigit, countDigits, fourHex}
+use Rattle.jedec.specs.Characters.{lf, letterC, letterF, letterQ, decimalDigit, countDigits, fourHex}
 use Rattle.jedec.specs.Cut.{Field, holdsMark}
 use Rattle.jedec.specs.Judge.{Judged, judge}
 use Rattle.jedec.specs.Judge.Judged.{count, start, sum}
-use Rattle.jedec.specs.Rules.{At, Listed, Known, nothingKnown, inOrder, after, allFields, misplaced, stateGiven, within}
+use Rattle.jedec.specs.Rules.{At, Listed, Given, nothingGiven, inOrder, after, allFields, misplaced, stateGiven, within}
 use Rattle.jedec.specs.Rules.{imageWith}
-use Rattle.jedec.specs.Rules.Fields.{known}
+use Rattle.jedec.specs.Rules.Fields.{allGood}
 use Rattle.jedec.specs.Meaning.{longest, meaning}
-use Rattle.jedec.specs.WrittenText.{lineEnd, linesText, patternFuses, NoneEmpty, footText, upToEtx, textWith}
+use Rattle.jedec.specs.WrittenText.{patternFuses, NoneEmpty, upToEtx, textWith}
 use Rattle.jedec.specs.Form as form
-use Rattle.jedec.specs.Form.{all, Part, RightPart, RightParts, partsText, next, fieldsOf, headOf, assembled, RightForm, firstAt}
+use Rattle.jedec.specs.Form.{all, SpacedField, offsetAfter, fieldsOf, headOf, assembled, RightForm, firstAt}
 use Rattle.jedec.specs.Form.{etxAt, Concluded, Image}
 use Rattle.jedec.proofs.Numbers.{sum-back}
 use Rattle.jedec.proofs.Forms.{head-length, assembled-accepted}
-use Rattle.jedec.proofs.Judging.{plain, plain-no-star, decimal-digits-plain, hex-digits-plain, statesOf, count-judged, start-judged}
-use Rattle.jedec.proofs.Judging.{sum-judged, lineBytes, line-plain, line-judged}
-
--- The parts of the writer's text: each field stands after the LF of the line before.
-part : List ℕ → Part
-part bytes = record { blanks = lf ∷ []; bytes = bytes }
-
-lineParts : (image : List ℕ) → (fuse : ℕ) → (pattern : List (List ℕ)) → List Part
-lineParts image fuse [] = []
-lineParts image fuse (widths ∷ pattern) = part (lineBytes image fuse widths) ∷ lineParts image (fuse + total widths) pattern
-
-writtenParts : (fuses : ℕ) → (pattern : List (List ℕ)) → (image : List ℕ) → List Part
-writtenParts fuses pattern image =
-    part (letterQ ∷ letterF ∷ countDigits fuses)
-    ∷ part (letterF ∷ decimalDigit 0 ∷ [])
-    ∷ (lineParts image 0 pattern ++ (part (letterC ∷ fourHex (sum16 image)) ∷ []))
-
--- The text is put together from them.
-parts-append : (ps qs : List Part) → partsText (ps ++ qs) ≡ partsText ps ++ partsText qs
-unfolding partsText
-parts-append [] qs = refl
-parts-append (p ∷ ps) qs = rw (parts-append ps qs) (sym (append-assoc (p .blanks ++ p .bytes) (star ∷ partsText ps) (partsText qs)))
-
-lines-shifted : (image : List ℕ) (fuse : ℕ) (pattern : List (List ℕ)) (rest : List ℕ)
-    → lf ∷ (linesText image fuse pattern ++ rest) ≡ partsText (lineParts image fuse pattern) ++ (lf ∷ rest)
-unfolding linesText partsText lineParts part
-lines-shifted image fuse [] rest = refl
-lines-shifted image fuse (widths ∷ pattern) rest =
-    let line = lineBytes image fuse widths in
-    let others = linesText image (fuse + total widths) pattern in
-    let parts = partsText (lineParts image (fuse + total widths) pattern) in
-    let regrouped : lf ∷ (((line ++ (star ∷ lf ∷ [])) ++ others) ++ rest) ≡ (lf ∷ line) ++ (star ∷ (lf ∷ (others ++ rest))) =
-    simp append-assoc in
-    regrouped
-    ∙ rw (lines-shifted image (fuse + total widths) pattern rest) (sym (append-assoc (lf ∷ line) (star ∷ parts) (lf ∷ rest)))
-
--- Over any lists: the digits of the count, the lines as text and as parts, the digits of the sum.
-text-shifted : (d l c p : List ℕ) → lf ∷ (l ++ (letterC ∷ c ++ lineEnd ++ etx ∷ [])) ≡ p ++ (lf ∷ (letterC ∷ c ++ lineEnd ++ etx ∷ []))
-    → (stx ∷ lineEnd ++ letterQ ∷ letterF ∷ d ++ lineEnd ++ letterF ∷ decimalDigit 0 ∷ lineEnd) ++ l ++ (letterC ∷ c ++ lineEnd ++ etx ∷ [])
-    ≡ (stx ∷ [])
-    ++ (star ∷ (((lf ∷ []) ++ (letterQ ∷ letterF ∷ d) ++ star
-    ∷ ((lf ∷ []) ++ (letterF ∷ decimalDigit 0 ∷ []) ++ star ∷ (p ++ ((lf ∷ []) ++ (letterC ∷ c) ++ star ∷ [])))) ++ (lf ∷ [])))
-    ++ (etx ∷ [])
-text-shifted d l c p e =
-    let begin : List ℕ → List ℕ = λ z. stx ∷ star ∷ lf ∷ letterQ ∷ letterF ∷ z in
-    let around : List ℕ → List ℕ = λ z. begin (d ++ (star ∷ lf ∷ letterF ∷ decimalDigit 0 ∷ star ∷ z)) in
-    let foot = letterC ∷ c ++ lineEnd ++ etx ∷ [] in
-    let fields = star ∷ lf ∷ letterF ∷ decimalDigit 0 ∷ star ∷ (p ++ (lf ∷ letterC ∷ (c ++ (star ∷ [])))) in
-    ap begin
-    (append-assoc (d ++ lineEnd ++ (letterF ∷ decimalDigit 0 ∷ lineEnd)) l foot
-    ∙ append-assoc (d ++ lineEnd) (letterF ∷ decimalDigit 0 ∷ lineEnd) (l ++ foot)
-    ∙ append-assoc d lineEnd (letterF ∷ decimalDigit 0 ∷ lineEnd ++ (l ++ foot)))
-    ∙ ap around e
-    ∙ ap (λ (z : List ℕ). around (p ++ (lf ∷ letterC ∷ z))) (append-assoc c lineEnd (etx ∷ []))
-    ∙ sym
-    (ap begin (append-assoc (d ++ fields) (lf ∷ []) (etx ∷ []) ∙ append-assoc d fields (lf ∷ etx ∷ []))
-    ∙ ap around (append-assoc p (lf ∷ letterC ∷ (c ++ (star ∷ []))) (lf ∷ etx ∷ []))
-    ∙ ap (λ (z : List ℕ). around (p ++ (lf ∷ letterC ∷ z))) (append-assoc c (star ∷ []) (lf ∷ etx ∷ [])))
-
-upto-assembled : (fuses : ℕ) (pattern : List (List ℕ)) (image : List ℕ)
-    → upToEtx fuses pattern image ≡ headOf [] (writtenParts fuses pattern image) (lf ∷ [])
-unfolding upToEtx writtenParts partsText part
-upto-assembled fuses pattern image =
-    rw (parts-append (lineParts image 0 pattern) (part (letterC ∷ fourHex (sum16 image)) ∷ []))
-    (text-shifted (countDigits fuses) (linesText image 0 pattern) (fourHex (sum16 image)) (partsText (lineParts image 0 pattern))
-    (lines-shifted image 0 pattern (footText (sum16 image))))
-
--- Each part is right.
-part-right : (b : ℕ) (bytes : List ℕ) → all plain (b ∷ bytes) ≡ true → form.starts (b ∷ bytes) ≡ true → RightPart (part (b ∷ bytes))
-unfolding part all
-part-right b bytes h s = record { blank = refl; no-star = plain-no-star (b ∷ bytes) h; begins = s }
-
-lines-right : (image : List ℕ) (fuse : ℕ) (pattern : List (List ℕ)) (more : List Part) → RightParts more
-    → RightParts (lineParts image fuse pattern ++ more)
-unfolding lineParts
-lines-right image fuse [] more right = right
-lines-right image fuse (widths ∷ pattern) more right =
-    (part-right _ _ (line-plain image fuse widths) refl, lines-right image (fuse + total widths) pattern more right)
-
-parts-right : (fuses : ℕ) (pattern : List (List ℕ)) (image : List ℕ) → RightParts (writtenParts fuses pattern image)
-unfolding writtenParts all
-parts-right fuses pattern image = (
-  part-right _ _ (decimal-digits-plain _ fuses) refl,
-  (part-right _ _ refl refl, lines-right image 0 pattern _ (part-right _ _ (hex-digits-plain 4 (sum16 image)) refl, tt)),
-)
+use Rattle.jedec.proofs.Judging.{statesOf, count-judged, start-judged}
+use Rattle.jedec.proofs.Judging.{sum-judged, lineBytes, line-judged}
+use Rattle.jedec.proofs.WrittenFields.{afterLf, lineFields, writtenFields, upto-assembled, written-right}
 
 -- The fields are read one after the other.
-read-one : (k : Known) (at : ℕ) (bytes : List ℕ) (fields : List Field) (j : Judged) → judge bytes ≡ j → inOrder k j ≡ true
+read-one : (k : Given) (at : ℕ) (bytes : List ℕ) (fields : List Field) (j : Judged) → judge bytes ≡ j → inOrder k j ≡ true
     → allFields k (record { start = at; bytes = bytes } ∷ fields) ≡ allFields (after k at j) fields
 unfolding allFields
 read-one k at bytes fields j e h = rw (e, h)
@@ -127,34 +45,35 @@ listsOf : (at : ℕ) → (image : List ℕ) → (fuse : ℕ) → (pattern : List
 listsOf at image fuse [] = []
 listsOf at image fuse (widths ∷ pattern) =
     record { at = at + 1; first = fuse; states = statesOf image fuse (total widths) }
-    ∷ listsOf (next at (part (lineBytes image fuse widths))) image (fuse + total widths) pattern
+    ∷ listsOf (offsetAfter at (afterLf (lineBytes image fuse widths))) image (fuse + total widths) pattern
 
--- What is known after the count, the start state and some lines.
-knownWith : At → List Listed → Known
-knownWith q lists = record { count = some q; start = some 0; lists = lists; sum = none }
+-- What is given by the count, the start state and some lines.
+givenWith : At → List Listed → Given
+givenWith q lists = record { count = some q; start = some 0; lists = lists; sum = none }
 
 read-line : (q : At) (image : List ℕ) (at fuse : ℕ) (widths : List ℕ) (lists : List Listed) (fields : List Field)
     → 0 < total widths → fuse < 10 ^ 7
-    → allFields (knownWith q lists) (record { start = at + 1; bytes = lineBytes image fuse widths } ∷ fields)
-    ≡ allFields (knownWith q (lists ++ (record { at = at + 1; first = fuse; states = statesOf image fuse (total widths) } ∷ []))) fields
-unfolding knownWith
+    → allFields (givenWith q lists) (record { start = at + 1; bytes = lineBytes image fuse widths } ∷ fields)
+    ≡ allFields (givenWith q (lists ++ (record { at = at + 1; first = fuse; states = statesOf image fuse (total widths) } ∷ []))) fields
+unfolding givenWith
 read-line q image at fuse widths lists fields positive h =
-    read-one (knownWith q lists) (at + 1) (lineBytes image fuse widths) fields _ (line-judged image fuse widths h positive) refl
+    read-one (givenWith q lists) (at + 1) (lineBytes image fuse widths) fields _ (line-judged image fuse widths h positive) refl
 
-lines-read : (q : At) (image : List ℕ) (at fuse : ℕ) (pattern : List (List ℕ)) (lists : List Listed) (more : List Part)
+lines-read : (q : At) (image : List ℕ) (at fuse : ℕ) (pattern : List (List ℕ)) (lists : List Listed) (more : List SpacedField)
     → NoneEmpty pattern → fuse + patternFuses pattern < 10 ^ 7
-    → allFields (knownWith q lists) (fieldsOf at (lineParts image fuse pattern ++ more))
-    ≡ allFields (knownWith q (lists ++ listsOf at image fuse pattern)) (fieldsOf (form.partsEnd at (lineParts image fuse pattern)) more)
-unfolding fieldsOf lineParts listsOf patternFuses form.partsEnd part
+    → allFields (givenWith q lists) (fieldsOf at (lineFields image fuse pattern ++ more))
+    ≡ allFields (givenWith q (lists ++ listsOf at image fuse pattern)) (fieldsOf (form.offsetAfterAll at
+    (lineFields image fuse pattern)) more)
+unfolding fieldsOf lineFields listsOf patternFuses form.offsetAfterAll afterLf
 lines-read q image at fuse [] lists more positive h = rw (append-nil lists)
 lines-read q image at fuse (widths ∷ pattern) lists more positive h =
-    let p = part (lineBytes image fuse widths) in
+    let p = afterLf (lineBytes image fuse widths) in
     let l : Listed = record { at = at + 1; first = fuse; states = statesOf image fuse (total widths) } in
     read-line q image at fuse widths lists _ (positive .0) (omega arith)
-    ∙ lines-read q image (next at p) (fuse + total widths) pattern (lists ++ (l ∷ [])) more (positive .1) (omega arith)
+    ∙ lines-read q image (offsetAfter at p) (fuse + total widths) pattern (lists ++ (l ∷ [])) more (positive .1) (omega arith)
     ∙ ap (λ (ls : List Listed).
-    allFields (knownWith q ls) (fieldsOf (form.partsEnd (next at p) (lineParts image (fuse + total widths) pattern)) more))
-    (append-snoc lists l (listsOf (next at p) image (fuse + total widths) pattern))
+    allFields (givenWith q ls) (fieldsOf (form.offsetAfterAll (offsetAfter at p) (lineFields image (fuse + total widths) pattern)) more))
+    (append-snoc lists l (listsOf (offsetAfter at p) image (fuse + total widths) pattern))
 
 states-length : (image : List ℕ) (fuse width : ℕ) → length (statesOf image fuse width) ≡ width
 unfolding statesOf
@@ -205,56 +124,56 @@ byte-state image i b l = let q : (i * 8 + b) / 8 ≡ i = omega arith in let r : 
 pub image-given : (fuses : ℕ) (image : List ℕ) → Image fuses image → (states : ℕ → ℕ)
     → ((fuse : ℕ) → fuse < fuses → states fuse ≡ state image fuse) → imageWith fuses states ≡ image
 unfolding imageWith
-image-given fuses image its states same =
-    ext-getD 0 (tabulate ((fuses + 7) / 8) _) image (tabulate-length ((fuses + 7) / 8) _ ∙ sym (its .size))
+image-given fuses image is-image states same =
+    ext-getD 0 (tabulate ((fuses + 7) / 8) _) image (tabulate-length ((fuses + 7) / 8) _ ∙ sym (is-image .size))
     (λ i h.
     tabulate-at ((fuses + 7) / 8) _ i (rw (tabulate-length ((fuses + 7) / 8) _) at h)
     ∙ gathered-same _ (bitOf (getD image i 0)) 8 (λ b l. at-bit i b l)
     ∙ gathered-own (getD image i 0) 8
-    ∙ mod-eq-of-lt (its .bytes i))
+    ∙ mod-eq-of-lt (is-image .bytes i))
   where
     at-bit : (i b : ℕ) → b < 8 → within fuses states (i * 8 + b) ≡ bitOf (getD image i 0) b
     at-bit i b l =
         compared (i * 8 + b) fuses
         (λ less. rw (lt-ltb (i * 8 + b) fuses less) (same (i * 8 + b) less ∙ byte-state image i b l))
-        (λ more. rw (le-ltb (i * 8 + b) fuses more) (sym (its .no-more (i * 8 + b) more) ∙ byte-state image i b l))
+        (λ more. rw (le-ltb (i * 8 + b) fuses more) (sym (is-image .no-more (i * 8 + b) more) ∙ byte-state image i b l))
 
 -- The whole.
-module _ (fuses : ℕ) (pattern : List (List ℕ)) (image : List ℕ) (few : fuses < 10 ^ 7) (its : Image fuses image)
+module _ (fuses : ℕ) (pattern : List (List ℕ)) (image : List ℕ) (few : fuses < 10 ^ 7) (is-image : Image fuses image)
     (every-fuse : patternFuses pattern ≡ fuses) (none-empty : NoneEmpty pattern) where
-  parts : List Part
-  parts = writtenParts fuses pattern image
+  spaced : List SpacedField
+  spaced = writtenFields fuses pattern image
 
-  its-sum : ℕ
-  its-sum = sum16 (upToEtx fuses pattern image)
+  written-sum : ℕ
+  written-sum = sum16 (upToEtx fuses pattern image)
 
-  right-form : RightForm [] parts (lf ∷ []) (fourHex its-sum) [] its-sum
-  unfolding parts all holdsMark its-sum sum16
+  right-form : RightForm [] spaced (lf ∷ []) (fourHex written-sum) [] written-sum
+  unfolding spaced all holdsMark written-sum sum16
   right-form =
       record {
         design-no-star = refl;
         design-no-mark = refl;
-        right-parts = parts-right fuses pattern image;
+        right-fields = written-right fuses pattern image;
         blank-gap = refl;
-        hex-digits = sum-back its-sum (mod-lt _ (omega arith));
-        blank-end = refl;
+        hex-digits = sum-back written-sum (mod-lt _ (omega arith));
+        blank-tail = refl;
       }
 
-  assembled-text : textWith fuses pattern image ≡ assembled [] parts (lf ∷ []) (fourHex its-sum) []
-  unfolding textWith parts its-sum
+  assembled-text : textWith fuses pattern image ≡ assembled [] spaced (lf ∷ []) (fourHex written-sum) []
+  unfolding textWith spaced written-sum
   assembled-text =
-      ap (λ (h : List ℕ). h ++ fourHex its-sum) (upto-assembled fuses pattern image)
-      ∙ ap (λ (d : List ℕ). headOf [] parts (lf ∷ []) ++ d) (sym (append-nil (fourHex its-sum)))
+      ap (λ (h : List ℕ). h ++ fourHex written-sum) (upto-assembled fuses pattern image)
+      ∙ ap (λ (d : List ℕ). headOf [] spaced (lf ∷ []) ++ d) (sym (append-nil (fourHex written-sum)))
 
   -- What its fields give.
-  count-part : Part
-  count-part = part (letterQ ∷ letterF ∷ countDigits fuses)
+  written-count : SpacedField
+  written-count = afterLf (letterQ ∷ letterF ∷ countDigits fuses)
 
-  start-part : Part
-  start-part = part (letterF ∷ decimalDigit 0 ∷ [])
+  written-start : SpacedField
+  written-start = afterLf (letterF ∷ decimalDigit 0 ∷ [])
 
   lines-at : ℕ
-  lines-at = next (next 2 count-part) start-part
+  lines-at = offsetAfter (offsetAfter 2 written-count) written-start
 
   q : At
   q = record { at = 3; value = fuses }
@@ -262,51 +181,53 @@ module _ (fuses : ℕ) (pattern : List (List ℕ)) (image : List ℕ) (few : fus
   lists : List Listed
   lists = listsOf lines-at image 0 pattern
 
-  gives : Known
+  gives : Given
   gives =
       record {
         count = some q;
         start = some 0;
         lists = lists;
-        sum = some (record { at = form.partsEnd lines-at (lineParts image 0 pattern) + 1; value = sum16 image });
+        sum = some (record { at = form.offsetAfterAll lines-at (lineFields image 0 pattern) + 1; value = sum16 image });
       }
 
-  fields-read : allFields nothingKnown (fieldsOf (firstAt []) parts) ≡ known gives
-  unfolding parts writtenParts fieldsOf part allFields knownWith gives lists q lines-at count-part start-part sum16
+  fields-read : allFields nothingGiven (fieldsOf (firstAt []) spaced) ≡ allGood gives
+  unfolding spaced writtenFields fieldsOf afterLf allFields givenWith gives lists q lines-at written-count written-start sum16
   fields-read =
-      let sum-part = part (letterC ∷ fourHex (sum16 image)) in
-      let others = lineParts image 0 pattern ++ (sum-part ∷ []) in
-      let counted : Known = record { count = some q; start = none; lists = []; sum = none } in
-      read-one nothingKnown 3 (letterQ ∷ letterF ∷ countDigits fuses) (fieldsOf (next 2 count-part) (start-part ∷ others)) (count fuses)
+      let sum-part = afterLf (letterC ∷ fourHex (sum16 image)) in
+      let others = lineFields image 0 pattern ++ (sum-part ∷ []) in
+      let counted : Given = record { count = some q; start = none; lists = []; sum = none } in
+      read-one nothingGiven 3 (letterQ ∷ letterF ∷ countDigits fuses) (fieldsOf (offsetAfter 2 written-count) (written-start ∷ others))
+      (count fuses)
       (count-judged fuses few) refl
-      ∙ read-one counted (next 2 count-part + 1) (letterF ∷ decimalDigit 0 ∷ []) (fieldsOf lines-at others) (start 0) start-judged refl
+      ∙ read-one counted (offsetAfter 2 written-count + 1) (letterF ∷ decimalDigit 0 ∷ []) (fieldsOf lines-at others)
+      (start 0) start-judged refl
       ∙ lines-read q image lines-at 0 pattern [] (sum-part ∷ []) none-empty (omega (arith, every-fuse))
-      ∙ read-one (knownWith q lists) (form.partsEnd lines-at (lineParts image 0 pattern) + 1) (letterC ∷ fourHex (sum16 image)) []
+      ∙ read-one (givenWith q lists) (form.offsetAfterAll lines-at (lineFields image 0 pattern) + 1) (letterC ∷ fourHex (sum16 image)) []
       (sum (sum16 image)) (sum-judged (sum16 image) (mod-lt _ (omega arith))) refl
 
-  concluded : Concluded fuses (assembled [] parts (lf ∷ []) (fourHex its-sum) []) image (etxAt [] parts (lf ∷ [])) its-sum gives
-  unfolding gives q lists its-sum parts
+  concluded : Concluded fuses (assembled [] spaced (lf ∷ []) (fourHex written-sum) []) image (etxAt [] spaced (lf ∷ [])) written-sum gives
+  unfolding gives q lists written-sum spaced
   concluded =
       record {
         counted = record { count-field = q; has-count = refl; right-count = refl };
         in-place = lines-in-place fuses 0 lines-at image 0 pattern (omega arith) (omega (arith, every-fuse));
         as-image =
             sym
-            (image-given fuses image its (stateGiven 0 lists)
+            (image-given fuses image is-image (stateGiven 0 lists)
             (λ f l. lines-give lines-at image 0 pattern f (omega arith) (omega (arith, every-fuse))));
         right-sum =
-            λ c e. let same : record { at = form.partsEnd lines-at (lineParts image 0 pattern) + 1; value = sum16 image } ≡ c = cc in
+            λ c e. let same : record { at = form.offsetAfterAll lines-at (lineFields image 0 pattern) + 1; value = sum16 image } ≡ c = cc in
             ap (λ (x : At). x .value) (sym same);
         right-transmission =
             inr
             (ap sum16
             (upto-assembled fuses pattern image
-            ∙ sym (take-at (headOf [] parts (lf ∷ [])) (fourHex its-sum ++ []) (etxAt [] parts (lf ∷ []) + 1)
-            (head-length [] parts (lf ∷ [])))));
+            ∙ sym (take-at (headOf [] spaced (lf ∷ [])) (fourHex written-sum ++ []) (etxAt [] spaced (lf ∷ []) + 1)
+            (head-length [] spaced (lf ∷ [])))));
       }
 
   pub read-back : length (textWith fuses pattern image) ≤ longest → meaning fuses (textWith fuses pattern image) ≡ accepted image
   read-back short =
       rw assembled-text
-      (assembled-accepted [] parts (lf ∷ []) (fourHex its-sum) [] its-sum right-form fuses image gives
+      (assembled-accepted [] spaced (lf ∷ []) (fourHex written-sum) [] written-sum right-form fuses image gives
       (rw assembled-text at short) fields-read concluded)

@@ -2,30 +2,27 @@
 -- Assumes nothing. `InPlace` and `Described` stand in specs/Form.antt.
 use mathlib.Core.Path.{_≡_, refl, sym, _∙_, ap, subst}
 use mathlib.Core.Logic.{_↔_, inl, inr}
-use mathlib.Core.Bool.{Bool, true, false, cond, _&&_, _||_}
-use mathlib.Core.List.{List, [], _∷_, _++_}
-use mathlib.Core.Option.{Option}
+use mathlib.Core.Bool.{_&&_}
+use mathlib.Core.List.{List, [], _∷_}
 use mathlib.Core.Option.Option.{none, some}
-use Prim.Native.Nat.{ℕ, zero, suc, _+_, _*_, _-_, _/_, _%_, _<_, _≤_}
+use Prim.Native.Nat.{ℕ, _+_, _*_, _-_, _/_, _%_, _<_, _≤_}
 use native.Mathlib.Omega.{arith}
-use lib.Dec.{eqb, ltb, leb}
-use lib.ListN.{length, getD, take, drop, List·getD-eq-default}
-use borrow.Author.Tests.{lt-ltb, le-ltb, le-leb, lt-leb, eqb-true}
-use Rattle.part.proofs.Facts.{compared, either}
+use lib.Dec.{ltb, leb}
+use lib.ListN.{length, getD, List·getD-eq-default}
+use borrow.Author.Tests.{lt-ltb, le-ltb, le-leb, lt-leb}
+use Rattle.part.proofs.Facts.{compared}
 use Rattle.image.specs.Bits.{bitAt, gathered}
 use Rattle.image.specs.Image.{state}
 use Rattle.image.proofs.Bits.{bit-above, gathered-bit, gathered-small, tabulate-length, tabulate-at}
-use Rattle.jedec.specs.Characters.{isBlank, andThen, numberIn, sumIn, letterC, letterF, letterJ, letterL, letterN, letterP, letterQ}
-use Rattle.jedec.specs.Characters.{letterV, letterX}
-use Rattle.jedec.specs.Cut.{Field, holdsMark}
-use Rattle.jedec.specs.Judge.{Judged, orBad, startIn, unbroken, withFirst, statesIn, statesFrom, listIn, afterQ, byLetters, judge}
-use Rattle.jedec.specs.Judge.Judged.{count, start, list, sum, skipped, bad}
-use Rattle.jedec.specs.Rules.{Listed, Known, nothingKnown, inOrder, after, Fields, allFields, endOf, misplaced, startState}
+use Rattle.jedec.specs.Cut.{Field}
+use Rattle.jedec.specs.Judge.Judged.{start, bad}
+use Rattle.jedec.specs.Rules.{Listed, Given, nothingGiven, allFields, endOf, misplaced, startState}
 use Rattle.jedec.specs.Rules.{stateGiven, within, imageWith, finished}
-use Rattle.jedec.specs.Rules.Fields.{known, badAt}
+use Rattle.jedec.specs.Rules.Fields.{allGood}
 use Rattle.jedec.specs.Form.{InPlace, Each, Outside, Gives, Image, Described}
 use Rattle.jedec.proofs.Places.{chosen}
 use Rattle.jedec.proofs.ReadBack.{image-given}
+use Rattle.jedec.proofs.StateBits.{Bits, GivenBits, FieldsBits, fields-bits}
 
 module _ (fuses : ℕ) where
   -- The first of several L fields in their places.
@@ -53,105 +50,6 @@ module _ (fuses : ℕ) where
 
   pub in-place-iff : (end : ℕ) (lists : List Listed) → (misplaced fuses end lists ≡ none) ↔ InPlace fuses end lists
   in-place-iff end lists = (all-placed end lists, none-misplaced end lists)
-
--- The states that fields give are 0 or 1.
-abbrev Bits : List ℕ → Type 0
-Bits states = (i : ℕ) → getD states i 0 < 2
-
-abbrev ReadBits : Option (List ℕ) → Type 0
-ReadBits none = Unit {0}
-ReadBits (some states) = Bits states
-
-abbrev JudgedBits : Judged → Type 0
-JudgedBits (count n) = Unit {0}
-JudgedBits (start s) = s < 2
-JudgedBits (list first states) = Bits states
-JudgedBits (sum x) = Unit {0}
-JudgedBits skipped = Unit {0}
-JudgedBits bad = Unit {0}
-
-more-bits : (s : ℕ) (states : List ℕ) → s < 2 → Bits states → Bits (s ∷ states)
-more-bits s states h bits zero = h
-more-bits s states h bits (suc i) = bits i
-
-states-bits : (bytes : List ℕ) → ReadBits (statesIn bytes)
-unfolding statesIn
-states-bits [] = λ i. omega arith
-states-bits (b ∷ bytes) = chosen ReadBits (isBlank b) (states-bits bytes) (digit (states-bits bytes) (eqb b 48 || eqb b 49) refl)
-  where
-    before-bits : b - 48 < 2 → (o : Option (List ℕ)) → ReadBits o → ReadBits (andThen o (withFirst (b - 48)))
-    before-bits h none bits = tt
-    before-bits h (some states) bits = more-bits (b - 48) states h bits
-
-    digit : ReadBits (statesIn bytes) → (t : Bool) → (eqb b 48 || eqb b 49) ≡ t
-        → ReadBits (cond t (andThen (statesIn bytes) (withFirst (b - 48))) none)
-    digit bits true e =
-        before-bits (either (eqb b 48) (eqb b 49) e (λ z. omega (arith, eqb-true b 48 z)) (λ z. omega (arith, eqb-true b 49 z)))
-        (statesIn bytes) bits
-    digit bits false e = tt
-
-judged-bits : (bytes : List ℕ) → JudgedBits (judge bytes)
-unfolding judge listIn
-judged-bits bytes = chosen JudgedBits (holdsMark bytes) tt (by-letters bytes)
-  where
-    number : (o : Option ℕ) (f : ℕ → Judged) → ((x : ℕ) → JudgedBits (f x)) → JudgedBits (orBad o f)
-    number none f h = tt
-    number (some x) f h = h x
-
-    after-q : (rest : List ℕ) → JudgedBits (afterQ rest)
-    after-q [] = tt
-    after-q (b ∷ rest) =
-        chosen JudgedBits (eqb b letterF) (number (numberIn rest) count (λ x. tt))
-        (chosen JudgedBits (eqb b letterP || eqb b letterV) tt tt)
-
-    start-state : (rest : List ℕ) → JudgedBits (startIn rest)
-    start-state [] = tt
-    start-state (b ∷ []) = chosen JudgedBits (eqb b 48) (omega arith) (chosen JudgedBits (eqb b 49) (omega arith) tt)
-    start-state (b ∷ c ∷ rest) = tt
-
-    some-states : (o : Option (List ℕ)) → ReadBits o → (first : ℕ) → JudgedBits (statesFrom o first)
-    some-states none bits first = tt
-    some-states (some []) bits first = tt
-    some-states (some (s ∷ states)) bits first = bits
-
-    by-letters : (field : List ℕ) → JudgedBits (byLetters field)
-    by-letters [] = tt
-    by-letters (b ∷ rest) =
-        chosen JudgedBits (eqb b letterN || eqb b letterJ || eqb b letterX) tt
-        (chosen JudgedBits (eqb b letterQ) (after-q rest)
-        (chosen JudgedBits (eqb b letterF) (start-state rest)
-        (chosen JudgedBits (eqb b letterL) (number (numberIn (take (unbroken rest) rest)) _
-        (some-states (statesIn (drop (unbroken rest) rest)) (states-bits (drop (unbroken rest) rest))))
-        (chosen JudgedBits (eqb b letterC) (number (sumIn rest) sum (λ x. tt)) tt))))
-
-record KnownBits (k : Known) : Type 0 where
-  start : startState (k .start) < 2
-  lists : Each (λ l. Bits (l .states)) (k .lists)
-
-abbrev FieldsBits : Fields → Type 0
-FieldsBits (known k) = KnownBits k
-FieldsBits (badAt at) = Unit {0}
-
-one-more : (lists : List Listed) (l : Listed) → Each (λ m. Bits (m .states)) lists → Bits (l .states)
-    → Each (λ m. Bits (m .states)) (lists ++ (l ∷ []))
-one-more [] l bits h = (h, tt)
-one-more (m ∷ lists) l bits h = (bits .0, one-more lists l (bits .1) h)
-
-after-bits : (k : Known) (at : ℕ) (j : Judged) → KnownBits k → JudgedBits j → KnownBits (after k at j)
-after-bits k at (count n) bits h = record { start = bits .start; lists = bits .lists }
-after-bits k at (start s) bits h = record { start = h; lists = bits .lists }
-after-bits k at (list first states) bits h = record { start = bits .start; lists = one-more (k .lists) _ (bits .lists) h }
-after-bits k at (sum x) bits h = record { start = bits .start; lists = bits .lists }
-after-bits k at skipped bits h = bits
-after-bits k at bad bits h = bits
-
-fields-bits : (fields : List Field) (k : Known) → KnownBits k → FieldsBits (allFields k fields)
-unfolding allFields
-fields-bits [] k bits = bits
-fields-bits (f ∷ fields) k bits =
-    chosen FieldsBits (inOrder k (judge (f .bytes)))
-    (fields-bits fields _ (after-bits k (f .start) (judge (f .bytes)) bits (judged-bits (f .bytes))))
-    tt
 
 -- The state that the fields give a fuse.
 module _ (from : ℕ) where
@@ -251,11 +149,11 @@ module _ (fuses : ℕ) (states : ℕ → ℕ) (bits : (fuse : ℕ) → states fu
         no-more = λ fuse past. state-given fuse ∙ rw (le-ltb fuse fuses past);
       }
 
-module _ (fuses : ℕ) (fields : List Field) (k : Known) (in-order : allFields nothingKnown fields ≡ known k)
+module _ (fuses : ℕ) (fields : List Field) (k : Given) (in-order : allFields nothingGiven fields ≡ allGood k)
     (in-place : InPlace fuses 0 (k .lists)) where
   bits : (fuse : ℕ) → stateGiven (startState (k .start)) (k .lists) fuse < 2
   bits =
-      let b : KnownBits k = subst FieldsBits in-order (fields-bits fields nothingKnown (record { start = omega arith; lists = tt })) in
+      let b : GivenBits k = subst FieldsBits in-order (fields-bits fields nothingGiven (record { start = omega arith; lists = tt })) in
       given-bit (startState (k .start)) (k .lists) (b .start) (b .lists)
 
   is-given : (fuse : ℕ) → fuse < fuses → state (finished fuses k) fuse ≡ stateGiven (startState (k .start)) (k .lists) fuse
@@ -264,7 +162,7 @@ module _ (fuses : ℕ) (fields : List Field) (k : Known) (in-order : allFields n
   described : Described fuses k (finished fuses k)
   described =
       record {
-        its = image-of-given fuses (stateGiven (startState (k .start)) (k .lists)) bits;
+        is-image = image-of-given fuses (stateGiven (startState (k .start)) (k .lists)) bits;
         listed = each-gives (startState (k .start)) fuses (state (finished fuses k)) 0 (k .lists) in-place (λ fuse g h. is-given fuse h);
         others = λ fuse h o. is-given fuse h ∙ given-outside (startState (k .start)) fuse (k .lists) o;
       }
@@ -272,6 +170,6 @@ module _ (fuses : ℕ) (fields : List Field) (k : Known) (in-order : allFields n
   pub finished-state : (image : List ℕ) → (image ≡ finished fuses k) ↔ Described fuses k image
   finished-state image = (
     λ e. subst (Described fuses k) (sym e) described,
-    λ d. sym (image-given fuses image (d .its) (stateGiven (startState (k .start)) (k .lists))
+    λ d. sym (image-given fuses image (d .is-image) (stateGiven (startState (k .start)) (k .lists))
         (λ fuse h. gives-each (startState (k .start)) fuses (state image) fuse (k .lists) (d .listed) (d .others fuse h))),
   )

@@ -13,8 +13,8 @@ use Rattle.image.specs.Image.{sum16}
 use Rattle.jedec.specs.Characters.{stx}
 use Rattle.jedec.specs.Cut.{pieces, Cut, startsWith, fieldsFrom, holdsMark, Tail, tailFrom}
 use Rattle.jedec.specs.Cut.Tail.{given, wrong}
-use Rattle.jedec.specs.Rules.{At, Known, nothingKnown, Fields, allFields, wrongCount, misplaced, finished}
-use Rattle.jedec.specs.Rules.Fields.{known, badAt}
+use Rattle.jedec.specs.Rules.{At, Given, nothingGiven, Fields, allFields, wrongCount, misplaced, finished}
+use Rattle.jedec.specs.Rules.Fields.{allGood, badAt}
 
 -- "text over 1,048,576 bytes".
 abbrev pub longest : ℕ
@@ -35,7 +35,7 @@ abbrev pub wrongTransmission : (text : List ℕ) → (etx sum : ℕ) → Option 
 wrongTransmission text etx sum = cond (eqb sum 0 || eqb sum (sum16 (take (etx + 1) text))) none (some etx)
 
 -- A text of good form, by what its fields gave: 8, 9, 10, 11, or its image.
-unfoldable pub concluded : (fuses : ℕ) → (text : List ℕ) → (etx sum : ℕ) → Known → Outcome (List ℕ)
+unfoldable pub concluded : (fuses : ℕ) → (text : List ℕ) → (etx sum : ℕ) → Given → Outcome (List ℕ)
 concluded fuses text etx sum k =
     unless 8 (wrongCount fuses etx (k .count))
     (unless 9 (misplaced fuses 0 (k .lists))
@@ -44,20 +44,20 @@ concluded fuses text etx sum k =
 
 -- 7: after ETX the first wrong byte; for a text that ends early its length; the offset at which the first bad field
 -- starts.
-abbrev pub withTail : (fuses : ℕ) → (text : List ℕ) → (etx : ℕ) → Known → Tail → Outcome (List ℕ)
+abbrev pub withTail : (fuses : ℕ) → (text : List ℕ) → (etx : ℕ) → Given → Tail → Outcome (List ℕ)
 withTail fuses text etx k (given sum) = concluded fuses text etx sum k
 withTail fuses text etx k (wrong at) = refused 7 at
 
-abbrev pub withEnd : (fuses : ℕ) → (text : List ℕ) → Known → Option ℕ → Outcome (List ℕ)
+abbrev pub withEnd : (fuses : ℕ) → (text : List ℕ) → Given → Option ℕ → Outcome (List ℕ)
 withEnd fuses text k none = refused 7 (length text)
 withEnd fuses text k (some etx) = withTail fuses text etx k (tailFrom (etx + 1) 4 0 (drop (etx + 1) text))
 
 abbrev pub withFields : (fuses : ℕ) → (text : List ℕ) → (end : Option ℕ) → Fields → Outcome (List ℕ)
 withFields fuses text end (badAt at) = refused 7 at
-withFields fuses text end (known k) = withEnd fuses text k end
+withFields fuses text end (allGood k) = withEnd fuses text k end
 
 abbrev pub ofCut : (fuses : ℕ) → (text : List ℕ) → Cut → Outcome (List ℕ)
-ofCut fuses text cut = withFields fuses text (cut .end) (allFields nothingKnown (cut .fields))
+ofCut fuses text cut = withFields fuses text (cut .end) (allFields nothingGiven (cut .fields))
 
 -- The design text starts at 1, after STX, and is no field.
 abbrev pub ofPieces : (fuses : ℕ) → (text : List ℕ) → (ended : List (List ℕ)) → (rest : List ℕ) → Outcome (List ℕ)

@@ -1,4 +1,4 @@
--- What a judged field does to what is known so far, and what the finished fields say: the count, the start state, the
+-- What a judged field adds to what the fields before it gave, and what all fields give: the count, the start state, the
 -- lists of states, the fuse sum, and the image. Which fields may stand where is decided here and nowhere else.
 use Prim.Native.Nat.{ℕ, _+_, _*_, _-_, _/_}
 use mathlib.Core.Bool.{Bool, true, false, cond, not, _&&_, _||_}
@@ -24,14 +24,14 @@ pub record Listed : Type 0 where
   pub states : List ℕ
 
 -- What the fields so far gave: QF, F, the L fields in order, C.
-pub record Known : Type 0 where
+pub record Given : Type 0 where
   pub count : Option At
   pub start : Option ℕ
   pub lists : List Listed
   pub sum : Option At
 
-abbrev pub nothingKnown : Known
-nothingKnown = record { count = none; start = none; lists = []; sum = none }
+abbrev pub nothingGiven : Given
+nothingGiven = record { count = none; start = none; lists = []; sum = none }
 
 abbrev pub has : {A : Type 0} → Option A → Bool
 has none = false
@@ -43,7 +43,7 @@ hasAny (x ∷ xs) = true
 
 -- "`QF` .. exactly once, before any F, L or C. `F0` or `F1`, at most once, before any L. .. `C` .. at most once, after
 -- the last L (an L after it is the bad field)."
-abbrev pub inOrder : Known → Judged → Bool
+abbrev pub inOrder : Given → Judged → Bool
 inOrder k (count n) = not (has (k .count))
 inOrder k (start s) = has (k .count) && not (has (k .start)) && not (hasAny (k .lists))
 inOrder k (list first states) = has (k .count) && not (has (k .sum))
@@ -51,8 +51,8 @@ inOrder k (sum x) = has (k .count) && not (has (k .sum))
 inOrder k skipped = true
 inOrder k bad = false
 
--- What is known after a field that starts at an offset.
-abbrev pub after : Known → ℕ → Judged → Known
+-- What is given after a field that starts at an offset.
+abbrev pub after : Given → ℕ → Judged → Given
 after k at (count n) =
     record { count = some (record { at = at; value = n }); start = k .start; lists = k .lists; sum = k .sum }
 after k at (start s) = record { count = k .count; start = some s; lists = k .lists; sum = k .sum }
@@ -70,11 +70,11 @@ after k at bad = k
 
 -- All fields in order, or where the first bad one starts.
 pub data Fields : Type 0 where
-  known : Known → Fields
+  allGood : Given → Fields
   badAt : ℕ → Fields
 
-unfoldable pub allFields : Known → List Field → Fields
-allFields k [] = known k
+unfoldable pub allFields : Given → List Field → Fields
+allFields k [] = allGood k
 allFields k (f ∷ fields) =
     cond (inOrder k (judge (f .bytes))) (allFields (after k (f .start) (judge (f .bytes))) fields) (badAt (f .start))
 
@@ -110,5 +110,5 @@ within fuses states fuse = cond (ltb fuse fuses) (states fuse) 0
 unfoldable pub imageWith : (fuses : ℕ) → (ℕ → ℕ) → List ℕ
 imageWith fuses states = tabulate ((fuses + 7) / 8) (λ index. gathered (λ bit. within fuses states (index * 8 + bit)) 8)
 
-abbrev pub finished : (fuses : ℕ) → Known → List ℕ
+abbrev pub finished : (fuses : ℕ) → Given → List ℕ
 finished fuses k = imageWith fuses (stateGiven (startState (k .start)) (k .lists))

@@ -1,6 +1,5 @@
 -- What the writer writes for an image of so many fuses, by a line pattern: for each L line the widths of its columns.
--- "STX, `*`, LF; `QF`, the count, `*`, LF; `F0*`, LF; the L lines; `C`, four upper-case digits, `*`, LF;
--- ETX and four upper-case digits"
+-- The order of the parts and the form of each are document 01's, "Reading and writing the text".
 use Prim.Native.Nat.{ℕ, zero, suc, _+_, _<_}
 use mathlib.Core.List.{List, [], _∷_, _++_}
 use Rattle.cells.specs.Cells.{total}
@@ -39,7 +38,8 @@ abbrev pub NoneEmpty : (pattern : List (List ℕ)) → Type 0
 NoneEmpty [] = Unit {0}
 NoneEmpty (widths ∷ pattern) = (0 < total widths) × NoneEmpty pattern
 
--- What stands before the lines, and after them up to ETX.
+-- Before the lines: "STX, `*`, LF; `QF`, the count, `*`, LF; `F0*`, LF". After them: "`C`, four upper-case digits, `*`,
+-- LF; ETX".
 abbrev pub headText : (fuses : ℕ) → List ℕ
 headText fuses = stx ∷ lineEnd ++ letterQ ∷ letterF ∷ countDigits fuses ++ lineEnd ++ letterF ∷ decimalDigit 0 ∷ lineEnd
 
@@ -49,5 +49,6 @@ footText sum = letterC ∷ fourHex sum ++ lineEnd ++ etx ∷ []
 unfoldable pub upToEtx : (fuses : ℕ) → (pattern : List (List ℕ)) → (image : List ℕ) → List ℕ
 upToEtx fuses pattern image = headText fuses ++ linesText image 0 pattern ++ footText (sum16 image)
 
+-- "and four upper-case digits": the sum of all bytes before them.
 unfoldable pub textWith : (fuses : ℕ) → (pattern : List (List ℕ)) → (image : List ℕ) → List ℕ
 textWith fuses pattern image = upToEtx fuses pattern image ++ fourHex (sum16 (upToEtx fuses pattern image))

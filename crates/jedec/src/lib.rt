@@ -8,6 +8,9 @@ pub const STX: u8 = 2;
 
 pub const ETX: u8 = 3;
 
+// The bytes of the longest text that is read.
+pub const LONGEST_TEXT: u32 = 1048576;
+
 // Whether a byte is a blank: space, tab, CR or LF.
 pub fn is_blank(b: u8) -> bool
     ensures { λ r. ⌜ r ≡ isBlank b ⌝ }

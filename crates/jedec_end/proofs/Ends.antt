@@ -7,7 +7,7 @@ use Prim.Native.Nat.{ℕ}
 use native.Mathlib.Omega.{arith}
 use Rattle.part.specs.Outcome.{Outcome}
 use Rattle.part.specs.Outcome.Outcome.{accepted, refused}
-use Rattle.jedec.specs.Rules.{Known, wrongCount, misplaced, finished}
+use Rattle.jedec.specs.Rules.{Given, wrongCount, misplaced, finished}
 use Rattle.jedec.specs.Meaning.{wrongSum, wrongTransmission, concluded}
 use Rattle.jedec_progress.specs.Progress.{optionalField, optionalNumber}
 use Rattle.jedec_progress.specs.Progress.{ProgressKnows}
@@ -23,7 +23,7 @@ refused-reads o number value image e =
 
 module _ (fuses : ℕ) (text : List ℕ) (etx sum : ℕ) (p : Progress) (image : List ℕ) where
   abbrev pub Concludes : Outcome (Unit {0}) → Type 0
-  Concludes answer = (k : Known) → ProgressKnows fuses p k image → TextRead (concluded fuses text etx sum k) answer image
+  Concludes answer = (k : Given) → ProgressKnows fuses p k image → TextRead (concluded fuses text etx sum k) answer image
 
   module _ (a : OptionalNumber) (f : optionalNumber a ≡ wrongCount fuses etx (optionalField (p .count))) where
     pub eight : (at : ℕ) → a ≡ optional-number.Some at → Concludes (refused 8 at)
@@ -33,7 +33,7 @@ module _ (fuses : ℕ) (text : List ℕ) (etx sum : ℕ) (p : Progress) (image :
         refused-reads _ 8 at image (rw there)
 
     module _ (w : a ≡ optional-number.None) where
-      right-count : (k : Known) → ProgressKnows fuses p k image → wrongCount fuses etx (k .count) ≡ none
+      right-count : (k : Given) → ProgressKnows fuses p k image → wrongCount fuses etx (k .count) ≡ none
       right-count k g = rw (← g .count) (sym f ∙ ap optionalNumber w)
 
       pub nine : (at : ℕ) → p .misplaced ≡ optional-number.Some at → Concludes (refused 9 at)
@@ -43,11 +43,11 @@ module _ (fuses : ℕ) (text : List ℕ) (etx sum : ℕ) (p : Progress) (image :
           refused-reads _ 9 at image (rw (right-count k g, there))
 
       module _ (v : p .misplaced ≡ optional-number.None) where
-        in-place : (k : Known) → ProgressKnows fuses p k image → misplaced fuses 0 (k .lists) ≡ none
+        in-place : (k : Given) → ProgressKnows fuses p k image → misplaced fuses 0 (k .lists) ≡ none
         in-place k g = sym (g .faulty) ∙ ap optionalNumber v
 
         module _ (b : OptionalNumber) (h : optionalNumber b ≡ wrongSum image (optionalField (p .sum))) where
-          sum-there : (k : Known) → ProgressKnows fuses p k image → wrongSum (finished fuses k) (k .sum) ≡ optionalNumber b
+          sum-there : (k : Given) → ProgressKnows fuses p k image → wrongSum (finished fuses k) (k .sum) ≡ optionalNumber b
           sum-there k g = rw (← g .holds (in-place k g), ← g .sum) (sym h)
 
           pub ten : (at : ℕ) → b ≡ optional-number.Some at → Concludes (refused 10 at)

@@ -5,7 +5,7 @@ ghost use mathlib.Core.Option.Option.{some};
 ghost use Prim.Native.Nat.{_<_, _≤_};
 ghost use lib.ListN.{length};
 ghost use Rattle.part.specs.Answer.{doneOutcome};
-ghost use Rattle.jedec.specs.Rules.{Known, wrongCount};
+ghost use Rattle.jedec.specs.Rules.{Given, wrongCount};
 ghost use Rattle.jedec.specs.Meaning.{longest, wrongSum, wrongTransmission, concluded, withEnd};
 ghost use Rattle.jedec_progress.specs.Progress.{optionalField, optionalNumber, ProgressKnows};
 ghost use Rattle.jedec_end.specs.End.{TextRead};
@@ -70,7 +70,7 @@ fn conclude(
     image: &[u8],
 ) -> DoneAnswer
     requires { ⌜ (etx < length (now text)) × (length (now text) ≤ longest) ⌝ }
-    ensures { λ r. ⌜ ((k : Known) → ProgressKnows fuses p k (now (image .entry))
+    ensures { λ r. ⌜ ((k : Given) → ProgressKnows fuses p k (now (image .entry))
         → TextRead (concluded fuses (now (text .entry)) etx given k) (doneOutcome r) (now (image .entry))) ⌝ }
 {
     let count = p.count;
@@ -97,7 +97,7 @@ fn conclude(
 // The answer to a text by what stands from the ETX after the fields on.
 pub fn finish(fuses: u32, text: &[u8], etx: usize, p: Progress, image: &[u8]) -> DoneAnswer
     requires { ⌜ (etx < length (now text)) × (length (now text) ≤ longest) ⌝ }
-    ensures { λ r. ⌜ ((k : Known) → ProgressKnows fuses p k (now (image .entry))
+    ensures { λ r. ⌜ ((k : Given) → ProgressKnows fuses p k (now (image .entry))
         → TextRead (withEnd fuses (now (text .entry)) k (some etx)) (doneOutcome r) (now (image .entry))) ⌝ }
 {
     let tail = tail_from(text, etx + 1);

@@ -8,7 +8,7 @@ use mathlib.Core.Option.{Option}
 use mathlib.Core.Option.Option.{none, some}
 use lib.Dec.{ltb}
 use Rattle.jedec.specs.Form.{lastEnd}
-use Rattle.jedec.specs.Rules.{At, Known, has, hasAny, misplaced, startState, stateGiven, imageWith}
+use Rattle.jedec.specs.Rules.{At, Given, has, hasAny, misplaced, startState, stateGiven, imageWith}
 use Rattle.jedec.specs.Meaning.{longest}
 use Rattle.jedec_judge.specs.declared.FieldSays.{FieldSays}
 use Rattle.jedec_judge.specs.declared.FieldSays.the-variants as says
@@ -113,7 +113,7 @@ FewStates says.Skipped = Unit {0}
 FewStates says.Bad = Unit {0}
 
 -- What the reader knows is what the fields gave, and an image holds it unless an L is misplaced.
-pub record ProgressKnows (fuses : ℕ) (p : Progress) (k : Known) (image : List ℕ) : Type 0 where
+pub record ProgressKnows (fuses : ℕ) (p : Progress) (k : Given) (image : List ℕ) : Type 0 where
   pub count : optionalField (p .count) ≡ k .count
   pub start : optionalNumber (p .start) ≡ k .start
   pub listed : p .listed ≡ hasAny (k .lists)

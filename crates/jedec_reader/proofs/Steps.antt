@@ -11,7 +11,7 @@ use lib.Dec.{ltb}
 use lib.ListN.{length, drop}
 use borrow.Author.Tests.{lt-ltb, not-true}
 use Rattle.part.proofs.Facts.{compared, and-iff}
-use Rattle.jedec.specs.Rules.{Listed, Known, has, hasAny, inOrder, after, endOf, misplaced, startState}
+use Rattle.jedec.specs.Rules.{Listed, Given, has, hasAny, inOrder, after, endOf, misplaced, startState}
 use Rattle.jedec_judge.specs.Judged.{statesOf, judgedAfter, ListFits, SaysFits}
 use Rattle.jedec_judge.specs.declared.FieldSays.{FieldSays}
 use Rattle.jedec_judge.specs.declared.FieldSays.the-variants as says
@@ -25,7 +25,7 @@ use Rattle.jedec_progress.specs.declared.progress.OptionalNumber.{OptionalNumbe
 use Rattle.jedec_progress.specs.declared.progress.OptionalNumber.the-variants as optional-number
 use Rattle.jedec_progress.specs.declared.progress.Progress.{Progress}
 
-pub in-order : (fuses : ℕ) (p : Progress) (k : Known) (image rest : List ℕ) (s : FieldSays) → ProgressKnows fuses p k image
+pub in-order : (fuses : ℕ) (p : Progress) (k : Given) (image rest : List ℕ) (s : FieldSays) → ProgressKnows fuses p k image
     → mayStand p s ≡ inOrder k (judgedAfter rest s)
 in-order fuses p k image rest (says.Count n) g = rw (g .count)
 in-order fuses p k image rest (says.Start x) g = rw (g .count, g .start, g .listed)
@@ -86,7 +86,7 @@ module _ (fuses : ℕ) (lists : List Listed) (l : Listed) where
           let bad : some x ≡ none = sym (still-misplaced fuses l 0 lists x f) ∙ e in
           let z : _≡_ {A = ℕ} 0 1 = cc in absurd (omega arith)
 
-module _ (fuses : ℕ) (p : Progress) (k : Known) (image rest : List ℕ) (at : ℕ) (g : ProgressKnows fuses p k image) where
+module _ (fuses : ℕ) (p : Progress) (k : Given) (image rest : List ℕ) (at : ℕ) (g : ProgressKnows fuses p k image) where
   abbrev After : FieldSays → Type 0
   After s =
       ProgressKnows fuses (afterField fuses p at s) (after k at (judgedAfter rest s))

@@ -12,7 +12,7 @@ use Rattle.part.specs.Outcome.{Outcome}
 use Rattle.part.specs.Outcome.Outcome.{refused}
 use Rattle.jedec.specs.Cut.{Cut}
 use Rattle.jedec.specs.Judge.{judge}
-use Rattle.jedec.specs.Rules.{Known, nothingKnown, inOrder, after, allFields, misplaced, stateGiven, imageWith}
+use Rattle.jedec.specs.Rules.{Given, nothingGiven, inOrder, after, allFields, misplaced, stateGiven, imageWith}
 use Rattle.jedec.specs.Meaning.{longest, withEnd, withFields, ofCut}
 use Rattle.jedec_judge.specs.Judged.{judgedAfter, SaysFits, Says}
 use Rattle.jedec_fields.specs.Fields.{fieldsAt, cutOf, Inside, Stands}
@@ -33,12 +33,12 @@ use Rattle.jedec_reader.proofs.Steps.{in-order, put-fits, given-after}
 use Rattle.jedec_end.proofs.Ends.{refused-reads}
 
 -- The outcome of a text, by what is known before some of its fields.
-abbrev ofRest : (fuses : ℕ) → (text : List ℕ) → Known → Cut → Outcome (List ℕ)
+abbrev ofRest : (fuses : ℕ) → (text : List ℕ) → Given → Cut → Outcome (List ℕ)
 ofRest fuses text k cut = withFields fuses text (cut .end) (allFields k (cut .fields))
 
 -- What the fields so far gave, and the fields still to come.
 pub record Walks (fuses : ℕ) (text : List ℕ) (from : ℕ) (image₀ image : List ℕ) (p : Progress) (at : ℕ) : Type 0 where
-  pub k : Known
+  pub k : Given
   pub given : ProgressKnows fuses p k image
   pub size : length image ≡ (fuses + 7) / 8
   pub same : length image ≡ length image₀
@@ -50,7 +50,7 @@ pub starts : (fuses : ℕ) (text : List ℕ) (from : ℕ) (image : List ℕ) (p 
 unfolding misplaced lastEnd
 starts fuses text from image p none l e =
     rw none (record {
-      k = nothingKnown;
+      k = nothingGiven;
       given = record {
         count = refl;
         start = refl;
@@ -91,7 +91,7 @@ module _ (fuses : ℕ) (text : List ℕ) (from : ℕ) (image₀ image : List ℕ
     etx-there etx w = rw w at (s .inside)
 
     pub the-end : (etx : ℕ) (answer : Outcome (Unit {0})) → n ≡ next.End etx
-        → ((k : Known) → ProgressKnows fuses p k image → TextRead (withEnd fuses text k (some etx)) answer image)
+        → ((k : Given) → ProgressKnows fuses p k image → TextRead (withEnd fuses text k (some etx)) answer image)
         → TextRead (ofCut fuses text (fieldsAt from (drop from text))) answer image
     unfolding allFields
     the-end etx answer w f = rw (← by-next (next.End etx) w) (f (r .k) (r .given))

@@ -6,14 +6,15 @@
 --   main-fuses, wire-and-fuses "per main row 40, 38 and 30 bits, per wire-AND row 36"
 --   written-read               the text of any image of a known device is accepted for that device, and means that image
 use mathlib.Core.Path.{_≡_, refl}
-use mathlib.Core.Bool.{true, false}
+use mathlib.Core.Bool.{true}
 use mathlib.Core.List.{List, [], _∷_, _++_, map}
 use Prim.Native.Nat.{ℕ, zero, suc, _*_, _/_, _%_, _^_, _<_, _≤_}
 use native.Mathlib.Omega.{arith}
 use lib.ListN.{length, getD, List·getD-eq-default}
 use Rattle.cells.specs.Cells.{total, repeat}
 use Rattle.part.specs.Outcome.Outcome.{accepted}
-use Rattle.part.specs.Device.{known, fuseCount, imageBytes, textBytes}
+use Rattle.part.specs.Device.{known, mainRows, wireAndRows, fuseCount, imageBytes, textBytes}
+use Rattle.part.specs.declared.Area.the-variants.{Main, WireAnd}
 use Rattle.part.specs.declared.Device.{Device}
 use Rattle.part.proofs.Devices.{by-count, known-count, fuses-small, image-whole}
 use Rattle.image.specs.Bits.{bitAt, tabulate}
@@ -47,25 +48,27 @@ unfolding repeat
 filled-repeat zero lines f = tt
 filled-repeat (suc k) lines f = filled-append lines (repeat k lines) f (filled-repeat k lines f)
 
-main-filled : NoneEmpty (rowLines true)
+main-filled : NoneEmpty (rowLines Main)
 unfolding rowLines tabulate total
 main-filled = (omega arith, (omega arith, (omega arith, tt)))
 
-wire-and-filled : NoneEmpty (rowLines false)
+wire-and-filled : NoneEmpty (rowLines WireAnd)
 unfolding rowLines tabulate total
 wire-and-filled = (omega arith, tt)
 
 pub each-filled : (d : Device) → NoneEmpty (pattern d)
 unfolding pattern blockLines
 each-filled d =
-    filled-repeat (d .blocks) (blockLines d) (filled-append (repeat 72 (rowLines true)) (repeat (d .blocks * 18) (rowLines false))
-    (filled-repeat 72 (rowLines true) main-filled) (filled-repeat (d .blocks * 18) (rowLines false) wire-and-filled))
+    let rows = d .blocks * wireAndRows in
+    filled-repeat (d .blocks) (blockLines d)
+    (filled-append (repeat mainRows (rowLines Main)) (repeat rows (rowLines WireAnd))
+    (filled-repeat mainRows (rowLines Main) main-filled) (filled-repeat rows (rowLines WireAnd) wire-and-filled))
 
-pub main-fuses : map total (rowLines true) ≡ 40 ∷ 38 ∷ 30 ∷ []
+pub main-fuses : map total (rowLines Main) ≡ 40 ∷ 38 ∷ 30 ∷ []
 unfolding rowLines tabulate total
 main-fuses = refl
 
-pub wire-and-fuses : map total (rowLines false) ≡ 36 ∷ []
+pub wire-and-fuses : map total (rowLines WireAnd) ≡ 36 ∷ []
 unfolding rowLines tabulate total
 wire-and-fuses = refl
 

@@ -7,7 +7,7 @@ use Prim.Native.Nat.{ℕ, _+_, _*_, _-_, _/_, _^_, _≤_, _<_}
 use native.Mathlib.Omega.{arith}
 use native.Mathlib.Nat.{zero-add}
 use lib.ListN.{length, take, drop, replicate, length-append}
-use lib.Seq.{sets, sets-eq, take-at}
+use lib.Seq.{sets, take-at}
 use borrow.Author.Tests.{lt-ltb, le-ltb}
 use Rattle.cells.specs.Cells.{cut, number}
 use Rattle.cells.proofs.Laws.{sets-append}
@@ -22,9 +22,10 @@ use Rattle.part.proofs.Targets.{says}
 use Rattle.jedec.specs.Characters.{stx, etx, letterC, letterF, letterL, letterQ, decimalDigit, hexDigit, sevenDigits, countDigits, fourHex}
 use Rattle.jedec.specs.WrittenText.{lineEnd, linesText, headText, footText, upToEtx, textWith}
 use Rattle.jedec_writer.specs.Pattern.{pattern, textOf, toText, withText}
-use Rattle.jedec_writer.proofs.Tokens.{three-parts}
-use Rattle.jedec_writer.proofs.Words.{hex-cut}
-use Rattle.jedec_writer.proofs.LineCharacters.{digits-length, lines-length}
+use Rattle.jedec_lines.proofs.Stored.{three-parts, stored-first}
+use Rattle.jedec_lines.proofs.HexDigits.{hex-cut}
+use Rattle.jedec.proofs.Numbers.{digits-length}
+use Rattle.jedec_writer.proofs.Lines.{lines-length}
 use Rattle.jedec_writer.proofs.Sizes.{count-cut, text-size}
 
 -- The code's words around the count and the sum.
@@ -97,10 +98,7 @@ text-length d image =
     let up = upToEtx (fuseCount d) (pattern d) image in
     length-append up (fourHex (sum16 up)) ∙ rw (up-to-length d image, hex-length (sum16 up)) (omega (arith, text-size d))
 
--- What is stored from the first byte on is what the list then starts with.
-pub stored-first : (out bytes : List ℕ) (n : ℕ) → length bytes ≡ n → n ≤ length out → sets out 0 bytes ≡ bytes ++ drop n out
-stored-first out bytes n e h = sets-eq bytes out 0 (omega arith) ∙ rw (zero-add (length bytes), e)
-
+-- The whole text, from what each function stores.
 pub text-of : (d : Device) (image out one two three four : List ℕ) (digits end fuses last hex : ℕ) → textBytes d ≤ length out
     → digits ≡ decimalDigits (fuseCount d)
     → end ≡ textBytes d - 4 → fuses ≡ sum16 image → one ≡ sets out 0 (headText (fuseCount d))

@@ -1,4 +1,3 @@
--- The definitions that the contracts of `jedec_writer` cite: Pattern has those to believe, Tokens those worked with.
+-- The definitions that the contracts of `jedec_writer` cite: the line pattern of a device, and what the writer answers.
 -- Assumes nothing.
 pub mod Pattern
-pub mod Tokens

@@ -8,7 +8,6 @@ use part::Device;
 use part::NumberAnswer;
 use part::Refusal;
 
-pub mod lines;
 pub mod text;
 
 // The text of an image, put at the start of `text`: how many bytes it has. Refused: 1, 2, 12.

@@ -29,12 +29,14 @@ use Rattle.part.specs.declared.DoneAnswer.the-variants as answer
 use Rattle.jedec.specs.Characters.{lf, decimalDigit, hexDigit, countDigits, fourHex}
 use Rattle.jedec.specs.Cut.{pieces}
 use Rattle.jedec.specs.Meaning.{meaning}
-use Rattle.jedec_writer.proofs.LineCharacters.{digits-length}
-use Rattle.jedec_writer.proofs.TextParts.{stored-first}
+use Rattle.jedec.proofs.Numbers.{digits-length}
+use Rattle.jedec_lines.proofs.Stored.{stored-first}
 use Rattle.jedec_reader.specs.Reader.{verdict, resultOf, toImageFromText, imageIn}
-use Rattle.report.specs.Report.{ofBlocks, fieldsIn, firstCount, blocksBy, blocksFor, outcomeOf, wordBlocks, wordFuses, wordZero}
-use Rattle.report.specs.Report.{wordSum, wordRefused, wordAt, line, countLines, refusalLine, linesOf, reportOf, bytesPut, atStart}
-use Rattle.report.specs.Put.{Put}
+use Rattle.report_lines.specs.ReportLines.{wordBlocks, wordFuses, wordZero}
+use Rattle.report.specs.Report.{ofBlocks, fieldsIn, firstCount, blocksBy, blocksFor, outcomeOf}
+use Rattle.report_lines.specs.ReportLines.{wordSum, wordRefused, wordAt, line, countLines, refusalLine}
+use Rattle.report.specs.Report.{linesOf, reportOf, bytesPut, atStart}
+use Rattle.report_lines.specs.Put.{Put}
 
 -- The lines of an outcome, by what is answered and the image.
 image-lines : (d : Device) (o : Outcome (List ℕ)) (image : List ℕ) → accepted tt ≡ verdict o → image ≡ resultOf o

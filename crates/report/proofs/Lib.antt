@@ -1,7 +1,5 @@
 -- The laws about the report.
 -- Assumes nothing.
-pub mod Lines
 pub mod Choice
 pub mod Answers
-pub mod Cases
 pub mod Laws

@@ -1,5 +1,3 @@
--- The definitions that the contracts of `report` cite: Report has those to believe, Put what the proofs work with.
+-- The definitions that the contracts of `report` cite: which device a text is for, and what the bench program writes.
 -- Assumes nothing.
 pub mod Report
-pub mod Put
-pub mod Cases

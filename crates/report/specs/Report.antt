@@ -9,14 +9,13 @@ use lib.Dec.{eqb, ltb}
 use lib.ListN.{length, drop}
 use Rattle.part.specs.Outcome.{Outcome}
 use Rattle.part.specs.Outcome.Outcome.{accepted, refused}
-use Rattle.part.specs.Device.{blocksOf, fuseCount}
+use Rattle.part.specs.Device.{fuseCount}
 use Rattle.part.specs.declared.Device.{Device}
-use Rattle.image.specs.Image.{sum16, zerosBelow}
-use Rattle.jedec.specs.Characters.{lf, countDigits, fourHex}
 use Rattle.jedec.specs.Cut.{pieces, Field, fieldsFrom}
 use Rattle.jedec.specs.Judge.{Judged, judge}
 use Rattle.jedec.specs.Judge.Judged.{count, start, list, sum, skipped, bad}
 use Rattle.jedec.specs.Meaning.{meaning}
+use Rattle.report_lines.specs.ReportLines.{countLines, refusalLine}
 
 -- "at most 65,536 bytes".
 abbrev pub most : ℕ
@@ -58,41 +57,7 @@ blocksFor text = blocksBy (firstCount (fieldsIn (pieces text .ended) (pieces tex
 unfoldable pub outcomeOf : (text : List ℕ) → Outcome (List ℕ)
 outcomeOf text = cond (ltb most (length text)) (refused 7 most) (meaning (fuseCount (ofBlocks (blocksFor text))) text)
 
--- `blocks `, `fuses `, `zero `, `sum `, `refused `, ` at `.
-abbrev pub wordBlocks : List ℕ
-wordBlocks = 98 ∷ 108 ∷ 111 ∷ 99 ∷ 107 ∷ 115 ∷ 32 ∷ []
-
-abbrev pub wordFuses : List ℕ
-wordFuses = 102 ∷ 117 ∷ 115 ∷ 101 ∷ 115 ∷ 32 ∷ []
-
-abbrev pub wordZero : List ℕ
-wordZero = 122 ∷ 101 ∷ 114 ∷ 111 ∷ 32 ∷ []
-
-abbrev pub wordSum : List ℕ
-wordSum = 115 ∷ 117 ∷ 109 ∷ 32 ∷ []
-
-abbrev pub wordRefused : List ℕ
-wordRefused = 114 ∷ 101 ∷ 102 ∷ 117 ∷ 115 ∷ 101 ∷ 100 ∷ 32 ∷ []
-
-abbrev pub wordAt : List ℕ
-wordAt = 32 ∷ 97 ∷ 116 ∷ 32 ∷ []
-
--- A line: a word, digits, LF.
-abbrev pub line : (word digits : List ℕ) → List ℕ
-line word digits = word ++ digits ++ lf ∷ []
-
--- The four lines of an image.
-unfoldable pub countLines : Device → (image : List ℕ) → List ℕ
-countLines d image =
-    line wordBlocks (countDigits (blocksOf d))
-    ++ line wordFuses (countDigits (fuseCount d))
-    ++ line wordZero (countDigits (zerosBelow image (fuseCount d)))
-    ++ line wordSum (fourHex (sum16 image))
-
--- The line of a refusal.
-unfoldable pub refusalLine : (number value : ℕ) → List ℕ
-refusalLine number value = wordRefused ++ countDigits number ++ line wordAt (countDigits value)
-
+-- The lines of what a text means.
 abbrev pub linesOf : Device → Outcome (List ℕ) → List ℕ
 linesOf d (accepted image) = countLines d image
 linesOf d (refused number value) = refusalLine number value

@@ -13,7 +13,7 @@ fn buffer_for_text() -> [u8; 411300]
     [0; 411300]
 }
 
-// The answer of a call, and the digest of all the buffer that was lent to it.
+// The answer of a call, and the digest of the caller's whole buffer.
 fn written(name: &[u8], d: Device, image: &[u8], text: &mut [u8]) {
     vectors::fill(text, 4);
     let answer = capi::xc9500_image_to_text(d.blocks, d.class, image, text);

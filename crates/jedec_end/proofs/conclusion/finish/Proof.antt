@@ -9,7 +9,7 @@ use lib.ListN.{length, drop}
 use Rattle.part.specs.Outcome.{Outcome}
 use Rattle.part.specs.Outcome.Outcome.{refused}
 use Rattle.jedec.specs.Cut.{tailFrom}
-use Rattle.jedec.specs.Rules.{Known}
+use Rattle.jedec.specs.Rules.{Given}
 use Rattle.jedec.specs.Meaning.{longest, concluded, withEnd}
 use Rattle.jedec_end.specs.End.{tailOf, TailFits, TailStands}
 use Rattle.jedec_end.specs.declared.tail.TailSays.{TailSays}
@@ -27,13 +27,13 @@ module _ (fuses : ℕ) (text : List ℕ) (etx : ℕ) (p : Progress) (image : Lis
   small : (at : ℕ) → t ≡ tail.Wrong at → length text ≤ longest → at < 2 ^ 32
   small at w l = let inside : TailFits text (tail.Wrong at) = rw w at (s .fits) in omega arith
 
-  wrong-byte : (at : ℕ) → t ≡ tail.Wrong at → (k : Known) → ProgressKnows fuses p k image
+  wrong-byte : (at : ℕ) → t ≡ tail.Wrong at → (k : Given) → ProgressKnows fuses p k image
       → TextRead (withEnd fuses text k (some etx)) (refused 7 at) image
   wrong-byte at w k g = refused-reads _ 7 at image (rw (sym (s .is) ∙ ap tailOf w))
 
   a-tail : (sum : ℕ) (answer : Outcome (Unit {0})) → t ≡ tail.Given sum
-      → ((k : Known) → ProgressKnows fuses p k image → TextRead (concluded fuses text etx sum k) answer image)
-      → (k : Known) → ProgressKnows fuses p k image → TextRead (withEnd fuses text k (some etx)) answer image
+      → ((k : Given) → ProgressKnows fuses p k image → TextRead (concluded fuses text etx sum k) answer image)
+      → (k : Given) → ProgressKnows fuses p k image → TextRead (withEnd fuses text k (some etx)) answer image
   a-tail sum answer w c k g = rw (sym (s .is) ∙ ap tailOf w) (c k g)
 
 add-tail-from : tie.Need-add-tail-from

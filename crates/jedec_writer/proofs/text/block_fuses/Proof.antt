@@ -6,17 +6,20 @@ use borrow.Author.Needs.{needs}
 use Rattle.jedec_writer.proofs.text.block_fuses.Statement.{statement}
 use Rattle.jedec_writer.proofs.text.block_fuses.Tie as tie
 
-cast-n : tie.Need-cast-n
-cast-n c = search needs
+in-block-requires : tie.Need-in-block-requires
+in-block-requires c κs = search needs
 
-mul-result : tie.Need-mul-result
-mul-result c = search needs
-
-add-result : tie.Need-add-result
-add-result c = search needs
+cast-result : tie.Need-cast-result
+cast-result c = search needs
 
 returns : tie.Need-returns
-returns c = omega (arith, block-size (c .before .args .d), block-small (c .before .args .d) (c .before .pre))
+returns c =
+    omega (arith, block-size (c .before .args .d), block-small (c .before .args .d) (c .before .pre), c .in-block .ensures)
 
 pub block-fuses-spec : {M : Type 1} → statement M
-block-fuses-spec = tie.close (tie.spec cast-n mul-result add-result returns)
+block-fuses-spec =
+    tie.close
+    (tie.spec
+    in-block-requires
+    cast-result
+    returns)

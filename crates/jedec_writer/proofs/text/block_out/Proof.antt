@@ -1,7 +1,7 @@
 -- `block_out` meets its contract: the main rows, and the wire-AND rows behind them.
 -- Assumes nothing.
 use Rattle.jedec_writer.proofs.Sizes.{block-size, main-size, wire-and-size}
-use mathlib.Core.Bool.{true, false}
+use Rattle.part.specs.declared.Area.the-variants.{Main, WireAnd}
 use mathlib.Core.Path.{refl}
 use native.Mathlib.Omega.{arith}
 use Rattle.jedec_writer.proofs.Sizes.{block-of-rows}
@@ -10,7 +10,7 @@ use Rattle.jedec_writer.proofs.text.block_out.Statement.{statement}
 use Rattle.jedec_writer.proofs.text.block_out.Tie as tie
 
 rows-out-requires : tie.Need-rows-out-requires
-rows-out-requires c κs = omega (arith, block-size (c .before .before .before .args .d), main-size true refl, c .before .before .before .pre)
+rows-out-requires c κs = omega (arith, block-size (c .before .before .before .args .d), main-size Main refl, c .before .before .before .pre)
 
 cast-rows : tie.Need-cast-rows
 cast-rows c = search needs
@@ -25,12 +25,11 @@ add-rows-out-2 : tie.Need-add-rows-out-2
 add-rows-out-2 c = search needs
 
 rows-out-requires-2 : tie.Need-rows-out-requires-2
-rows-out-requires-2 c κs = rw (wire-and-size false refl .0, wire-and-size false refl .1) (omega (
-  arith,
-  block-size (c .before .before .before .before .before .before .before .before .args .d),
-  c .before .before .before .before .before .before .before .before .pre,
-  c .before .before .before .before .rows-out .kept,
-))
+rows-out-requires-2 c κs =
+    let rows = c .before .before .before .before in
+    let entry = rows .before .before .before .before in
+    rw (wire-and-size WireAnd refl .0, wire-and-size WireAnd refl .1)
+    (omega (arith, block-size (entry .args .d), entry .pre, rows .rows-out .kept))
 
 same-length : tie.Need-same-length
 same-length c = search needs

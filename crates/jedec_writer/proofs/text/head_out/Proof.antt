@@ -17,31 +17,22 @@ line-start-requires : tie.Need-line-start-requires
 line-start-requires c κs = search (needs, count-small)
 
 mul-put-cells : tie.Need-mul-put-cells
-mul-put-cells c = omega (
-  arith,
-  count-digits (c .before .before .before .before .before .before .before .args .d)
-      (c .before .before .before .before .before .before .before .args .digits)
-      (c .before .before .before .before .before .before .before .pre .0)
-      (c .before .before .before .before .before .before .before .pre .1),
-)
+mul-put-cells c =
+    let count = c .before .before .before in
+    let entry = count .before .before .before .before in
+    omega (arith, count-digits (entry .args .d) (entry .args .digits) (entry .pre .0) (entry .pre .1))
 
 sub-put-cells : tie.Need-sub-put-cells
-sub-put-cells c = omega (
-  arith,
-  count-digits (c .before .before .before .before .before .before .before .args .d)
-      (c .before .before .before .before .before .before .before .args .digits)
-      (c .before .before .before .before .before .before .before .pre .0)
-      (c .before .before .before .before .before .before .before .pre .1),
-)
+sub-put-cells c =
+    let count = c .before .before .before in
+    let entry = count .before .before .before .before in
+    omega (arith, count-digits (entry .args .d) (entry .args .digits) (entry .pre .0) (entry .pre .1))
 
 shr-put-cells : tie.Need-shr-put-cells
-shr-put-cells c = omega (
-  arith,
-  count-digits (c .before .before .before .before .before .before .before .args .d)
-      (c .before .before .before .before .before .before .before .args .digits)
-      (c .before .before .before .before .before .before .before .pre .0)
-      (c .before .before .before .before .before .before .before .pre .1),
-)
+shr-put-cells c =
+    let count = c .before .before .before in
+    let entry = count .before .before .before .before in
+    omega (arith, count-digits (entry .args .d) (entry .args .digits) (entry .pre .0) (entry .pre .1))
 
 put-cells-requires-2 : tie.Need-put-cells-requires-2
 put-cells-requires-2 c κs = search needs

@@ -1,0 +1,3 @@
+-- The laws that the proofs of `report_lines` cite.
+-- Assumes nothing.
+pub mod PutBytes

@@ -1,0 +1,66 @@
+-- `put_digits` meets its contract: the digits still to come, from the last on.
+-- Assumes nothing.
+use mathlib.Core.Path.{_≡_}
+use Prim.Native.Nat.{_≤_}
+use lib.ListN.{length}
+use lib.Seq.{sets}
+use Rattle.jedec.specs.Characters.{decimalDigit, digitsOf}
+use Rattle.report_lines.proofs.PutBytes.{digit-put, no-digit}
+use borrow.Author.Needs.{needs}
+use Rattle.report_lines.proofs.lines.put_digits.Statement.{statement}
+use Rattle.report_lines.proofs.lines.put_digits.Tie as tie
+
+abbrev Inv-loop : tie.InvT-loop
+Inv-loop x count out₀ at rest₀ i₀ out rest i =
+    (i ≤ count) × (length out ≡ length out₀)
+    × (sets out at (digitsOf 10 decimalDigit i rest) ≡ sets out₀ at (digitsOf 10 decimalDigit count x))
+
+abbrev μ-loop : tie.MeasureT-loop
+μ-loop x count out₀ at rest₀ i₀ out rest i = i
+
+loop-holds : tie.Need-loop-holds Inv-loop μ-loop
+loop-holds c = search needs
+
+sub-i : tie.Need-sub-i Inv-loop μ-loop
+sub-i c = search needs
+
+cast-out : tie.Need-cast-out Inv-loop μ-loop
+cast-out c = search needs
+
+add-out : tie.Need-add-out Inv-loop μ-loop
+add-out c = search needs
+
+add-out-2 : tie.Need-add-out-2 Inv-loop μ-loop
+add-out-2 c = search needs
+
+slice-write-out : tie.Need-slice-write-out Inv-loop μ-loop
+slice-write-out c = search needs
+
+loop-less : tie.Need-loop-less Inv-loop μ-loop
+loop-less c = search needs
+
+loop-again : tie.Need-loop-again Inv-loop μ-loop
+loop-again c = search (needs, digit-put)
+
+same-length : tie.Need-same-length Inv-loop μ-loop
+same-length c = search needs
+
+returns : tie.Need-returns Inv-loop μ-loop
+returns c = search (needs, no-digit)
+
+pub put-digits-spec : {M : Type 1} → statement M
+put-digits-spec =
+    tie.close
+    (tie.spec
+    Inv-loop
+    μ-loop
+    loop-holds
+    sub-i
+    cast-out
+    add-out
+    add-out-2
+    slice-write-out
+    loop-less
+    loop-again
+    same-length
+    returns)

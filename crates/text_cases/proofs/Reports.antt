@@ -1,0 +1,54 @@
+-- What the bench program writes for the texts of specs/Reports.antt.
+-- Assumes nothing.
+use mathlib.Core.Path.{_≡_, refl}
+use mathlib.Core.Option.{orElse}
+use Rattle.part.specs.Device.{fuseCount}
+use Prim.Native.Nat.{_+_, _*_}
+use native.Mathlib.Omega.{arith}
+use lib.Count.{ones}
+use lib.ListN.{length}
+use Rattle.image.specs.Bits.{bitAt, onesIn}
+use Rattle.image.proofs.Counts.{zeros-and-ones}
+use Rattle.text_cases.specs.Texts.{allOnes}
+use Rattle.image.specs.Image.{byteSum, sum16, state, zerosBelow}
+use Rattle.jedec.specs.Characters.{digitsRead, numberIn, sumIn, digitsOf}
+use Rattle.jedec.specs.Cut.{pieces, blanksBefore, fieldsFrom, holdsMark, tailFrom}
+use Rattle.jedec.specs.Judge.{unbroken, statesIn, listIn, judge}
+use Rattle.jedec.specs.Rules.{allFields, misplaced}
+use Rattle.jedec.specs.Meaning.{meaning, concluded}
+use Rattle.text_cases.proofs.Texts.{all-ones}
+use Rattle.report_lines.specs.ReportLines.{countLines, refusalLine}
+use Rattle.report.specs.Report.{firstCount, blocksFor, outcomeOf, reportOf}
+use Rattle.text_cases.specs.Reports.{BenchText, EmptyText, FourBlocks, TwoBlocks}
+
+pub empty-text : EmptyText
+unfolding reportOf outcomeOf blocksFor firstCount countLines refusalLine fuseCount meaning concluded pieces blanksBefore fieldsFrom
+    holdsMark tailFrom unbroken statesIn listIn judge allFields misplaced digitsRead numberIn sumIn byteSum sum16 digitsOf
+    zerosBelow state bitAt orElse
+empty-text = refl
+
+pub four-blocks : FourBlocks
+unfolding reportOf outcomeOf blocksFor firstCount countLines refusalLine fuseCount meaning concluded pieces blanksBefore fieldsFrom
+    holdsMark tailFrom unbroken statesIn listIn judge allFields misplaced digitsRead numberIn sumIn byteSum sum16 digitsOf
+    zerosBelow state bitAt orElse
+four-blocks = refl
+
+pub two-blocks : TwoBlocks
+unfolding reportOf outcomeOf blocksFor firstCount countLines refusalLine fuseCount meaning concluded pieces blanksBefore fieldsFrom
+    holdsMark tailFrom unbroken statesIn listIn judge allFields misplaced digitsRead numberIn sumIn byteSum sum16 digitsOf
+    zerosBelow state bitAt orElse
+two-blocks = refl
+
+all-ones-in : onesIn allOnes ≡ 18144
+unfolding onesIn ones
+all-ones-in = refl
+
+no-zeros : zerosBelow allOnes 18144 ≡ 0
+no-zeros =
+    let e : zerosBelow allOnes (length allOnes * 8) + onesIn allOnes ≡ length allOnes * 8 = zeros-and-ones allOnes in
+    omega (arith, e, all-ones-in)
+
+pub bench-text : BenchText
+unfolding reportOf outcomeOf blocksFor firstCount countLines refusalLine fuseCount meaning concluded pieces blanksBefore fieldsFrom
+    holdsMark tailFrom unbroken statesIn listIn judge allFields misplaced digitsRead numberIn sumIn byteSum sum16 digitsOf orElse
+bench-text = rw (all-ones, no-zeros)
