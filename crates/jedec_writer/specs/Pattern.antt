@@ -10,7 +10,7 @@ use Rattle.part.specs.Outcome.{Outcome}
 use Rattle.part.specs.Outcome.Outcome.{accepted, refused}
 use Rattle.part.specs.Device.{blocksOf, mainRows, mainWidth, wireAndRows, wireAndWidth, fuseCount, imageBytes}
 use Rattle.part.specs.Device.{textBytes}
-use Rattle.part.specs.Convert.{ifKnown, ifLength}
+use Rattle.part.specs.Sizes.{ifKnown, ifLength}
 use Rattle.part.specs.declared.Device.{Device}
 use Rattle.image.specs.Bits.{tabulate}
 use Rattle.jedec.specs.WrittenText.{textWith}

@@ -13,13 +13,14 @@ use borrow.Author.Tests.{lt-ltb, ltb-true}
 use Rattle.cells.specs.Cells.{cut, join, number}
 use Rattle.cells.proofs.Laws.{cut-at, cut-length, total-repeat}
 use Rattle.part.specs.Device.{known, fuseCount, imageBytes, readoutBytes}
-use Rattle.part.specs.Place.{hasByte, hasPlace, widthOf, firstFuse, placeOfFuse, indexOfByte, byteOfIndex}
+use Rattle.part.specs.Place.{hasByte, hasPlace, widthOf, firstFuse, placeOfFuse}
+use Rattle.addresses.specs.Address.{indexOfByte, byteOfIndex}
 use Rattle.part.specs.declared.Device.{Device}
 use Rattle.part.specs.declared.BytePlace.{BytePlace}
 use Rattle.part.proofs.Facts.{and-iff}
 use Rattle.part.proofs.Devices.{image-whole}
 use Rattle.part.proofs.Fuses.{at-fuse, of-place}
-use Rattle.part.proofs.Readouts.{at-index, of-byte}
+use Rattle.addresses.proofs.Readouts.{at-index, of-byte}
 use Rattle.image.specs.Bits.{bitOf, bitAt}
 use Rattle.image.specs.Image.{state, imageFrom}
 use Rattle.image.proofs.Numbers.{At, at-replicate, joined-bit, number-bit}

@@ -13,7 +13,8 @@ use borrow.Author.Tests.{lt-ltb, le-ltb}
 use Rattle.cells.specs.Cells.{total, repeat}
 use Rattle.cells.proofs.Laws.{total-append, total-repeat, total-replicate, length-repeat}
 use Rattle.part.specs.Device.{known, readoutBytes, blockBytes, blockFuses, columnWidth, columnStart}
-use Rattle.part.specs.Place.{widthOf, firstFuse, byteOfIndex, byteInBlock}
+use Rattle.part.specs.Place.{widthOf, firstFuse}
+use Rattle.addresses.specs.Address.{byteOfIndex, byteInBlock}
 use Rattle.part.specs.declared.Device.{Device}
 use Rattle.part.specs.declared.BytePlace.{BytePlace}
 use Rattle.part.proofs.Facts.{compared, by-cases}

@@ -9,7 +9,8 @@ use lib.Dec.{eqb}
 use lib.ListN.{length, getD}
 use borrow.Author.Tests.{ne-eqb}
 use Rattle.part.specs.Device.{known, readoutBytes}
-use Rattle.part.specs.Place.{hasByte, widthOf, indexOfByte}
+use Rattle.part.specs.Place.{hasByte, widthOf}
+use Rattle.addresses.specs.Address.{indexOfByte}
 use Rattle.part.specs.declared.Device.{Device}
 use Rattle.part.specs.declared.Place.{Place}
 use Rattle.settings.specs.Settings.{hasSetting}
