@@ -34,7 +34,7 @@ at-index d index h =
     (λ l. (simp tests (omega arith), omega arith))
     (λ g. (simp tests (omega arith), omega arith))
 
--- The index of a byte of the device is below the number of bytes, and the byte is found again.
+-- The index of a byte of the device is below the number of bytes, and the byte is found from it.
 abbrev pub Indexed : Device → BytePlace → Type 0
 Indexed d byte = (indexOfByte d byte < readoutBytes d) × (byteOfIndex d (indexOfByte d byte) ≡ byte)
 

@@ -19,10 +19,10 @@ ghost use Rattle.edit_by_number.specs.ByNumber.{readPattern, setPattern, withNu
 ghost use Rattle.capi.specs.Packed.{packed, refusalWord, device, addressAndBit, itself, noResult, orNone};
 ghost use Rattle.capi.specs.Packed.{settingAndBit, through};
 use addresses::AddressAnswer;
-use part::Device;
 use addresses::DeviceAddress;
-use part::DoneAnswer;
 use addresses::FuseAnswer;
+use part::Device;
+use part::DoneAnswer;
 use part::FuseNumber;
 use part::NumberAnswer;
 use part::Refusal;

@@ -153,16 +153,22 @@ same-length c = search needs
 
 same-length-2 : tie.Need-same-length-2
 same-length-2 c =
-    let converting = c .before .before .before .before .before .before .before .before .before .before in
-    let setting = converting .before .before .before .before .before .before .before .before .before in
-    let beginning = setting .before .before .before .before .before .before .before in
+    let reading = c .before .before .before .before .before in
+    let converting = reading .before .before .before .before .before in
+    let converted = converting .before .before .before .before .before in
+    let setting = converted .before .before .before .before in
+    let set = setting .before .before .before .before in
+    let beginning = set .before .before .before in
     omega (arith, beginning .begin .kept, setting .set-both .kept)
 
 same-length-3 : tie.Need-same-length-3
 same-length-3 c =
-    let converting = c .before .before .before .before .before .before .before .before .before .before in
-    let setting = converting .before .before .before .before .before .before .before .before .before in
-    let beginning = setting .before .before .before .before .before .before .before in
+    let reading = c .before .before .before .before .before in
+    let converting = reading .before .before .before .before .before in
+    let converted = converting .before .before .before .before .before in
+    let setting = converted .before .before .before .before in
+    let set = setting .before .before .before .before in
+    let beginning = set .before .before .before in
     omega (arith, beginning .begin .kept)
 
 same-length-4 : tie.Need-same-length-4
@@ -173,9 +179,12 @@ same-length-5 c = search needs
 
 returns : tie.Need-returns
 returns c =
-    let converting = c .before .before .before .before .before .before .before .before .before .before in
-    let setting = converting .before .before .before .before .before .before .before .before .before in
-    let beginning = setting .before .before .before .before .before .before .before in
+    let reading = c .before .before .before .before .before in
+    let converting = reading .before .before .before .before .before in
+    let converted = converting .before .before .before .before .before in
+    let setting = converted .before .before .before .before in
+    let set = setting .before .before .before .before in
+    let beginning = set .before .before .before in
     ran _ _ _ _ _ _ _ _ _ _ _ _ _ _ _ _ (beginning .begin .ensures) (setting .set-both .ensures) (converting .convert-both .ensures)
     (c .before .before .before .read-both .ensures) (c .read-both2 .ensures)
 

@@ -77,7 +77,7 @@ with-field-requires-8 : tie.Need-with-field-requires-8
 with-field-requires-8 c κs = omega (arith, in-wire-and (c .before .before .before .before))
 
 returns : tie.Need-returns
-returns c = rw (c .before .before .before .before .before .before .byte .given .1) (omega arith)
+returns c = let composed = c .before .before .before in rw (composed .before .before .before .byte .given .1) (omega arith)
 
 returns-2 : tie.Need-returns-2
 returns-2 c = rw (c .before .before .before .before .before .byte2 .given .1) (omega arith)
