@@ -1,5 +1,5 @@
--- The address of a byte, composed of fields; which addresses are valid; and the order of the bytes in a readout, which is
--- that of their addresses (document 01, "Addresses" and "Device readout").
+-- The address of a byte, composed of fields; which addresses are valid; and the order of the bytes in a readout,
+-- which is that of their addresses (document 01, "Three pictures of one part").
 use Prim.Native.Nat.{ℕ, _+_, _*_, _-_, _/_, _%_, _^_}
 use mathlib.Core.Bool.{Bool, cond, _&&_}
 use lib.Dec.{eqb, ltb}

@@ -16,7 +16,7 @@ use Rattle.part.specs.declared.DoneAnswer.the-variants as done
 use Rattle.part.specs.declared.NumberAnswer.{NumberAnswer}
 use Rattle.part.specs.declared.NumberAnswer.the-variants as answer
 
--- "no.".
+-- "no."
 abbrev pub refusalNumber : Refusal → ℕ
 refusalNumber UnknownDevice = 1
 refusalNumber WrongLength = 2

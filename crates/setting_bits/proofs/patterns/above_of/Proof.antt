@@ -80,10 +80,12 @@ above-width-requires c κs =
     (search (needs, index-in, c .before .before .before .before .in-whole-bytes .ensures .1), search (needs, width-in))
 
 returns-2 : tie.Need-returns-2
-returns-2 c = let located = c .before .before .before in search (needs, one-above, located .before .before .before .in-whole-bytes .ensures .1)
+returns-2 c =
+    let located = c .before .before .before in search (needs, one-above, located .before .before .before .in-whole-bytes .ensures .1)
 
 returns-3 : tie.Need-returns-3
-returns-3 c = let located = c .before .before .before in search (needs, clean, located .before .before .before .in-whole-bytes .ensures .1)
+returns-3 c =
+    let located = c .before .before .before in search (needs, clean, located .before .before .before .in-whole-bytes .ensures .1)
 
 pub above-of-spec : {M : Type 1} → statement M
 above-of-spec =
