@@ -15,12 +15,14 @@ use borrow.Author.Tests.{lt-ltb, ltb-true}
 use Rattle.part.specs.Outcome.{Outcome}
 use Rattle.part.specs.Outcome.Outcome.{accepted, refused}
 use Rattle.part.specs.Device.{known, fuseCount, imageBytes, readoutBytes, textBytes}
-use Rattle.part.specs.Place.{widthOf, fuseOfPlace, placeOfFuse, addressOfByte, byteOfAddress, valid}
-use Rattle.part.specs.Convert.{addressOfFuse, fuseOfAddress}
+use Rattle.part.specs.Place.{widthOf, fuseOfPlace, placeOfFuse}
+use Rattle.addresses.specs.Address.{addressOfByte, byteOfAddress, valid}
+use Rattle.addresses.specs.Convert.{addressOfFuse, fuseOfAddress}
 use Rattle.part.specs.declared.Device.{Device}
 use Rattle.part.proofs.Facts.{and-iff, by-cases}
 use Rattle.part.proofs.Devices.{fuses-small}
-use Rattle.part.proofs.Laws.{at-valid, each-address, width-small}
+use Rattle.part.proofs.Laws.{width-small}
+use Rattle.addresses.proofs.Laws.{at-valid, each-address}
 use Rattle.image.specs.Image.{sum16, zerosBelow, fuseSum, zeroCount}
 use Rattle.image.proofs.Bits.{gathered-small}
 use Rattle.readout.specs.Readout.{firstAbove, toReadout, toImage}

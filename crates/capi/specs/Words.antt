@@ -2,7 +2,7 @@
 -- (proofs/Words.antt). A field for each definition that the contracts of src/lib.rt pack.
 use Prim.Native.Nat.{ℕ}
 use mathlib.Core.List.{List}
-use Rattle.part.specs.Convert.{addressOfFuse, fuseOfAddress}
+use Rattle.addresses.specs.Convert.{addressOfFuse, fuseOfAddress}
 use Rattle.part.specs.declared.Device.{Device}
 use Rattle.image.specs.Image.{fuseSum, zeroCount}
 use Rattle.readout.specs.Readout.{toReadout, toImage}

@@ -2,9 +2,10 @@
 // one u64. Each function only calls its library function and packs the answer: specs/Packed.antt says how.
 ghost use mathlib.Core.Path.{_≡_};
 ghost use lib.ListN.{length};
-ghost use Rattle.part.specs.Answer.{refusalNumber, refusalValue, addressOutcome, fuseOutcome, numberOutcome};
+ghost use Rattle.part.specs.Answer.{refusalNumber, refusalValue, numberOutcome};
+ghost use Rattle.addresses.specs.Answer.{addressOutcome, fuseOutcome};
 ghost use Rattle.part.specs.Answer.{doneOutcome};
-ghost use Rattle.part.specs.Convert.{addressOfFuse, fuseOfAddress};
+ghost use Rattle.addresses.specs.Convert.{addressOfFuse, fuseOfAddress};
 ghost use Rattle.image.specs.Image.{fuseSum, zeroCount};
 ghost use Rattle.part.specs.Outcome.{written};
 ghost use Rattle.readout.specs.Readout.{toReadout, readoutOf, toImage, imageOf};
@@ -18,12 +19,12 @@ ghost use Rattle.setting_bits.specs.declared.Layout.the-variants.{Image, Readou
 ghost use Rattle.edit_by_number.specs.ByNumber.{readPattern, setPattern, withNumbered};
 ghost use Rattle.capi.specs.Packed.{packed, refusalWord, device, addressAndBit, itself, noResult, orNone};
 ghost use Rattle.capi.specs.Packed.{settingAndBit, through};
+use addresses::AddressAnswer;
+use addresses::DeviceAddress;
+use addresses::FuseAnswer;
 use fuse_settings::NamedAnswer;
-use part::AddressAnswer;
 use part::Device;
-use part::DeviceAddress;
 use part::DoneAnswer;
-use part::FuseAnswer;
 use part::FuseNumber;
 use part::NumberAnswer;
 use part::Refusal;
@@ -94,7 +95,7 @@ fn bit_word(answer: BitAnswer) -> u64
 pub extern "C" fn xc9500_address_of_fuse(blocks: u32, class: u32, fuse: u32) -> u64
     ensures { λ w. ⌜ w ≡ packed addressAndBit (addressOfFuse (device blocks class) fuse) ⌝ }
 {
-    address_word(part::address_of_fuse(Device { blocks, class }, FuseNumber(fuse)))
+    address_word(addresses::address_of_fuse(Device { blocks, class }, FuseNumber(fuse)))
 }
 
 // The fuse of an address and a bit.
@@ -102,7 +103,7 @@ pub extern "C" fn xc9500_address_of_fuse(blocks: u32, class: u32, fuse: u32) -> 
 pub extern "C" fn xc9500_fuse_of_address(blocks: u32, class: u32, address: u32, bit: u32) -> u64
     ensures { λ w. ⌜ w ≡ packed itself (fuseOfAddress (device blocks class) address bit) ⌝ }
 {
-    fuse_word(part::fuse_of_address(Device { blocks, class }, DeviceAddress(address), bit))
+    fuse_word(addresses::fuse_of_address(Device { blocks, class }, DeviceAddress(address), bit))
 }
 
 // The fuse sum of an image.

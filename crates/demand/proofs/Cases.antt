@@ -2,7 +2,8 @@
 -- Assumes nothing.
 use mathlib.Core.Path.{refl}
 use Rattle.part.specs.Device.{known, fuseCount, imageBytes, readoutBytes}
-use Rattle.part.specs.Place.{placeOfFuse, byteOfIndex}
+use Rattle.part.specs.Place.{placeOfFuse}
+use Rattle.addresses.specs.Address.{byteOfIndex}
 use Rattle.image.specs.Bits.{bitAt, putBit, withBit, gathered}
 use Rattle.image.specs.Image.{state}
 use Rattle.readout.specs.Readout.{aboveAt}

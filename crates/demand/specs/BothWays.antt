@@ -1,5 +1,5 @@
--- What `both_ways` ensures: each answer and each slice is what its definition gives (`Ran`), and for any known device,
--- image, setting and value and slices of the right lengths demand 3 holds of them (`Made`, `DemandByName` of `edit`).
+-- What `both_ways` ensures: each answer and each slice is what its definition gives (`StepByStep`), and under demand
+-- 3's premise, for slices of the right lengths, demand 3 holds of them (`AsDefined`, `DemandByName` of `edit`).
 use mathlib.Core.Path.{_≡_}
 use mathlib.Core.Bool.{cond}
 use mathlib.Core.List.{List}
@@ -16,7 +16,7 @@ use Rattle.values.specs.declared.Value.{Value}
 use Rattle.setting_values.specs.Operations.{valueOutcome}
 use Rattle.setting_bits.specs.declared.Layout.the-variants.{Image, Readout}
 use Rattle.edit.specs.Edit.{readIn, setIn, withValue}
-use Rattle.edit.specs.Demand.{Taken, Calls, DemandByName, Made}
+use Rattle.edit.specs.Demand.{Premise, Calls, DemandByName, AsDefined}
 use Rattle.demand.specs.declared.BothRead.{BothRead}
 use Rattle.demand.specs.declared.BothDone.{BothDone}
 use Rattle.demand.specs.declared.BeforeAnswer.{BeforeAnswer}
@@ -75,7 +75,7 @@ callsOf r image readout kept as-readout as-image = record {
 }
 
 -- These steps one after the other, whatever is refused.
-pub record Ran (d : Device) (image readout kept as-readout as-image : List ℕ) (s : Setting) (v : Value)
+pub record StepByStep (d : Device) (image readout kept as-readout as-image : List ℕ) (s : Setting) (v : Value)
     (t : Setting) (r : BothAnswer)
     (image' readout' kept' as-readout' as-image' : List ℕ) : Type 0 where
   pub begun : Begun d image readout
@@ -96,7 +96,7 @@ pub record RightLengths (d : Device) (readout kept as-readout as-image : List �
 abbrev pub BothWays : Device → (image readout kept as-readout as-image : List ℕ) → Setting → Value
     → (t : Setting) → BothAnswer → (image' readout' kept' as-readout' as-image' : List ℕ) → Type 0
 BothWays d image readout kept as-readout as-image s v t r image' readout' kept' as-readout' as-image' =
-    Ran d image readout kept as-readout as-image s v t r image' readout' kept' as-readout' as-image'
-    × ((pattern : ℕ) → Taken d image s v pattern → RightLengths d readout kept as-readout as-image
-    → Made d image s v t (callsOf r image' readout' kept' as-readout' as-image')
+    StepByStep d image readout kept as-readout as-image s v t r image' readout' kept' as-readout' as-image'
+    × ((pattern : ℕ) → Premise d image s v pattern → RightLengths d readout kept as-readout as-image
+    → AsDefined d image s v t (callsOf r image' readout' kept' as-readout' as-image')
     × DemandByName d image s v pattern t (callsOf r image' readout' kept' as-readout' as-image'))

@@ -15,7 +15,7 @@ use Rattle.settings.specs.declared.Setting.{Setting}
 use Rattle.values.specs.declared.Value.{Value}
 use Rattle.setting_bits.specs.declared.Layout.the-variants.{Image, Readout}
 use Rattle.edit.specs.Edit.{withValue}
-use Rattle.edit.specs.Demand.{Taken}
+use Rattle.edit.specs.Demand.{Premise}
 use Rattle.edit.proofs.NotRefused.{its-length}
 use Rattle.edit.proofs.SameReadout.{same-readout}
 use Rattle.edit.proofs.SameImage.{changed, same-image}
@@ -33,7 +33,7 @@ passes-back d image readout target k same size =
     let clean : Within d readout = subst (Within d) (sym same) (readout-accepted d image) in
     accepted-iff d readout target .1 (k, ap length same ∙ its-length d image, size, clean)
 
-module _ (d : Device) (image : List ℕ) (s : Setting) (v : Value) (pattern : ℕ) (taken : Taken d image s v pattern) where
+module _ (d : Device) (image : List ℕ) (s : Setting) (v : Value) (pattern : ℕ) (taken : Premise d image s v pattern) where
   pub conversions-accepted : (toReadout d image (readoutOf d image) ≡ accepted tt)
       × (toReadout d (withValue d Image image s v) (readoutOf d (withValue d Image image s v)) ≡ accepted tt)
       × (toImage d (withValue d Readout (readoutOf d image) s v) (imageOf d (withValue d Readout (readoutOf d image) s v)) ≡ accepted tt)

@@ -9,7 +9,7 @@ use Rattle.settings.specs.declared.Setting.{Setting}
 use Rattle.values.specs.declared.Value.{Value}
 use Rattle.setting_bits.specs.declared.Layout.the-variants.{Image, Readout}
 use Rattle.edit.specs.Edit.{withValue}
-use Rattle.edit.specs.Demand.{Taken, Calls, callsByName, DemandByName, Made}
+use Rattle.edit.specs.Demand.{Premise, Calls, callsByName, DemandByName, AsDefined}
 use Rattle.edit.proofs.NotRefused.{not-refused}
 use Rattle.edit.proofs.SameReadout.{same-readout}
 use Rattle.edit.proofs.SameImage.{same-image}
@@ -19,7 +19,7 @@ use Rattle.edit.proofs.ListedFuses.{listed-fuses}
 use Rattle.edit.proofs.OtherFuses.{other-fuses}
 use Rattle.edit.proofs.ConversionsAccepted.{conversions-accepted}
 
-pub holds : (d : Device) (image : List ℕ) (s : Setting) (v : Value) (pattern : ℕ) → Taken d image s v pattern → (t : Setting)
+pub holds : (d : Device) (image : List ℕ) (s : Setting) (v : Value) (pattern : ℕ) → Premise d image s v pattern → (t : Setting)
     → DemandByName d image s v pattern t (callsByName d image s v t)
 holds d image s v pattern taken t = record {
   not-refused = not-refused d image s v pattern taken;
@@ -58,7 +58,7 @@ built e0 e1 e2 e3 e4 e5 e6 e7 e8 e9 e10 e11 e12 e13 e14 e15 = λ i. record {
 }
 
 -- Calls that are those that their names say are what the definitions give.
-module _ (d : Device) (image : List ℕ) (s : Setting) (v : Value) (t : Setting) (c : Calls Value) (made : Made d image s v t c) where
+module _ (d : Device) (image : List ℕ) (s : Setting) (v : Value) (t : Setting) (c : Calls Value) (made : AsDefined d image s v t c) where
   before : c .readout-before ≡ readoutOf d image
   before = made .conversion .1
 
@@ -95,5 +95,5 @@ module _ (d : Device) (image : List ℕ) (s : Setting) (v : Value) (t : Setting)
       (made .others-after .1 ∙ rw readout-after)
 
 pub of-calls : (d : Device) (image : List ℕ) (s : Setting) (v : Value) (pattern : ℕ) (t : Setting) (c : Calls Value)
-    → Taken d image s v pattern → Made d image s v t c → DemandByName d image s v pattern t c
+    → Premise d image s v pattern → AsDefined d image s v t c → DemandByName d image s v pattern t c
 of-calls d image s v pattern t c taken made = rw (same-calls d image s v t c made) (holds d image s v pattern taken t)

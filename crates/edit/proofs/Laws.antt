@@ -1,7 +1,7 @@
 -- What holds of reading and setting, each law once, for every device, setting and value:
 --   holds            demand 3, whole (specs/Demand.antt), of the definitions of setting, reading and the conversions
 --   some-fuse        each setting of a device lists a fuse at least, so that the field `listed-fuses` is never about none
---   of-calls         the same of any calls that are those that their names say (`Made`); `both_ways` of crate `demand` is such a run
+--   of-calls         the same of any calls that are those that their names say (`AsDefined`); `both_ways` of crate `demand` is such a run
 --   value-iff        a pattern is that of a value exactly if it has the setting's bits and 003's list for the setting gives it this value
 --   read-after-set, read-after-set-image   in any readout, whatever its other bytes hold, and in any image: a setting that was set reads
 --                    as set

@@ -13,11 +13,11 @@ use Rattle.setting_bits.specs.declared.Layout.the-variants.{Image, Readout}
 use Rattle.setting_bits.specs.SettingBits.{stateOf}
 use Rattle.setting_bits.proofs.Edits.{fuse-below, set-fuses, same-state}
 use Rattle.edit.specs.Edit.{withValue}
-use Rattle.edit.specs.Demand.{Taken}
+use Rattle.edit.specs.Demand.{Premise}
 use Rattle.edit.proofs.NotRefused.{its-pattern}
 use Rattle.edit.proofs.SameReadout.{start, same-readout}
 
-module _ (d : Device) (image : List ℕ) (s : Setting) (v : Value) (pattern : ℕ) (taken : Taken d image s v pattern) (b : ℕ)
+module _ (d : Device) (image : List ℕ) (s : Setting) (v : Value) (pattern : ℕ) (taken : Premise d image s v pattern) (b : ℕ)
     (l : b < bitsOf s) where
   in-image : stateOf d Image (withValue d Image image s v) (fuseOf d s b) ≡ bitOf pattern b
   unfolding withValue

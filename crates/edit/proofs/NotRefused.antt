@@ -27,14 +27,14 @@ use Rattle.setting_bits.specs.declared.Layout.the-variants.{Image, Readout}
 use Rattle.setting_bits.specs.SettingBits.{bytesOf, byteOf, aboveAmong}
 use Rattle.setting_bits.proofs.Edits.{inside, fuse-below, clean-through}
 use Rattle.edit.specs.Edit.{aboveIn, setIn}
-use Rattle.edit.specs.Demand.{Taken}
+use Rattle.edit.specs.Demand.{Premise}
 
 -- The pattern of a value of a setting.
 pub value-iff : (d : Device) (s : Setting) (v : Value) (pattern : ℕ) → hasSetting d s ≡ true
     → (patternIn (kindOf d s) v ≡ some pattern) ↔ ((pattern < 2 ^ bitsOf s) × (valueOf d s pattern ≡ v))
 value-iff d s v pattern h = rw (← kind-bits d s h) (patterns.pattern-iff (kindOf d s) v pattern)
 
-pub its-pattern : {d : Device} {image : List ℕ} {s : Setting} {v : Value} {pattern : ℕ} → Taken d image s v pattern
+pub its-pattern : {d : Device} {image : List ℕ} {s : Setting} {v : Value} {pattern : ℕ} → Premise d image s v pattern
     → patternIn (kindOf d s) v ≡ some pattern
 its-pattern {d} {image} {s} {v} {pattern} taken = value-iff d s v pattern (taken .setting) .1 (taken .fits, taken .value)
 
@@ -61,7 +61,7 @@ its-bits d image t k h =
     clean-through d (readoutOf d image) t (bitsOf t)
     (λ b l. readout-accepted d image (byteOf d Readout (fuseOf d t b)) (inside d Readout (fuseOf d t b) k (fuse-below d k t h b l)))
 
-pub not-refused : (d : Device) (image : List ℕ) (s : Setting) (v : Value) (pattern : ℕ) → Taken d image s v pattern
+pub not-refused : (d : Device) (image : List ℕ) (s : Setting) (v : Value) (pattern : ℕ) → Premise d image s v pattern
     → (setIn d Image image s v ≡ accepted tt) × (setIn d Readout (readoutOf d image) s v ≡ accepted tt)
 unfolding aboveIn
 not-refused d image s v pattern taken = (

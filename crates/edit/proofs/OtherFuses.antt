@@ -14,11 +14,11 @@ use Rattle.setting_bits.specs.declared.Layout.the-variants.{Image, Readout}
 use Rattle.setting_bits.specs.SettingBits.{stateOf}
 use Rattle.setting_bits.proofs.Edits.{set-other-fuses, same-state}
 use Rattle.edit.specs.Edit.{withValue}
-use Rattle.edit.specs.Demand.{Taken}
+use Rattle.edit.specs.Demand.{Premise}
 use Rattle.edit.proofs.NotRefused.{its-pattern}
 use Rattle.edit.proofs.SameReadout.{start, same-readout}
 
-module _ (d : Device) (image : List ℕ) (s : Setting) (v : Value) (pattern : ℕ) (taken : Taken d image s v pattern)
+module _ (d : Device) (image : List ℕ) (s : Setting) (v : Value) (pattern : ℕ) (taken : Premise d image s v pattern)
     (f : ℕ) (l : f < fuseCount d) (apart : (b : ℕ) → b < bitsOf s → fuseOf d s b ≢ f) where
   in-image : stateOf d Image (withValue d Image image s v) f ≡ stateOf d Image image f
   unfolding withValue

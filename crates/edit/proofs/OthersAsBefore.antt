@@ -18,13 +18,13 @@ use Rattle.setting_bits.specs.declared.Layout.the-variants.{Image, Readout}
 use Rattle.setting_bits.specs.SettingBits.{patternAt}
 use Rattle.setting_bits.proofs.Edits.{set-others-read}
 use Rattle.edit.specs.Edit.{readIn, withValue}
-use Rattle.edit.specs.Demand.{Taken}
+use Rattle.edit.specs.Demand.{Premise}
 use Rattle.edit.proofs.NotRefused.{its-pattern}
 use Rattle.edit.proofs.SameReadout.{start, same-readout}
 use Rattle.edit.proofs.SameImage.{changed}
 use Rattle.edit.proofs.ReadsAsSet.{image-clean, same-reading}
 
-module _ (d : Device) (image : List ℕ) (s : Setting) (v : Value) (pattern : ℕ) (taken : Taken d image s v pattern)
+module _ (d : Device) (image : List ℕ) (s : Setting) (v : Value) (pattern : ℕ) (taken : Premise d image s v pattern)
     (t : Setting) (h : hasSetting d t ≡ true) (ne : t ≢ s) where
   stands : patternAt d Image (withValue d Image image s v) t ≡ patternAt d Image image t
   unfolding withValue

@@ -21,7 +21,7 @@ use Rattle.setting_bits.specs.declared.Layout.the-variants.{Image, Readout}
 use Rattle.setting_bits.specs.SettingBits.{bytesOf, patternAt, aboveAmong}
 use Rattle.setting_bits.proofs.Edits.{set-reads, same-pattern}
 use Rattle.edit.specs.Edit.{aboveIn, readIn, withValue}
-use Rattle.edit.specs.Demand.{Taken}
+use Rattle.edit.specs.Demand.{Premise}
 use Rattle.edit.proofs.NotRefused.{Clean, its-pattern, its-length, its-bits}
 use Rattle.edit.proofs.SameReadout.{start, same-readout}
 use Rattle.edit.proofs.SameImage.{changed}
@@ -61,7 +61,7 @@ same-reading d image t k e h =
       same-pattern d image k t h,
     )
 
-module _ (d : Device) (image : List ℕ) (s : Setting) (v : Value) (pattern : ℕ) (taken : Taken d image s v pattern) where
+module _ (d : Device) (image : List ℕ) (s : Setting) (v : Value) (pattern : ℕ) (taken : Premise d image s v pattern) where
   stands : patternAt d Image (withValue d Image image s v) s ≡ pattern
   unfolding withValue
   stands =

@@ -12,7 +12,7 @@ use Rattle.values.specs.declared.Value.{Value}
 use Rattle.setting_bits.specs.declared.Layout.the-variants.{Image, Readout}
 use Rattle.setting_bits.proofs.Edits.{agrees}
 use Rattle.edit.specs.Edit.{withValue}
-use Rattle.edit.specs.Demand.{Taken}
+use Rattle.edit.specs.Demand.{Premise}
 use Rattle.edit.proofs.NotRefused.{its-pattern}
 
 -- An image: its length, and its bytes.
@@ -20,7 +20,7 @@ pub record IsImage (d : Device) (image : List ℕ) : Type 0 where
   pub size : length image ≡ imageBytes d
   pub bytes : (i : ℕ) → getD image i 0 < 2 ^ 8
 
-module _ (d : Device) (image : List ℕ) (s : Setting) (v : Value) (pattern : ℕ) (taken : Taken d image s v pattern) where
+module _ (d : Device) (image : List ℕ) (s : Setting) (v : Value) (pattern : ℕ) (taken : Premise d image s v pattern) where
   -- The image whose bits setting changes.
   pub start : IsImage d image
   start = record { size = taken .size; bytes = taken .bytes }

@@ -25,7 +25,7 @@ use Rattle.edit.specs.Edit.{readIn, setIn, withValue}
 -- "take any known device, any image of it, the readout of that image, any setting of that device and any value of
 -- that setting": what 003's list for the setting gives a pattern of its bits; by `value-iff` (proofs/Laws.antt)
 -- no other pattern has this value.
-pub record Taken (d : Device) (image : List ℕ) (s : Setting) (v : Value) (pattern : ℕ) : Type 0 where
+pub record Premise (d : Device) (image : List ℕ) (s : Setting) (v : Value) (pattern : ℕ) : Type 0 where
   pub device : known d ≡ true
   pub size : length image ≡ imageBytes d
   pub bytes : (i : ℕ) → getD image i 0 < 2 ^ 8
@@ -85,7 +85,7 @@ callsBy d set changed read image s t = record {
 pub record Demand3 {S A : Type 0} (d : Device) (has : S → Type 0)
     (read : Layout → List ℕ → S → Outcome A) (image : List ℕ)
     (s : S) (v : A) (pattern bits : ℕ) (fuse : ℕ → ℕ) (t : S) (c : Calls A) : Type 0 where
-  -- "Set it in the image, or set it straight in the readout's few bytes. Neither is refused.".
+  -- "Set it in the image, or set it straight in the readout's few bytes. Neither is refused."
   pub not-refused : (c .set-image ≡ accepted tt) × (c .set-readout ≡ accepted tt)
   -- "Then the changed readout equals, byte for byte, the readout of the changed image, .."
   pub same-readout : c .readout ≡ c .as-readout
@@ -99,11 +99,11 @@ pub record Demand3 {S A : Type 0} (d : Device) (has : S → Type 0)
       × ((u : S) → has u → u ≢ s
       → (read Image (c .image) u ≡ read Image image u)
       × (read Readout (c .readout) u ≡ read Readout (c .readout-before) u))
-  -- "Each fuse listed for the setting stands as the value needs it.".
+  -- "Each fuse listed for the setting stands as the value needs it."
   pub listed-fuses : (b : ℕ) → b < bits
       → (stateOf d Image (c .image) (fuse b) ≡ bitOf pattern b)
       × (stateOf d Readout (c .readout) (fuse b) ≡ bitOf pattern b)
-  -- "Every other fuse of the part, named or not, stands as before.".
+  -- "Every other fuse of the part, named or not, stands as before."
   pub other-fuses : (f : ℕ) → f < fuseCount d → ((b : ℕ) → b < bits → fuse b ≢ f)
       → (stateOf d Image (c .image) f ≡ stateOf d Image image f)
       × (stateOf d Readout (c .readout) f ≡ stateOf d Readout (c .readout-before) f)
@@ -123,7 +123,8 @@ DemandByName d image s v pattern t c =
     Demand3 d (λ u. hasSetting d u ≡ true) (readIn d) image s v pattern (bitsOf s) (fuseOf d s) t c
 
 -- Each answer, and the bytes that each call left, are what the definition of the call of that name gives.
-pub record Made (d : Device) (image : List ℕ) (s : Setting) (v : Value) (t : Setting) (c : Calls Value) : Type 0 where
+pub record AsDefined (d : Device) (image : List ℕ) (s : Setting) (v : Value) (t : Setting)
+    (c : Calls Value) : Type 0 where
   pub conversion : (c .converted ≡ toReadout d image (c .readout-before)) × (c .readout-before ≡ readoutOf d image)
   pub answers : (c .set-image ≡ setIn d Image image s v) × (c .set-readout ≡ setIn d Readout (c .readout-before) s v)
   pub changes : (c .image ≡ withValue d Image image s v) × (c .readout ≡ withValue d Readout (c .readout-before) s v)

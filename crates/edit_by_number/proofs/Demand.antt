@@ -22,7 +22,7 @@ use Rattle.setting_bits.specs.declared.Layout.the-variants.{Image, Readout}
 use Rattle.setting_bits.specs.SettingBits.{bytesOf, patternAt}
 use Rattle.setting_bits.proofs.Edits.{set-length, set-reads, set-others-read, same-pattern}
 use Rattle.edit.specs.Edit.{setIn, withValue}
-use Rattle.edit.specs.Demand.{Taken}
+use Rattle.edit.specs.Demand.{Premise}
 use Rattle.edit.proofs.NotRefused.{Clean, its-length, its-bits}
 use Rattle.edit.proofs.ReadsAsSet.{image-clean, readout-clean}
 use Rattle.edit.proofs.Demand.{holds}
@@ -58,7 +58,7 @@ module _ (d : Device) (image : List ℕ) (x pattern : ℕ) (taken : NumberTaken 
   unfolding s
   there = number-inverse d x (taken .setting) .0
 
-  named : Taken d image s v pattern
+  named : Premise d image s v pattern
   unfolding s v
   named = record {
     device = taken .device;

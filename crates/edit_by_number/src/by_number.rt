@@ -123,14 +123,14 @@ pub fn read_numbered(d: Device, layout: Layout, bytes: &[u8], number: SettingNum
         let its = bytes;
         return NumberAnswer::Number(setting_bits::patterns::usercode_at(d, layout, its));
     }
-    let again = bytes;
+    let same = bytes;
     let s = settings::numbers::setting_of(d, number);
-    let above = edit::by_name::above_in(d, layout, again, s);
-    if above < again.len() {
+    let above = edit::by_name::above_in(d, layout, same, s);
+    if above < same.len() {
         let index = above as u32;
         return NumberAnswer::Refused(Refusal::BitAboveWidth(index));
     }
-    NumberAnswer::Number(setting_bits::patterns::pattern_at(d, layout, again, s))
+    NumberAnswer::Number(setting_bits::patterns::pattern_at(d, layout, same, s))
 }
 
 // A setting set to a pattern, by its number. Refused: 1, 2, 4, 5, 6.

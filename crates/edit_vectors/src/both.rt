@@ -95,7 +95,7 @@ fn with_answers(digest: u64, d: Device, s: Setting, t: Setting, r: BothAnswer) -
 
 // The numbers to ask for: at each ninth turn one that the device does not have.
 fn number(count: u32, k: u32) -> u32 {
-    let few = count % 1048576;
+    let few = count % super::MANY;
     if k % 9 == 8 {
         return few + k % 2;
     }
@@ -103,7 +103,7 @@ fn number(count: u32, k: u32) -> u32 {
 }
 
 fn other_number(count: u32, k: u32) -> u32 {
-    (k % 4096 * 104729 + 7) % (count % 1048576 + 1)
+    (k % 4096 * 104729 + 7) % (count % super::MANY + 1)
 }
 
 // The pattern to put there: 0 and 1 in turn, which every setting has, and at each fifth turn a wider one.

@@ -13,6 +13,9 @@ use vectors::near;
 
 mod both;
 
+// More settings than any device has: numbers taken modulo this stay small.
+const MANY: u32 = 1 << 20;
+
 // OE_MUX of macrocell 0 of block 0, of the smallest part.
 const OE_MUX: u32 = 15563;
 
@@ -32,12 +35,12 @@ fn set(in_readout: bool, d: Device, bytes: &mut [u8], setting: u32, pattern: u32
 
 // How many settings a device has, 0 where there is none; below 2^20.
 fn setting_count(d: Device) -> u32 {
-    (capi::xc9500_setting_count(d.blocks, d.class) % 1048576) as u32
+    (capi::xc9500_setting_count(d.blocks, d.class) % MANY as u64) as u32
 }
 
 // The numbers to ask for: from a few past the last down through some hundreds, then in steps through all.
 fn first_asked(count: u32) -> u32 {
-    count % 1048576 + 7
+    count % MANY + 7
 }
 
 fn next_asked(count: u32, k: u32, setting: u32) -> u32 {
@@ -46,7 +49,7 @@ fn next_asked(count: u32, k: u32, setting: u32) -> u32 {
             return setting - 1;
         }
     }
-    (setting % 1048576 + 61) % (count % 1048576 + 8)
+    (setting % MANY + 61) % (count % MANY + 8)
 }
 
 // The pattern to put there; the eighth after the first is USERCODE.
@@ -54,7 +57,7 @@ fn pattern(k: u32, turn: u32) -> u32 {
     if k == 8 {
         return 0x12345678 + turn % 16;
     }
-    (k % 1048576 + turn % 16) % 7 % 5
+    (k % MANY + turn % 16) % 7 % 5
 }
 
 fn reads(in_readout: bool, d: Device, bytes: &[u8], count: u32) -> u64 {
@@ -133,7 +136,7 @@ fn each_device(image: &mut [u8], readout: &mut [u8]) {
     }
 }
 
-// OE_MUX as it is read, then set to FOE2 and read again.
+// OE_MUX as it is read, then set to FOE2 and read once more.
 fn set_to_foe2(name: &[u8], in_readout: bool, bytes: &mut [u8]) {
     vectors::put(name, read(in_readout, SMALLEST, &bytes[..], OE_MUX));
     vectors::put(b" set", set(in_readout, SMALLEST, bytes, OE_MUX, 4));

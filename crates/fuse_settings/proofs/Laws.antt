@@ -23,7 +23,7 @@ use Rattle.part.specs.Place.{placeOfFuse}
 use Rattle.part.specs.declared.Device.{Device}
 use Rattle.part.proofs.Facts.{and-iff}
 use Rattle.part.proofs.Fuses.{of-place}
-use Rattle.part.proofs.Conversions.{passed, result}
+use Rattle.part.proofs.Checks.{passed, result}
 use Rattle.settings.specs.Settings.{hasSetting}
 use Rattle.settings.specs.declared.Setting.{Setting}
 use Rattle.setting_places.specs.Places.{bitsOf, fuseOf, placeOf, lists}

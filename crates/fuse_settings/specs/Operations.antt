@@ -7,7 +7,7 @@ use lib.Dec.{ltb}
 use Rattle.part.specs.Outcome.{Outcome}
 use Rattle.part.specs.Outcome.Outcome.{accepted, refused}
 use Rattle.part.specs.Device.{fuseCount}
-use Rattle.part.specs.Convert.{ifKnown}
+use Rattle.part.specs.Sizes.{ifKnown}
 use Rattle.part.specs.declared.Device.{Device}
 use Rattle.settings.specs.declared.Setting.{Setting}
 use Rattle.fuse_settings.specs.Back.{settingAt}

@@ -6,7 +6,7 @@ use lib.ListN.{length}
 use Rattle.part.specs.Outcome.{Outcome}
 use Rattle.part.specs.Outcome.Outcome.{accepted}
 use Rattle.part.specs.Device.{fuseCount, imageBytes}
-use Rattle.part.specs.Convert.{ifKnown, ifLength}
+use Rattle.part.specs.Sizes.{ifKnown, ifLength}
 use Rattle.part.specs.declared.Device.{Device}
 use Rattle.image.specs.Bits.{bitAt, withBit, gathered, tabulate}
 

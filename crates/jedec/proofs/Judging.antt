@@ -17,7 +17,7 @@ use Rattle.part.proofs.Tables.{each-below}
 use Rattle.cells.specs.Cells.{total}
 use Rattle.image.specs.Image.{state}
 use Rattle.image.proofs.Counts.{state-bit}
-use Rattle.jedec.specs.Characters.{letterC, letterF, letterL, letterQ, isBlank, isMark, decimalDigit, hexDigit, decimalValue}
+use Rattle.jedec.specs.Characters.{letterC, letterF, letterL, letterQ, isBlank, isMark, decimalDigit, hexDigit}
 use Rattle.jedec.specs.Characters.{digitsOf, countDigits, sevenDigits, fourHex}
 use Rattle.jedec.specs.Cut.{holdsMark}
 use Rattle.jedec.specs.Judge.{Judged, byLetters, unbroken, statesIn, listFrom, listIn, judge}

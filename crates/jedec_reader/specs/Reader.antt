@@ -5,7 +5,7 @@ use mathlib.Core.List.{List}
 use lib.ListN.{length}
 use Rattle.part.specs.Outcome.{Outcome}
 use Rattle.part.specs.Device.{fuseCount, imageBytes}
-use Rattle.part.specs.Convert.{ifKnown, ifLength}
+use Rattle.part.specs.Sizes.{ifKnown, ifLength}
 use Rattle.part.specs.declared.Device.{Device}
 use Rattle.jedec.specs.Meaning.{meaning}
 pub use Rattle.jedec_end.specs.Outcome.{verdict, resultOf}

@@ -14,7 +14,7 @@ use Rattle.cells.proofs.Laws.{sets-append}
 use Rattle.part.specs.Outcome.{Outcome, written, Written}
 use Rattle.part.specs.Outcome.Outcome.{accepted, refused}
 use Rattle.part.specs.Device.{known, fuseCount, imageBytes, textBytes, decimalDigits}
-use Rattle.part.specs.Convert.{ifKnown, ifLength}
+use Rattle.part.specs.Sizes.{ifKnown, ifLength}
 use Rattle.part.specs.declared.Device.{Device}
 use Rattle.image.specs.Image.{sum16}
 use Rattle.part.proofs.Checks as checks

@@ -10,7 +10,7 @@ use Rattle.part.specs.Outcome.{Outcome}
 use Rattle.part.specs.Outcome.Outcome.{accepted, refused}
 use Rattle.part.specs.Device.{blocksOf, mainRows, mainWidth, wireAndRows, wireAndWidth, fuseCount, imageBytes}
 use Rattle.part.specs.Device.{lineBytes, textBytes}
-use Rattle.part.specs.Convert.{ifKnown, ifLength}
+use Rattle.part.specs.Sizes.{ifKnown, ifLength}
 use Rattle.part.specs.declared.Area.{Area}
 use Rattle.part.specs.declared.Area.the-variants.{Main, WireAnd}
 use Rattle.part.specs.declared.Device.{Device}

@@ -46,7 +46,7 @@ in-block : (d : Device) (block rest : ℕ) → rest < blockFuses d → placeOfFu
 unfolding placeOfFuse
 in-block d block rest h = rw (digits-div block h, digits-mod block h)
 
--- The fuse of a place that the device has is below the count, and the place is found again.
+-- The fuse of a place that the device has is below the count, and the place is found from it.
 abbrev pub Found : Device → Place → Type 0
 Found d p = (fuseOfPlace d p < fuseCount d) × (placeOfFuse d (fuseOfPlace d p) ≡ p)
 

@@ -5,10 +5,7 @@ pub mod Tables
 pub mod Sums
 pub mod Rows
 pub mod Fuses
-pub mod ByteAddresses
 pub mod Devices
-pub mod Conversions
 pub mod Checks
 pub mod Targets
-pub mod Readouts
 pub mod Laws

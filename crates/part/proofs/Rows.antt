@@ -57,7 +57,7 @@ module _ (wide narrow more : ℕ) (positive : 0 < narrow) where
       (λ l b. omega arith)
       (λ g b. omega (arith, digits-lt {q = column - wide} {m = more} {r = bit} {c = narrow} (omega arith) b))
 
-  -- And the bit of a column is found again.
+  -- And the bit of a column is found from it.
   pub join-row : (column bit : ℕ) → bit < columnWidth wide narrow column
       → (columnInRow wide narrow (columnStart wide narrow column + bit) ≡ column)
       × (bitInRow wide narrow (columnStart wide narrow column + bit) ≡ bit)

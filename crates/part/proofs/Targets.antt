@@ -7,7 +7,7 @@ use Prim.Native.Nat.{ℕ}
 use Rattle.part.specs.Outcome.{Outcome, written, Written}
 use Rattle.part.specs.Outcome.Outcome.{refused}
 use Rattle.part.specs.Device.{known}
-use Rattle.part.specs.Convert.{ifKnown, ifLength}
+use Rattle.part.specs.Sizes.{ifKnown, ifLength}
 use Rattle.part.specs.declared.Device.{Device}
 use Rattle.part.proofs.Checks.{no-device, the-device, other-length, the-length}
 

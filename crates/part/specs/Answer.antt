@@ -11,16 +11,12 @@ use Rattle.part.specs.declared.Refusal.the-variants.{BufferTooShort}
 use Rattle.part.specs.declared.Sizes.{Sizes}
 use Rattle.part.specs.declared.SizesAnswer.{SizesAnswer}
 use Rattle.part.specs.declared.SizesAnswer.the-variants as sizes
-use Rattle.part.specs.declared.AddressAnswer.{AddressAnswer}
-use Rattle.part.specs.declared.AddressAnswer.the-variants as address
-use Rattle.part.specs.declared.FuseAnswer.{FuseAnswer}
-use Rattle.part.specs.declared.FuseAnswer.the-variants as fuse
 use Rattle.part.specs.declared.DoneAnswer.{DoneAnswer}
 use Rattle.part.specs.declared.DoneAnswer.the-variants as done
 use Rattle.part.specs.declared.NumberAnswer.{NumberAnswer}
 use Rattle.part.specs.declared.NumberAnswer.the-variants as answer
 
--- "no.".
+-- "no."
 abbrev pub refusalNumber : Refusal → ℕ
 refusalNumber UnknownDevice = 1
 refusalNumber WrongLength = 2
@@ -53,15 +49,6 @@ refusalValue (BufferTooShort needed) = needed
 abbrev pub sizesOutcome : SizesAnswer → Outcome Sizes
 sizesOutcome (sizes.Of x) = accepted x
 sizesOutcome (sizes.Refused r) = refused (refusalNumber r) (refusalValue r)
-
--- An address and a bit.
-abbrev pub addressOutcome : AddressAnswer → Outcome (ℕ × ℕ)
-addressOutcome (address.At a bit) = accepted (a .0, bit)
-addressOutcome (address.Refused r) = refused (refusalNumber r) (refusalValue r)
-
-abbrev pub fuseOutcome : FuseAnswer → Outcome ℕ
-fuseOutcome (fuse.Fuse f) = accepted (f .0)
-fuseOutcome (fuse.Refused r) = refused (refusalNumber r) (refusalValue r)
 
 -- What an answer that is a plain number says, here and in the crates above.
 abbrev pub numberOutcome : NumberAnswer → Outcome ℕ

@@ -4,5 +4,5 @@ pub mod Outcome
 pub mod Device
 pub mod Answer
 pub mod Place
-pub mod Convert
+pub mod Sizes
 pub mod Cases

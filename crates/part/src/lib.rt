@@ -1,11 +1,10 @@
-// The geometry of a part: which devices there are, how large each is, and where each fuse lies.
+// A part: which devices there are, how large each is, where each fuse lies, and why a call is refused.
 // The definitions that the contracts cite stand in specs/, the laws about them in proofs/Laws.antt.
 ghost use mathlib.Core.Path.{_≡_};
 ghost use Rattle.part.specs.Device.{known};
-ghost use Rattle.part.specs.Answer.{sizesOutcome, addressOutcome, fuseOutcome, refusalNumber, refusalValue};
-ghost use Rattle.part.specs.Convert.{sizesOf, addressOfFuse, fuseOfAddress};
+ghost use Rattle.part.specs.Answer.{sizesOutcome, refusalNumber, refusalValue};
+ghost use Rattle.part.specs.Sizes.{sizesOf};
 
-pub mod addresses;
 pub mod geometry;
 pub mod places;
 pub mod quotients;
@@ -19,9 +18,6 @@ pub struct Device {
 
 // The number of a fuse, as a fuse file counts them.
 pub struct FuseNumber(pub u32);
-
-// The address of a byte of the device, as the programmer sends it.
-pub struct DeviceAddress(pub u32);
 
 // The two kinds of rows of a block: those of its main area, and those of its wire-AND subareas.
 pub enum Area {
@@ -88,16 +84,6 @@ pub struct Sizes {
 
 pub enum SizesAnswer {
     Of(Sizes),
-    Refused(Refusal),
-}
-
-pub enum AddressAnswer {
-    At(DeviceAddress, u32),
-    Refused(Refusal),
-}
-
-pub enum FuseAnswer {
-    Fuse(FuseNumber),
     Refused(Refusal),
 }
 
@@ -174,45 +160,4 @@ pub fn sizes_of(d: Device) -> SizesAnswer
         readout_bytes: geometry::readout_bytes(d),
         text_bytes: geometry::text_bytes(d),
     })
-}
-
-// The address and the bit of a fuse. Refused: 1, 3. The steps of `place_of_fuse` are written out, so
-// that no place goes through memory.
-pub fn address_of_fuse(d: Device, fuse: FuseNumber) -> AddressAnswer
-    ensures { λ r. ⌜ addressOutcome r ≡ addressOfFuse d (fuse .0) ⌝ }
-{
-    if !is_known(d) {
-        return AddressAnswer::Refused(Refusal::UnknownDevice);
-    }
-    if geometry::fuse_count(d) <= fuse.0 {
-        return AddressAnswer::Refused(Refusal::NoSuchFuse);
-    }
-    let at = places::block_and_rest(d, fuse);
-    if at.rest < geometry::MAIN_FUSES {
-        return addresses::address_and_bit(d, places::main_place(at.block, at.rest));
-    }
-    let past = at.rest - geometry::MAIN_FUSES;
-    addresses::address_and_bit(d, places::wire_and_place(at.block, past))
-}
-
-// The fuse of an address and a bit. Refused: 1, 3.
-pub fn fuse_of_address(d: Device, address: DeviceAddress, bit: u32) -> FuseAnswer
-    ensures { λ r. ⌜ fuseOutcome r ≡ fuseOfAddress d (address .0) bit ⌝ }
-{
-    if !is_known(d) {
-        return FuseAnswer::Refused(Refusal::UnknownDevice);
-    }
-    let byte = addresses::byte_of_address(address);
-    if !places::has_byte(d, byte) {
-        return FuseAnswer::Refused(Refusal::NoSuchFuse);
-    }
-    let composed = addresses::address_of_byte(d, byte);
-    if composed.0 != address.0 {
-        return FuseAnswer::Refused(Refusal::NoSuchFuse);
-    }
-    if places::width_of(byte) <= bit {
-        return FuseAnswer::Refused(Refusal::NoSuchFuse);
-    }
-    let first = places::first_fuse(d, byte);
-    FuseAnswer::Fuse(FuseNumber(first.0 + bit))
 }

@@ -1,4 +1,4 @@
-// Where each byte and each fuse lies: the width of a byte, its first fuse, its index, and the place of a fuse.
+// Where each byte and each fuse lies: the width of a byte, its first fuse, and the place of a fuse.
 // For the crates above: a function here may require that the device is known and has the byte or the fuse.
 ghost use mathlib.Core.Path.{_≡_};
 ghost use mathlib.Core.Bool.{true};
@@ -6,17 +6,15 @@ ghost use Prim.Native.Nat.{_+_, _*_, _/_, _%_, _<_, _≤_};
 ghost use Rattle.part.specs.Device.{known, columnWidth, columnStart, mainFuses};
 ghost use Rattle.part.specs.Device.{subareaFuses, blockFuses, fuseCount};
 ghost use Rattle.part.specs.Place.{hasByte, widthOf, columnInRow, bitInRow, firstFuse, placeInMain};
-ghost use Rattle.part.specs.Place.{placeInWireAnd, placeOfFuse, indexOfByte};
+ghost use Rattle.part.specs.Place.{placeInWireAnd, placeOfFuse};
 use super::BytePlace;
 use super::Device;
 use super::FuseNumber;
 use super::Place;
-use super::geometry::MAIN_BYTES;
 use super::geometry::MAIN_COLUMNS;
 use super::geometry::MAIN_FUSES;
 use super::geometry::MAIN_ROW_FUSES;
 use super::geometry::MAIN_ROWS;
-use super::geometry::SUBAREA_BYTES;
 use super::geometry::SUBAREA_FUSES;
 use super::geometry::WIRE_AND_COLUMNS;
 use super::geometry::WIRE_AND_ROW_FUSES;
@@ -107,26 +105,6 @@ pub fn first_fuse(d: Device, byte: BytePlace) -> FuseNumber
             let start = column_start(1, 7, column);
             let in_subarea = row * WIRE_AND_ROW_FUSES + start;
             FuseNumber(block * per_block + (MAIN_FUSES + (subarea * SUBAREA_FUSES + in_subarea)))
-        }
-    }
-}
-
-// The index of a byte in a readout.
-pub fn index_of_byte(d: Device, byte: BytePlace) -> u32
-    requires { ⌜ (known d ≡ true) × (hasByte d byte ≡ true) ⌝ }
-    ensures { λ r. ⌜ r ≡ indexOfByte d byte ⌝ }
-{
-    let per_block = in_block(d, MAIN_BYTES, SUBAREA_BYTES);
-    match byte {
-        BytePlace::Main { block, row, column } => block * per_block + (row * MAIN_COLUMNS + column),
-        BytePlace::WireAnd {
-            block,
-            subarea,
-            row,
-            column,
-        } => {
-            let in_subarea = row * WIRE_AND_COLUMNS + column;
-            block * per_block + (MAIN_BYTES + (subarea * SUBAREA_BYTES + in_subarea))
         }
     }
 }

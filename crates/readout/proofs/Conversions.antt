@@ -11,7 +11,8 @@ use lib.Seq.{sets, sets-eq, ext-getD}
 use Rattle.cells.specs.Cells.{cut, join, number}
 use Rattle.cells.proofs.Laws.{cut-at, cut-length, total-repeat}
 use Rattle.part.specs.Device.{known, fuseCount, imageBytes, readoutBytes}
-use Rattle.part.specs.Place.{firstFuse, byteOfIndex}
+use Rattle.part.specs.Place.{firstFuse}
+use Rattle.addresses.specs.Address.{byteOfIndex}
 use Rattle.part.specs.declared.Device.{Device}
 use Rattle.part.proofs.Devices.{image-whole}
 use Rattle.image.specs.Bits.{bitOf, bitAt}

@@ -22,15 +22,17 @@ use borrow.Author.Tests.{lt-ltb, le-ltb, ltb-true, lt-leb, leb-false, eqb-true, 
 use Rattle.part.specs.Outcome.{Outcome}
 use Rattle.part.specs.Outcome.Outcome.{accepted, refused}
 use Rattle.part.specs.Device.{known, fuseCount, imageBytes, readoutBytes}
-use Rattle.part.specs.Place.{hasByte, hasPlace, widthOf, firstFuse, placeOfFuse, addressOfByte, byteOfAddress, byteOfIndex}
-use Rattle.part.specs.Convert.{addressOfFuse, fuseOfAddress}
+use Rattle.part.specs.Place.{hasByte, hasPlace, widthOf, firstFuse, placeOfFuse}
+use Rattle.addresses.specs.Address.{addressOfByte, byteOfAddress, byteOfIndex}
+use Rattle.addresses.specs.Convert.{addressOfFuse, fuseOfAddress}
 use Rattle.part.specs.declared.Device.{Device}
 use Rattle.part.specs.declared.BytePlace.{BytePlace}
 use Rattle.part.proofs.Facts.{and-iff, compared}
 use Rattle.part.proofs.Fuses.{at-fuse}
-use Rattle.part.proofs.Readouts.{at-index, of-byte}
-use Rattle.part.proofs.ByteAddresses.{again}
-use Rattle.part.proofs.Conversions.{fuse-of-address-iff, passed}
+use Rattle.addresses.proofs.Readouts.{at-index, of-byte}
+use Rattle.addresses.proofs.ByteAddresses.{address-inverse}
+use Rattle.part.proofs.Checks.{passed}
+use Rattle.addresses.proofs.Conversions.{fuse-of-address-iff}
 use Rattle.image.specs.Bits.{bitAt}
 use Rattle.image.specs.Image.{state, imageFrom}
 use Rattle.image.proofs.Images.{image-from, same-image, image-own}
@@ -61,8 +63,8 @@ unfolding readoutOf hasPlace
 readout-bit d image index bit fuse h e =
     let s = fuse-of-address-iff d fuse (addressOfByte (byteOfIndex d index)) bit .0 e in
     let has = and-iff (hasByte d (s .place .byte)) (ltb (s .place .bit) (widthOf (s .place .byte))) .0 (s .there) in
-    let byte : s .place .byte ≡ byteOfIndex d index = sym (again d (s .device) (s .place .byte) (has .0))
-    ∙ ap byteOfAddress (s .its-address) ∙ again d (s .device) (byteOfIndex d index) (at-index d index h .0) in
+    let byte : s .place .byte ≡ byteOfIndex d index = sym (address-inverse d (s .device) (s .place .byte) (has .0))
+    ∙ ap byteOfAddress (s .its-address) ∙ address-inverse d (s .device) (byteOfIndex d index) (at-index d index h .0) in
     let within : bit < widthAt d index = subst₂ (λ (b : BytePlace) (i : ℕ). i < widthOf b) byte (s .its-bit) (ltb-true _ _ (has .1)) in
     let same : fuseAt d index bit ≡ fuse = ap₂ (λ (b : BytePlace) (i : ℕ). firstFuse d b + i) (sym byte) (sym (s .its-bit)) ∙ s .its-fuse in
     readout-from d (state image) (state-bit image) index bit h within ∙ ap (state image) same

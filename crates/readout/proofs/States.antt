@@ -10,12 +10,13 @@ use lib.ListN.{length, getD}
 use lib.Seq.{ext-getD}
 use borrow.Author.Tests.{lt-ltb, ltb-true}
 use Rattle.part.specs.Device.{fuseCount, readoutBytes}
-use Rattle.part.specs.Place.{hasByte, hasPlace, widthOf, placeOfFuse, indexOfByte, byteOfIndex}
+use Rattle.part.specs.Place.{hasByte, hasPlace, widthOf, placeOfFuse}
+use Rattle.addresses.specs.Address.{indexOfByte, byteOfIndex}
 use Rattle.part.specs.declared.Device.{Device}
 use Rattle.part.specs.declared.Place.{Place}
 use Rattle.part.proofs.Facts.{and-iff}
 use Rattle.part.proofs.Fuses.{at-fuse, of-place}
-use Rattle.part.proofs.Readouts.{at-index, of-byte}
+use Rattle.addresses.proofs.Readouts.{at-index, of-byte}
 use Rattle.image.specs.Bits.{bitOf, bitAt, gathered}
 use Rattle.image.proofs.Bits.{gathered-small, gathered-bit, gathered-same, gathered-own, tabulate-length, tabulate-at}
 use Rattle.readout.specs.Readout.{widthAt, fuseAt, readoutFrom, indexInReadout, bitInReadout, stateIn}

@@ -15,7 +15,8 @@ use Rattle.cells.proofs.Laws.{total-append, total-replicate, length-repeat}
 use Rattle.part.specs.Device.{known, readoutBytes, blockBytes, blockFuses, columnWidth, columnStart}
 use Rattle.part.specs.Device.{mainRows, mainColumns, mainWidth, mainStart, mainRowFuses, mainFuses, mainBytes}
 use Rattle.part.specs.Device.{wireAndRows, wireAndColumns, wireAndWidth, wireAndStart, wireAndRowFuses, subareaBytes}
-use Rattle.part.specs.Place.{widthOf, firstFuse, byteOfIndex, byteInBlock}
+use Rattle.part.specs.Place.{widthOf, firstFuse}
+use Rattle.addresses.specs.Address.{byteOfIndex, byteInBlock}
 use Rattle.part.specs.declared.Area.the-variants.{Main, WireAnd}
 use Rattle.part.specs.declared.Device.{Device}
 use Rattle.part.specs.declared.BytePlace.{BytePlace}

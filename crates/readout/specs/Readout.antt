@@ -8,8 +8,9 @@ use lib.ListN.{length, getD}
 use Rattle.part.specs.Outcome.{Outcome}
 use Rattle.part.specs.Outcome.Outcome.{accepted, refused}
 use Rattle.part.specs.Device.{imageBytes, readoutBytes}
-use Rattle.part.specs.Place.{widthOf, fuseOfPlace, placeOfFuse, indexOfByte, byteOfIndex}
-use Rattle.part.specs.Convert.{ifKnown, ifLength}
+use Rattle.part.specs.Place.{widthOf, fuseOfPlace, placeOfFuse}
+use Rattle.addresses.specs.Address.{indexOfByte, byteOfIndex}
+use Rattle.part.specs.Sizes.{ifKnown, ifLength}
 use Rattle.part.specs.declared.Device.{Device}
 use Rattle.image.specs.Bits.{bitAt, gathered, tabulate}
 use Rattle.image.specs.Image.{state, imageFrom}

@@ -9,7 +9,8 @@ use lib.Dec.{eqb, ltb}
 use lib.ListN.{length, getD}
 use borrow.Author.Tests.{lt-ltb, ltb-true}
 use Rattle.part.specs.Device.{known, readoutBytes, mainWidth}
-use Rattle.part.specs.Place.{hasByte, widthOf, hasPlace, indexOfByte}
+use Rattle.part.specs.Place.{hasByte, widthOf, hasPlace}
+use Rattle.addresses.specs.Address.{indexOfByte}
 use Rattle.part.specs.declared.BytePlace.the-variants as byte
 use Rattle.part.specs.declared.Device.{Device}
 use Rattle.part.specs.declared.Place.{Place}

@@ -11,14 +11,15 @@ use lib.ListN.{getD}
 use lib.Pow.{pow-pos, pow-mono, shl-exact}
 use borrow.Author.Tests.{lt-leb, le-leb, ne-eqb}
 use Rattle.part.specs.Device.{known, inDevice, fuseCount, readoutBytes}
-use Rattle.part.specs.Place.{hasByte, hasPlace, widthOf, placeOfFuse, indexOfByte, byteOfIndex}
+use Rattle.part.specs.Place.{hasByte, hasPlace, widthOf, placeOfFuse}
+use Rattle.addresses.specs.Address.{indexOfByte, byteOfIndex}
 use Rattle.part.specs.declared.Device.{Device}
 use Rattle.part.specs.declared.Place.{Place}
 use Rattle.part.proofs.Facts.{and-iff, compared}
 use Rattle.part.proofs.Laws.{width-small}
 use Rattle.part.proofs.Devices.{by-count, known-count, fuses-small, image-whole, in-device-small}
 use Rattle.part.proofs.Fuses.{of-place}
-use Rattle.part.proofs.Readouts.{of-byte}
+use Rattle.addresses.proofs.Readouts.{of-byte}
 use Rattle.image.specs.Bits.{bitAt, gathered}
 use Rattle.image.proofs.Bits.{gathered-small}
 use Rattle.readout.specs.Readout.{widthAt, aboveAt}

@@ -11,7 +11,7 @@ use lib.ListN.{length}
 use lib.Pow.{pow-add, pow-mono, shl-exact, field}
 use borrow.Author.Tests.{lt-ltb}
 use Rattle.part.specs.Device.{known}
-use Rattle.part.specs.Place.{indexOfByte}
+use Rattle.addresses.specs.Address.{indexOfByte}
 use Rattle.part.specs.declared.Device.{Device}
 use Rattle.part.specs.declared.Place.{Place}
 use Rattle.image.specs.Bits.{bitOf, bitAt, withBit, gathered}

@@ -63,7 +63,7 @@ pub fn location_at(d: Device, layout: Layout, place: Place) -> Location
             }
         }
         Layout::Readout => Location {
-            index: part::places::index_of_byte(d, byte) as usize,
+            index: addresses::bytes::index_of_byte(d, byte) as usize,
             bit: place.bit,
         },
     }
@@ -224,7 +224,7 @@ pub fn above_of(d: Device, readout: &[u8], s: Setting) -> usize
     }
     let place = setting_places::places::place_of(d, s, 0);
     let byte = place.byte;
-    let index = part::places::index_of_byte(d, byte) as usize;
+    let index = addresses::bytes::index_of_byte(d, byte) as usize;
     let width = part::places::width_of(byte);
     let above = above_width(readout, index, width);
     if above != 0 {

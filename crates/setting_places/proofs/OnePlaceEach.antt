@@ -24,7 +24,7 @@ use Rattle.settings.specs.declared.Setting.{Setting}
 use Rattle.settings.specs.declared.Setting.the-variants.{Literal, WireAnd, Macrocell, Block, Global}
 use Rattle.setting_places.specs.Places.{main, wireAnd, literalRow, firstRow, rows, blockPlace, globalPlace, globalBits, placeOf}
 use Rattle.setting_places.specs.Places.{bitsOf}
-use Rattle.part.proofs.Tables.{allBelow, below-all, Each}
+use Rattle.part.proofs.Tables.{allBelow, below-all}
 use Rattle.settings.proofs.FieldIndices.{block-0, few, numbered, macrocell-at}
 
 -- The macrocell fields' rows: from 12 to 54.

@@ -17,7 +17,7 @@ use borrow.Author.Tests.{lt-ltb, ltb-true}
 use Rattle.part.specs.Outcome.Outcome.{accepted}
 use Rattle.part.specs.Device.{known, isLarge}
 use Rattle.part.specs.declared.Device.{Device}
-use Rattle.part.proofs.Conversions.{passed, result}
+use Rattle.part.proofs.Checks.{passed, result}
 use Rattle.settings.specs.Settings.{hasSetting}
 use Rattle.settings.specs.declared.GlobalField.the-variants.{FoeMux, Usercode}
 use Rattle.settings.specs.declared.Setting.{Setting}

@@ -12,7 +12,7 @@ use Rattle.part.proofs.Devices.{by-count, known-count}
 use Rattle.settings.specs.Fields.{foes, polarityIndex, macrocellFields, macrocellIndex, blockIndex, globalFields}
 use Rattle.settings.specs.Fields.{globalIndex}
 use Rattle.settings.specs.Settings.{hasSetting}
-use Rattle.settings.specs.Order.{group, at, start, countOf, numberOf}
+use Rattle.settings.specs.Order.{at, start, countOf, numberOf}
 use Rattle.settings.specs.Order.Group.{wireAnds, macrocellSettings, blockSettings, globals}
 use Rattle.settings.specs.declared.Polarity.{Polarity}
 use Rattle.settings.specs.declared.MacrocellField.{MacrocellField}
@@ -20,7 +20,6 @@ use Rattle.settings.specs.declared.BlockField.{BlockField}
 use Rattle.settings.specs.declared.GlobalField.{GlobalField}
 use Rattle.settings.specs.declared.Setting.{Setting}
 use Rattle.settings.specs.declared.Setting.the-variants.{Literal, WireAnd, Macrocell, Block, Global}
-use Rattle.settings.proofs.Order.Within.{more}
 use Rattle.settings.proofs.FieldIndices.{few}
 use Rattle.settings.proofs.Numbering.{number-below}
 

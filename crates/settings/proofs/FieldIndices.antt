@@ -12,7 +12,7 @@ use Rattle.part.proofs.Facts.{compared}
 use Rattle.part.proofs.Devices.{by-count, known-count}
 use Rattle.settings.specs.Fields.{foes, listed, polarityIndex, macrocellFields, macrocellIndex, blockFields, blockIndex, globalFields}
 use Rattle.settings.specs.Fields.{globalIndex}
-use Rattle.settings.specs.Order.{group, indices, at, polarityAt}
+use Rattle.settings.specs.Order.{at, polarityAt}
 use Rattle.settings.specs.Order.{macrocellFieldAt, blockFieldAt, globalFieldAt}
 use Rattle.settings.specs.declared.Polarity.{Polarity}
 use Rattle.settings.specs.declared.Polarity.the-variants.{P, N}

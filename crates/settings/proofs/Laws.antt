@@ -12,7 +12,7 @@ use borrow.Author.Tests.{lt-ltb, ltb-true}
 use Rattle.part.specs.Outcome.Outcome.{accepted}
 use Rattle.part.specs.Device.{known}
 use Rattle.part.specs.declared.Device.{Device}
-use Rattle.part.proofs.Conversions.{passed, result}
+use Rattle.part.proofs.Checks.{passed, result}
 use Rattle.settings.specs.Settings.{hasSetting}
 use Rattle.settings.specs.Order.{countOf, numberOf, settingOf}
 use Rattle.settings.specs.Operations.{settingOfNumber, numberOfSetting}

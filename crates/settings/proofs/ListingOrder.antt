@@ -10,7 +10,6 @@ use lib.Dec.{eqb}
 use borrow.Author.Tests.{lt-ltb, le-ltb, eq-eqb, ne-eqb}
 use Rattle.part.specs.declared.Device.{Device}
 use Rattle.part.proofs.Facts.{compared}
-use Rattle.settings.specs.Fields.{listed}
 use Rattle.settings.specs.Settings.{hasSetting}
 use Rattle.settings.specs.Order.{Group, rank, group, indices, bounds, position, at, size, start, numberOf}
 use Rattle.settings.specs.Order.{earlier, before}

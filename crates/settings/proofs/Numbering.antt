@@ -11,7 +11,7 @@ use Rattle.part.proofs.Facts.{compared, tests}
 use Rattle.settings.specs.Fields.{polarityIndex}
 use Rattle.settings.specs.Settings.{hasSetting}
 use Rattle.settings.specs.Order.{Group, group, indices, bounds, position, at, size, start, countOf, numberOf}
-use Rattle.settings.specs.Order.{fromIndices, inGroup, settingOf, before}
+use Rattle.settings.specs.Order.{fromIndices, inGroup, settingOf}
 use Rattle.settings.specs.Order.Group.{literals, wireAnds, macrocellSettings, blockSettings, globals}
 use Rattle.settings.specs.declared.Polarity.{Polarity}
 use Rattle.settings.specs.declared.Polarity.the-variants.{P, N}

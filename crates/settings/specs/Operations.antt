@@ -5,7 +5,7 @@ use mathlib.Core.Bool.{cond}
 use lib.Dec.{ltb}
 use Rattle.part.specs.Outcome.{Outcome}
 use Rattle.part.specs.Outcome.Outcome.{accepted, refused}
-use Rattle.part.specs.Convert.{ifKnown}
+use Rattle.part.specs.Sizes.{ifKnown}
 use Rattle.part.specs.declared.Device.{Device}
 use Rattle.settings.specs.Settings.{hasSetting}
 use Rattle.settings.specs.Order.{countOf, numberOf, settingOf}

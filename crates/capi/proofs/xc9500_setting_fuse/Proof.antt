@@ -47,9 +47,10 @@ refusal-word-requires c κs = search needs
 
 returns : tie.Need-returns
 returns c =
-    its-fuse _ _ (c .before .before .before .before .before .before .args .bit) _ _
-    (c .before .before .before .before .before .setting-of-number .ensures) _ (c .before .fuse-of-bit .result)
-    (c .before .before .before .answer .given .1) (c .before .fuse-of-bit .ensures) (c .bit-word .ensures)
+    let told = c .before .before .before in
+    its-fuse _ _ (told .before .before .before .args .bit) _ _
+    (told .before .before .setting-of-number .ensures) _ (c .before .fuse-of-bit .result)
+    (told .answer .given .1) (c .before .fuse-of-bit .ensures) (c .bit-word .ensures)
 
 returns-2 : tie.Need-returns-2
 returns-2 c =

@@ -16,13 +16,13 @@ use Rattle.settings.specs.declared.Setting.{Setting}
 use Rattle.values.specs.declared.Value.{Value}
 use Rattle.setting_bits.specs.declared.Layout.the-variants.{Image, Readout}
 use Rattle.edit.specs.Edit.{withValue, setIn}
-use Rattle.edit.specs.Demand.{Taken, Made}
+use Rattle.edit.specs.Demand.{Premise, AsDefined}
 use Rattle.edit.proofs.NotRefused.{not-refused, its-length}
 use Rattle.edit.proofs.SameReadout.{same-readout}
 use Rattle.edit.proofs.SameImage.{changed, same-image}
 use Rattle.edit.proofs.ConversionsAccepted.{passes, passes-back}
 use Rattle.edit.proofs.Demand.{of-calls}
-use Rattle.demand.specs.BothWays.{ReadInBoth, Begun, SetInBoth, BothConverted, Ran, RightLengths, BothWays, callsOf}
+use Rattle.demand.specs.BothWays.{ReadInBoth, Begun, SetInBoth, BothConverted, StepByStep, RightLengths, BothWays, callsOf}
 use Rattle.demand.specs.declared.BothAnswer.{BothAnswer}
 use borrow.Author.Needs.{needs}
 use Rattle.demand.proofs.both_ways.Statement.{statement}
@@ -40,7 +40,7 @@ module _ (d : Device) (image readout kept as-readout as-image : List ℕ) (s : S
     (converted : BothConverted d image2 readout2 as-readout as-readout1 as-image as-image1 (r .converted))
     (reads : ReadInBoth d image2 readout2 s (r .read))
     (others : ReadInBoth d image2 readout2 t (r .other)) where
-  module _ (pattern : ℕ) (taken : Taken d image s v pattern) (lengths : RightLengths d readout kept as-readout as-image) where
+  module _ (pattern : ℕ) (taken : Premise d image s v pattern) (lengths : RightLengths d readout kept as-readout as-image) where
     -- Before the change.
     made-before : readout1 ≡ readoutOf d image
     made-before = left (begun .converted) (passes d image readout (taken .device) (taken .size) (lengths .readout-size))
@@ -95,7 +95,7 @@ module _ (d : Device) (image readout kept as-readout as-image : List ℕ) (s : S
         ap length (its-own-image ∙ ap (imageOf d) changed-own ∙ same-image d image s v pattern taken)
         ∙ changed d image s v pattern taken .size
 
-    made : Made d image s v t (callsOf r image2 readout2 kept1 as-readout1 as-image1)
+    made : AsDefined d image s v t (callsOf r image2 readout2 kept1 as-readout1 as-image1)
     made = record {
       conversion = (begun .converted .answers ∙ first-answer, kept-own);
       answers = (put .in-image .answers, put-kept .answers);
@@ -117,7 +117,7 @@ module _ (d : Device) (image readout kept as-readout as-image : List ℕ) (s : S
       others-after = (others .in-image, others .in-readout);
     }
 
-  steps : Ran d image readout kept as-readout as-image s v t r image2 readout2 kept1 as-readout1 as-image1
+  steps : StepByStep d image readout kept as-readout as-image s v t r image2 readout2 kept1 as-readout1 as-image1
   steps = record {
     begun = rw (← begun .converted .holds) begun;
     set = rw (← begun .converted .holds) put;
@@ -153,16 +153,22 @@ same-length c = search needs
 
 same-length-2 : tie.Need-same-length-2
 same-length-2 c =
-    let converting = c .before .before .before .before .before .before .before .before .before .before in
-    let setting = converting .before .before .before .before .before .before .before .before .before in
-    let beginning = setting .before .before .before .before .before .before .before in
+    let reading = c .before .before .before .before .before in
+    let converting = reading .before .before .before .before .before in
+    let converted = converting .before .before .before .before .before in
+    let setting = converted .before .before .before .before in
+    let set = setting .before .before .before .before in
+    let beginning = set .before .before .before in
     omega (arith, beginning .begin .kept, setting .set-both .kept)
 
 same-length-3 : tie.Need-same-length-3
 same-length-3 c =
-    let converting = c .before .before .before .before .before .before .before .before .before .before in
-    let setting = converting .before .before .before .before .before .before .before .before .before in
-    let beginning = setting .before .before .before .before .before .before .before in
+    let reading = c .before .before .before .before .before in
+    let converting = reading .before .before .before .before .before in
+    let converted = converting .before .before .before .before .before in
+    let setting = converted .before .before .before .before in
+    let set = setting .before .before .before .before in
+    let beginning = set .before .before .before in
     omega (arith, beginning .begin .kept)
 
 same-length-4 : tie.Need-same-length-4
@@ -173,9 +179,12 @@ same-length-5 c = search needs
 
 returns : tie.Need-returns
 returns c =
-    let converting = c .before .before .before .before .before .before .before .before .before .before in
-    let setting = converting .before .before .before .before .before .before .before .before .before in
-    let beginning = setting .before .before .before .before .before .before .before in
+    let reading = c .before .before .before .before .before in
+    let converting = reading .before .before .before .before .before in
+    let converted = converting .before .before .before .before .before in
+    let setting = converted .before .before .before .before in
+    let set = setting .before .before .before .before in
+    let beginning = set .before .before .before in
     ran _ _ _ _ _ _ _ _ _ _ _ _ _ _ _ _ (beginning .begin .ensures) (setting .set-both .ensures) (converting .convert-both .ensures)
     (c .before .before .before .read-both .ensures) (c .read-both2 .ensures)
 

@@ -63,8 +63,9 @@ fuse-count-requires c κs = search (needs, is-known)
 
 ones-of-requires : tie.Need-ones-of-requires
 ones-of-requires c κs =
-    short _ (c .before .before .before .before .before .before .args .image .now) _
-    (is-known _ _ (c .before .before .before .before .is-known .ensures) (c .before .before .before .if1 .left))
+    let tested = c .before .before .before in
+    short _ (tested .before .before .before .args .image .now) _
+    (is-known _ _ (tested .before .is-known .ensures) (tested .if1 .left))
     (c .before .before .image-bytes .ensures) (c .before .if2 .left)
 
 cast-ones : tie.Need-cast-ones

@@ -6,7 +6,7 @@ use Prim.Native.Nat.{ℕ}
 use borrow.Author.Needs.{needs}
 use Rattle.part.specs.Outcome.Outcome.{accepted, refused}
 use Rattle.part.specs.Device.{known, fuseCount, imageBytes, readoutBytes, textBytes}
-use Rattle.part.specs.Convert.{sizesOf}
+use Rattle.part.specs.Sizes.{sizesOf}
 use Rattle.part.specs.declared.Device.{Device}
 use Rattle.part.proofs.Devices.{is-known, is-unknown}
 use Rattle.part.proofs.sizes_of.Statement.{statement}

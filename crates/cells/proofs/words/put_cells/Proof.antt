@@ -28,10 +28,10 @@ step out at width count i rest low h e =
     let next : at + (i + 1) ≡ suc (at + i) = omega arith in
     rw (more, next, e)
 
-again : (out all : List ℕ) (at width count i rest low : ℕ) → i < count → low ≡ rest % 2 ^ width
+next-step : (out all : List ℕ) (at width count i rest low : ℕ) → i < count → low ≡ rest % 2 ^ width
     → sets out (at + i) (cut (replicate (count - i) width) rest) ≡ all
     → sets (set out (at + i) low) (at + (i + 1)) (cut (replicate (count - (i + 1)) width) (rest / 2 ^ width)) ≡ all
-again out all at width count i rest low h e f = step out at width count i rest low h e ∙ f
+next-step out all at width count i rest low h e f = step out at width count i rest low h e ∙ f
 
 end : (out all : List ℕ) (at width count i rest : ℕ) → count ≤ i
     → sets out (at + i) (cut (replicate (count - i) width) rest) ≡ all → out ≡ all
@@ -74,7 +74,7 @@ loop-less : tie.Need-loop-less Inv-loop μ-loop
 loop-less c = omega arith
 
 loop-again : tie.Need-loop-again Inv-loop μ-loop
-loop-again c = (omega arith, simp length-set (omega arith), search (needs, again))
+loop-again c = (omega arith, simp length-set (omega arith), search (needs, next-step))
 
 same-length : tie.Need-same-length Inv-loop μ-loop
 same-length c = omega arith

@@ -134,7 +134,8 @@ enum-known-found c = search needs
 
 above-in-requires : tie.Need-above-in-requires
 above-in-requires c κs =
-    let at = c .before .before .before .before .before .before in
+    let tested = c .before .before .before in
+    let at = tested .before .before .before in
     (search (needs, is-known), has _ _ _ (at .before .has-setting .ensures) (at .if3 .left), search (needs, its-size))
 
 cast-index : tie.Need-cast-index
@@ -147,7 +148,9 @@ returns-4 : tie.Need-returns-4
 returns-4 c = search (needs, is-known, has, one-above)
 
 put-pattern-requires : tie.Need-put-pattern-requires
-put-pattern-requires c κs = let at = c .before .before .before .before .before .before .before .before .before in
+put-pattern-requires c κs =
+    let tested = c .before .before .before .before .before in
+    let at = tested .before .before .before .before in
     (search (needs, is-known), has _ _ _ (at .before .has-setting .ensures) (at .if3 .left), search (needs, its-size))
 
 enum-told : tie.Need-enum-told

@@ -71,10 +71,11 @@ usercode-at-requires c κs = (search (needs, is-known), search (needs, has-userc
 returns-4 : tie.Need-returns-4
 returns-4 c =
     let tested = c .before .before .before .before in
-    let start = tested .before .before .before .before .before .before .before in
+    let sized = tested .before .before .before .before in
+    let start = sized .before .before .before in
     reads-code (start .before .args .d) _ _ _ _ _ _ (is-known _ _
-    (tested .before .before .before .before .before .before .is-known .ensures) (tested .before .before .before .before .before .if1 .left))
-    (tested .before .before .before .before .bytes-of .ensures) (tested .before .before .before .if2 .left)
+    (sized .before .before .is-known .ensures) (sized .before .if1 .left))
+    (sized .bytes-of .ensures) (tested .before .before .before .if2 .left)
     (tested .before .before .count-of .ensures) (tested .if3 .left) (c .before .before .before .number-of-usercode .ensures)
     (c .before .if4 .taken) (λ i. start .shared-slice-known .given i .fits) _ (c .usercode-at .ensures)
 
@@ -95,9 +96,9 @@ returns-5 : tie.Need-returns-5
 returns-5 c = search (needs, is-known, one-above)
 
 pattern-at-requires : tie.Need-pattern-at-requires
-pattern-at-requires c κs = let tested = c .before .before .before .before .before .before in (
+pattern-at-requires c κs = let found = c .before .before in let tested = found .before .before .before .before in (
   search (needs, is-known),
-  there _ _ _ _ (tested .before .before .count-of .ensures) (tested .if3 .left) (c .before .before .setting-of .ensures),
+  there _ _ _ _ (tested .before .before .count-of .ensures) (tested .if3 .left) (found .setting-of .ensures),
   search (needs, its-size),
 )
 

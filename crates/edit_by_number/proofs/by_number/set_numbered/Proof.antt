@@ -91,12 +91,14 @@ same-length c = search needs
 
 returns-4 : tie.Need-returns-4
 returns-4 c =
-    let tested = c .before .before .before .before .before .before .before in
-    let start = tested .before .before .before .before .before .before .before in
-    sets-code (start .before .args .d) _ _ _ _ _ _ (is-known _ _ (tested .before .before .before .before .before .before .is-known .ensures)
-    (tested .before .before .before .before .before .if1 .left)) (tested .before .before .before .before .bytes-of .ensures)
+    let chosen = c .before .before .before .before in
+    let tested = chosen .before .before .before in
+    let sized = tested .before .before .before .before in
+    let start = sized .before .before .before in
+    sets-code (start .before .args .d) _ _ _ _ _ _ (is-known _ _ (sized .before .before .is-known .ensures)
+    (sized .before .if1 .left)) (sized .bytes-of .ensures)
     (tested .before .before .before .if2 .left) (tested .before .before .count-of .ensures) (tested .if3 .left)
-    (c .before .before .before .before .before .before .number-of-usercode .ensures) (c .before .before .before .before .if4 .taken)
+    (chosen .before .before .number-of-usercode .ensures) (chosen .if4 .taken)
     (λ i. start .slice-known .given i .fits) _ _ (start .before .fits .pattern .fits) (c .before .before .put-usercode .ensures)
 
 setting-of-requires : tie.Need-setting-of-requires

@@ -18,16 +18,16 @@ use Rattle.image.proofs.bytes.ones_of.Statement.{statement}
 use Rattle.image.proofs.bytes.ones_of.Tie as tie
 
 -- So many more bytes, as one word.
-again : (bytes : List ℕ) (sum word i k all : ℕ) → i + k ≤ length bytes → word ≡ join (replicate k 8) (drop i bytes)
+next : (bytes : List ℕ) (sum word i k all : ℕ) → i + k ≤ length bytes → word ≡ join (replicate k 8) (drop i bytes)
     → sum + onesIn (drop i bytes) ≡ all → sum + onesOf word + onesIn (drop (i + k) bytes) ≡ all
-again bytes sum word i k all h e f =
+next bytes sum word i k all h e f =
     let more = ones-join k (drop i bytes) (rw length-drop (omega arith)) in
     rw (e, ← drop-drop k i bytes) (omega arith)
 
 -- The ones so far are among all.
 fits : (bytes : List ℕ) (sum word i k : ℕ) → length bytes ≤ 65536 → i + k ≤ length bytes → word ≡ join (replicate k 8) (drop i bytes)
     → sum + onesIn (drop i bytes) ≡ onesIn bytes → Fits w64 (sum + onesOf word)
-fits bytes sum word i k l h e f = omega (arith, again bytes sum word i k (onesIn bytes) h e f, onesIn-le bytes)
+fits bytes sum word i k l h e f = omega (arith, next bytes sum word i k (onesIn bytes) h e f, onesIn-le bytes)
 
 few : (bytes : List ℕ) (sum word i k : ℕ) → length bytes ≤ 65536 → i + k ≤ length bytes → word ≡ join (replicate k 8) (drop i bytes)
     → sum + onesIn (drop i bytes) ≡ onesIn bytes → Fits w64 (onesOf word)
@@ -79,7 +79,7 @@ loop-less c = omega arith
 loop-again : tie.Need-loop-again Inv-loop μ-loop Inv-loop2 μ-loop2
 loop-again c = (
   omega arith,
-  again (c .before .before .before .before .args .bytes .now) (c .before .before .loop .ones) (c .joined .result)
+  next (c .before .before .before .before .args .bytes .now) (c .before .before .loop .ones) (c .joined .result)
       (c .before .before .loop .i) 8 _ (omega arith) (c .joined .ensures) (c .before .before .loop .inv .1),
 )
 
@@ -91,15 +91,17 @@ joined-requires-2 c κs = omega arith
 
 cast-ones-2 : tie.Need-cast-ones-2 Inv-loop μ-loop Inv-loop2 μ-loop2
 cast-ones-2 c =
-    few (c .before .before .before .before .before .before .args .bytes .now) (c .before .before .loop2 .ones) (c .joined2 .result)
-    (c .before .before .loop2 .i) 1 (c .before .before .before .before .before .before .pre) (omega arith) (c .joined2 .ensures)
-    (c .before .before .loop2 .inv .1)
+    let in-loop = c .before .before in
+    let start = in-loop .before .before .before .before in
+    few (start .args .bytes .now) (in-loop .loop2 .ones) (c .joined2 .result)
+    (in-loop .loop2 .i) 1 (start .pre) (omega arith) (c .joined2 .ensures) (in-loop .loop2 .inv .1)
 
 add-ones-2 : tie.Need-add-ones-2 Inv-loop μ-loop Inv-loop2 μ-loop2
 add-ones-2 c =
-    fits (c .before .before .before .before .before .before .args .bytes .now) (c .before .before .loop2 .ones) (c .joined2 .result)
-    (c .before .before .loop2 .i) 1 (c .before .before .before .before .before .before .pre) (omega arith) (c .joined2 .ensures)
-    (c .before .before .loop2 .inv .1)
+    let in-loop = c .before .before in
+    let start = in-loop .before .before .before .before in
+    fits (start .args .bytes .now) (in-loop .loop2 .ones) (c .joined2 .result)
+    (in-loop .loop2 .i) 1 (start .pre) (omega arith) (c .joined2 .ensures) (in-loop .loop2 .inv .1)
 
 add-i-2 : tie.Need-add-i-2 Inv-loop μ-loop Inv-loop2 μ-loop2
 add-i-2 c = omega arith
@@ -110,8 +112,9 @@ loop2-less c = omega arith
 loop2-again : tie.Need-loop2-again Inv-loop μ-loop Inv-loop2 μ-loop2
 loop2-again c = (
   omega arith,
-  again (c .before .before .before .before .before .before .args .bytes .now) (c .before .before .loop2 .ones) (c .joined2 .result)
-      (c .before .before .loop2 .i) 1 _ (omega arith) (c .joined2 .ensures) (c .before .before .loop2 .inv .1),
+  let in-loop = c .before .before in
+      next (in-loop .before .before .before .before .args .bytes .now) (in-loop .loop2 .ones) (c .joined2 .result)
+      (in-loop .loop2 .i) 1 _ (omega arith) (c .joined2 .ensures) (in-loop .loop2 .inv .1),
 )
 
 returns : tie.Need-returns Inv-loop μ-loop Inv-loop2 μ-loop2

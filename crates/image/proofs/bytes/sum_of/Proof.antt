@@ -48,9 +48,9 @@ step pairs seconds a b rest h =
     ∙ add-mul-mod-self-right (pairs + seconds * 65281 + (a + (b + rest))) b 65536
 
 module _ (bytes : List ℕ) (pairs seconds i : ℕ) (o : (k : ℕ) → Fits w8 (getD bytes k 0)) (f : So-far bytes pairs seconds i) where
-  again : (pair p s : ℕ) → 2 ≤ length bytes - i → pair ≡ getD bytes i 0 + getD bytes (i + 1) 0 * 2 ^ 8 → p ≡ (pairs + pair) % 2 ^ 16
+  next-step : (pair p s : ℕ) → 2 ≤ length bytes - i → pair ≡ getD bytes i 0 + getD bytes (i + 1) 0 * 2 ^ 8 → p ≡ (pairs + pair) % 2 ^ 16
       → s ≡ (seconds + pair / 2 ^ 8) % 2 ^ 16 → So-far bytes p s (i + 2)
-  again pair p s h e g k =
+  next-step pair p s h e g k =
       let a = getD bytes i 0 in
       let b = getD bytes (i + 1) 0 in
       let both : byteSum (drop i bytes) ≡ a + (b + byteSum (drop (i + 1 + 1) bytes)) =
@@ -99,7 +99,7 @@ loop-less : tie.Need-loop-less Inv-loop μ-loop
 loop-less c = omega arith
 
 loop-again : tie.Need-loop-again Inv-loop μ-loop
-loop-again c = (omega arith, search (needs, again))
+loop-again c = (omega arith, search (needs, next-step))
 
 shared-slice-read-wrapping-add-u16 : tie.Need-shared-slice-read-wrapping-add-u16 Inv-loop μ-loop
 shared-slice-read-wrapping-add-u16 c = omega arith

@@ -9,7 +9,8 @@ use lib.Dec.{eqb}
 use lib.ListN.{length, getD}
 use borrow.Author.Tests.{ne-eqb}
 use Rattle.part.specs.Device.{known, readoutBytes}
-use Rattle.part.specs.Place.{hasByte, widthOf, indexOfByte}
+use Rattle.part.specs.Place.{hasByte, widthOf}
+use Rattle.addresses.specs.Address.{indexOfByte}
 use Rattle.part.specs.declared.Device.{Device}
 use Rattle.part.specs.declared.Place.{Place}
 use Rattle.settings.specs.Settings.{hasSetting}
@@ -79,10 +80,12 @@ above-width-requires c κs =
     (search (needs, index-in, c .before .before .before .before .in-whole-bytes .ensures .1), search (needs, width-in))
 
 returns-2 : tie.Need-returns-2
-returns-2 c = search (needs, one-above, c .before .before .before .before .before .before .in-whole-bytes .ensures .1)
+returns-2 c =
+    let located = c .before .before .before in search (needs, one-above, located .before .before .before .in-whole-bytes .ensures .1)
 
 returns-3 : tie.Need-returns-3
-returns-3 c = search (needs, clean, c .before .before .before .before .before .before .in-whole-bytes .ensures .1)
+returns-3 c =
+    let located = c .before .before .before in search (needs, clean, located .before .before .before .in-whole-bytes .ensures .1)
 
 pub above-of-spec : {M : Type 1} → statement M
 above-of-spec =

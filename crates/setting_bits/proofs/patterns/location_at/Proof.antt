@@ -7,7 +7,8 @@ use native.Mathlib.Omega.{arith}
 use mir.Syntax.{w32}
 use mir.Val.{Fits}
 use Rattle.part.specs.Device.{known}
-use Rattle.part.specs.Place.{hasByte, hasPlace, firstFuse, fuseOfPlace, indexOfByte}
+use Rattle.part.specs.Place.{hasByte, hasPlace, firstFuse, fuseOfPlace}
+use Rattle.addresses.specs.Address.{indexOfByte}
 use Rattle.part.specs.declared.Device.{Device}
 use Rattle.part.specs.declared.Place.{Place}
 use Rattle.part.proofs.Devices.{fuses-small}

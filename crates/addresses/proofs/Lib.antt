@@ -1,0 +1,6 @@
+-- The laws about addresses, lowest first.
+-- Assumes nothing.
+pub mod ByteAddresses
+pub mod Conversions
+pub mod Readouts
+pub mod Laws
