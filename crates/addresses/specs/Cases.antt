@@ -4,7 +4,7 @@ use mathlib.Core.Path.{_≡_}
 use mathlib.Core.List.{List, [], _∷_}
 use Prim.Native.Nat.{ℕ}
 use Rattle.part.specs.Outcome.Outcome.{accepted, refused}
-use Rattle.part.specs.declared.Device.{Device}
+use Rattle.part.specs.Cases.{twoSmall}
 use Rattle.addresses.specs.Convert.{addressOfFuse, fuseOfAddress}
 
 pub data Case : Type 0 where
@@ -14,9 +14,6 @@ pub data Case : Type 0 where
   noFuse : (fuse : ℕ) → Case
   -- An address is refused 3, at every bit.
   noAddress : (address : ℕ) → Case
-
-abbrev pub twoSmall : Device
-twoSmall = record { blocks = 2; class = 0 }
 
 abbrev pub Holds : Case → Type 0
 Holds (is fuse address bit) =

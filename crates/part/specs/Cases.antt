@@ -1,11 +1,12 @@
 -- Document 01's table of sizes, with what it is for a row to hold.
--- Two devices that are none.
+-- Two devices that are none, and the one of the bench cases.
 use mathlib.Core.Path.{_≡_}
 use mathlib.Core.Bool.{true}
 use Prim.Native.Nat.{ℕ}
 use Rattle.part.specs.Outcome.Outcome.{accepted, refused}
 use Rattle.part.specs.Device.{isClass}
 use Rattle.part.specs.Sizes.{sizesOf}
+use Rattle.part.specs.declared.Device.{Device}
 
 -- n, fuses, image bytes, readout bytes, and the bytes of the text, which document 01 gives for 2
 -- and 16 blocks; in either class.
@@ -29,3 +30,7 @@ abbrev pub NoDevices : Type 0
 NoDevices =
     (sizesOf (record { blocks = 10; class = 0 }) ≡ refused 1 0)
     × (sizesOf (record { blocks = 2; class = 2 }) ≡ refused 1 0)
+
+-- The device of document 01's bench cases: two blocks of the small class.
+abbrev pub twoSmall : Device
+twoSmall = record { blocks = 2; class = 0 }
