@@ -17,6 +17,7 @@ use Rattle.part.specs.Outcome.Outcome.{accepted, refused}
 use Rattle.part.specs.Device.{known, fuseCount, imageBytes, readoutBytes, textBytes}
 use Rattle.part.specs.Place.{widthOf, fuseOfPlace, placeOfFuse}
 use Rattle.addresses.specs.Address.{addressOfByte, byteOfAddress, valid}
+use Rattle.part.specs.Sizes.{sizesOf}
 use Rattle.addresses.specs.Convert.{addressOfFuse, fuseOfAddress}
 use Rattle.part.specs.declared.Device.{Device}
 use Rattle.part.proofs.Facts.{and-iff, by-cases}
@@ -36,7 +37,7 @@ use Rattle.setting_places.specs.Back.{settingAt}
 use Rattle.setting_places.specs.Operations.{fuseOfBit, settingAtFuse}
 use Rattle.setting_places.proofs.Laws.{sound}
 use Rattle.setting_bits.specs.declared.Layout.{Layout}
-use Rattle.setting_bits.specs.declared.Layout.the-variants.{Readout}
+use Rattle.setting_bits.specs.declared.Layout.the-variants.{Image, Readout}
 use Rattle.setting_bits.specs.SettingBits.{bytesOf, stateOf, patternAt}
 use Rattle.setting_bits.proofs.Steps.{bytes-between, bits-few, state-small}
 use Rattle.setting_bits.proofs.Edits.{fuse-below}
@@ -48,6 +49,7 @@ use Rattle.jedec_reader.specs.Reader.{verdict, toImageFromText}
 use Rattle.edit.specs.Edit.{aboveIn, ifClean}
 use Rattle.edit_by_number.specs.ByNumber.{readPattern, setPattern}
 use Rattle.capi.specs.Packed.{addressAndBit, itself, noResult, settingAndBit, through, WordFits, WordFitsOrNone}
+use Rattle.capi.specs.Packed.{fusesIn, imageBytesIn, readoutBytesIn, textBytesIn}
 use Rattle.capi.specs.Words.{EachFits}
 
 -- What holds of the answer where a test fails, and of the one where it passes.
@@ -59,6 +61,26 @@ chosen P t {a} {b} wrong right = go t refl
     go false e = wrong
 
 module _ (d : Device) where
+  text-small : known d ≡ true → textBytes d < 2 ^ 56
+  text-small k = omega (arith, text-few d k)
+
+  fuse-count : WordFits fusesIn (sizesOf d)
+  unfolding sizesOf
+  fuse-count = chosen (WordFits fusesIn) (known d) (omega arith, omega arith) (λ k. omega (arith, fuses-small d k))
+
+  image-bytes : WordFits imageBytesIn (sizesOf d)
+  unfolding sizesOf
+  image-bytes = chosen (WordFits imageBytesIn) (known d) (omega arith, omega arith) (λ k. omega (arith, bytes-between d Image k))
+
+  readout-bytes : WordFits readoutBytesIn (sizesOf d)
+  unfolding sizesOf
+  readout-bytes =
+      chosen (WordFits readoutBytesIn) (known d) (omega arith, omega arith) (λ k. omega (arith, bytes-between d Readout k))
+
+  text-bytes : WordFits textBytesIn (sizesOf d)
+  unfolding sizesOf
+  text-bytes = chosen (WordFits textBytesIn) (known d) (omega arith, omega arith) text-small
+
   address-of-fuse : (fuse : ℕ) → WordFits addressAndBit (addressOfFuse d fuse)
   unfolding addressOfFuse
   address-of-fuse fuse =
@@ -120,9 +142,6 @@ module _ (d : Device) where
       (λ f.
       by-cases (WordFits noResult) (firstAbove d readout) (readoutBytes d)
       (λ l. (omega arith, omega (arith, bytes-between d Readout k))) (λ g. omega arith))))
-
-  text-small : known d ≡ true → textBytes d < 2 ^ 56
-  text-small k = omega (arith, text-few d k)
 
   image-to-text : (image : List ℕ) (buffer : ℕ) → WordFits itself (toText d image buffer)
   unfolding toText
@@ -221,6 +240,10 @@ module _ (d : Device) where
 pub each-fits : EachFits
 each-fits =
     record {
+      fuse-count = fuse-count;
+      image-bytes = image-bytes;
+      readout-bytes = readout-bytes;
+      text-bytes = text-bytes;
       address-of-fuse = address-of-fuse;
       fuse-of-address = fuse-of-address;
       fuse-sum = fuse-sum;

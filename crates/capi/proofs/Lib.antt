@@ -1,4 +1,5 @@
 -- The laws of `capi` that belong to no one function.
 -- Assumes nothing.
+pub mod SizeWords
 pub mod Words
 pub mod Fitting

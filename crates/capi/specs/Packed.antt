@@ -7,6 +7,7 @@ use mathlib.Core.Option.Option.{none, some}
 use Rattle.part.specs.Outcome.{Outcome}
 use Rattle.part.specs.Outcome.Outcome.{accepted, refused}
 use Rattle.part.specs.declared.Device.{Device}
+use Rattle.part.specs.declared.Sizes.{Sizes}
 use Rattle.settings.specs.Order.{numberOf}
 use Rattle.settings.specs.declared.Setting.{Setting}
 
@@ -23,6 +24,19 @@ device blocks class = record { blocks = blocks; class = class }
 -- The result of an address and a bit: the address times 8 plus the bit.
 abbrev pub addressAndBit : ℕ × ℕ → ℕ
 addressAndBit p = p .0 * 8 + p .1
+
+-- The four results of the sizes of a device.
+abbrev pub fusesIn : Sizes → ℕ
+fusesIn z = z .fuses
+
+abbrev pub imageBytesIn : Sizes → ℕ
+imageBytesIn z = z .«image_bytes»
+
+abbrev pub readoutBytesIn : Sizes → ℕ
+readoutBytesIn z = z .«readout_bytes»
+
+abbrev pub textBytesIn : Sizes → ℕ
+textBytesIn z = z .«text_bytes»
 
 -- The result of a single number.
 abbrev pub itself : ℕ → ℕ

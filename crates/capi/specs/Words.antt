@@ -3,6 +3,7 @@
 use Prim.Native.Nat.{ℕ}
 use mathlib.Core.List.{List}
 use Rattle.addresses.specs.Convert.{addressOfFuse, fuseOfAddress}
+use Rattle.part.specs.Sizes.{sizesOf}
 use Rattle.part.specs.declared.Device.{Device}
 use Rattle.image.specs.Image.{fuseSum, zeroCount}
 use Rattle.readout.specs.Readout.{toReadout, toImage}
@@ -12,9 +13,14 @@ use Rattle.jedec_writer.specs.Pattern.{toText}
 use Rattle.jedec_reader.specs.Reader.{toImageFromText}
 use Rattle.edit_by_number.specs.ByNumber.{readPattern, setPattern}
 use Rattle.capi.specs.Packed.{addressAndBit, itself, noResult, settingAndBit, through, WordFits, WordFitsOrNone}
+use Rattle.capi.specs.Packed.{fusesIn, imageBytesIn, readoutBytesIn, textBytesIn}
 use Rattle.setting_bits.specs.declared.Layout.{Layout}
 
 pub record EachFits : Type 0 where
+  pub fuse-count : (d : Device) → WordFits fusesIn (sizesOf d)
+  pub image-bytes : (d : Device) → WordFits imageBytesIn (sizesOf d)
+  pub readout-bytes : (d : Device) → WordFits readoutBytesIn (sizesOf d)
+  pub text-bytes : (d : Device) → WordFits textBytesIn (sizesOf d)
   pub address-of-fuse : (d : Device) (fuse : ℕ) → WordFits addressAndBit (addressOfFuse d fuse)
   pub fuse-of-address : (d : Device) (address bit : ℕ) → WordFits itself (fuseOfAddress d address bit)
   pub fuse-sum : (d : Device) (image : List ℕ) → WordFits itself (fuseSum d image)

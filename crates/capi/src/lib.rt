@@ -5,6 +5,7 @@ ghost use lib.ListN.{length};
 ghost use Rattle.part.specs.Answer.{refusalNumber, refusalValue, numberOutcome};
 ghost use Rattle.addresses.specs.Answer.{addressOutcome, fuseOutcome};
 ghost use Rattle.part.specs.Answer.{doneOutcome};
+ghost use Rattle.part.specs.Sizes.{sizesOf};
 ghost use Rattle.addresses.specs.Convert.{addressOfFuse, fuseOfAddress};
 ghost use Rattle.image.specs.Image.{fuseSum, zeroCount};
 ghost use Rattle.part.specs.Outcome.{written};
@@ -17,7 +18,7 @@ ghost use Rattle.jedec_reader.specs.Reader.{toImageFromText, imageIn};
 ghost use Rattle.setting_bits.specs.declared.Layout.the-variants.{Image, Readout};
 ghost use Rattle.edit_by_number.specs.ByNumber.{readPattern, setPattern, withNumbered};
 ghost use Rattle.capi.specs.Packed.{packed, refusalWord, device, addressAndBit, itself, noResult, orNone};
-ghost use Rattle.capi.specs.Packed.{settingAndBit, through};
+ghost use Rattle.capi.specs.Packed.{settingAndBit, through, fusesIn, imageBytesIn, readoutBytesIn, textBytesIn};
 use addresses::AddressAnswer;
 use addresses::DeviceAddress;
 use addresses::FuseAnswer;
@@ -26,6 +27,7 @@ use part::DoneAnswer;
 use part::FuseNumber;
 use part::NumberAnswer;
 use part::Refusal;
+use part::SizesAnswer;
 use setting_places::BitAnswer;
 use setting_places::NamedAnswer;
 use settings::SettingAnswer;
@@ -86,6 +88,54 @@ fn bit_word(answer: BitAnswer) -> u64
         BitAnswer::Fuse(fuse) => fuse.0 as u64,
         BitAnswer::NoSuchBit => NO_RESULT,
         BitAnswer::Refused(r) => refusal_word(r),
+    }
+}
+
+// How many fuses a device has.
+#[no_mangle]
+pub extern "C" fn xc9500_fuse_count(blocks: u32, class: u32) -> u64
+    ensures { λ w. ⌜ w ≡ packed fusesIn (sizesOf (device blocks class)) ⌝ }
+{
+    let answer = part::sizes_of(Device { blocks, class });
+    match answer {
+        SizesAnswer::Of(sizes) => sizes.fuses as u64,
+        SizesAnswer::Refused(r) => refusal_word(r),
+    }
+}
+
+// How many bytes an image of a device has.
+#[no_mangle]
+pub extern "C" fn xc9500_image_bytes(blocks: u32, class: u32) -> u64
+    ensures { λ w. ⌜ w ≡ packed imageBytesIn (sizesOf (device blocks class)) ⌝ }
+{
+    let answer = part::sizes_of(Device { blocks, class });
+    match answer {
+        SizesAnswer::Of(sizes) => sizes.image_bytes as u64,
+        SizesAnswer::Refused(r) => refusal_word(r),
+    }
+}
+
+// How many bytes a readout of a device has.
+#[no_mangle]
+pub extern "C" fn xc9500_readout_bytes(blocks: u32, class: u32) -> u64
+    ensures { λ w. ⌜ w ≡ packed readoutBytesIn (sizesOf (device blocks class)) ⌝ }
+{
+    let answer = part::sizes_of(Device { blocks, class });
+    match answer {
+        SizesAnswer::Of(sizes) => sizes.readout_bytes as u64,
+        SizesAnswer::Refused(r) => refusal_word(r),
+    }
+}
+
+// How many bytes the text of an image of a device has.
+#[no_mangle]
+pub extern "C" fn xc9500_text_bytes(blocks: u32, class: u32) -> u64
+    ensures { λ w. ⌜ w ≡ packed textBytesIn (sizesOf (device blocks class)) ⌝ }
+{
+    let answer = part::sizes_of(Device { blocks, class });
+    match answer {
+        SizesAnswer::Of(sizes) => sizes.text_bytes as u64,
+        SizesAnswer::Refused(r) => refusal_word(r),
     }
 }
 
