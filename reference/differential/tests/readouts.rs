@@ -1,4 +1,4 @@
-// The differential test of the sums and of the passages between image and readout.
+// The differential test of the sums and of the conversions between image and readout.
 // Every answer and every byte of every slice, the library's against the reference's.
 
 use xc9500_differential::comparison::{Comparison, IMAGE, NO_TARGET, READOUT};
