@@ -1,11 +1,25 @@
-// A whole program that links the archive from Rust: it reads a JEDEC text, reads and sets a setting, writes the text again and makes the readout.
-// link_from_rust TEXT NEW_TEXT; the part has two function blocks and the small class.
+// A whole program that links the archive from Rust: it reads a JEDEC text, reads and sets a setting, writes the text
+// again and makes the readout. link_from_rust TEXT NEW_TEXT; the part has two function blocks and the small class.
 
 use std::{env, fs};
 
+// A fuse number and a device address are two types, so that one cannot be passed for the other.
+#[repr(transparent)]
+#[derive(Clone, Copy, PartialEq)]
+struct Fuse(u32);
+
+#[repr(transparent)]
+#[derive(Clone, Copy)]
+struct Address(u32);
+
 // The functions of include/xc9500.h that are used here: a slice is a pointer and a length.
-#[link(name = "capi", kind = "static")]
+#[link(name = "xc9500", kind = "static")]
 extern "C" {
+    fn xc9500_image_bytes(blocks: u32, class: u32) -> u64;
+    fn xc9500_readout_bytes(blocks: u32, class: u32) -> u64;
+    fn xc9500_text_bytes(blocks: u32, class: u32) -> u64;
+    fn xc9500_address_of_fuse(blocks: u32, class: u32, fuse: Fuse) -> u64;
+    fn xc9500_fuse_of_address(blocks: u32, class: u32, address: Address, bit: u32) -> u64;
     fn xc9500_fuse_sum(blocks: u32, class: u32, image: *const u8, image_len: usize) -> u64;
     fn xc9500_zero_count(blocks: u32, class: u32, image: *const u8, image_len: usize) -> u64;
     fn xc9500_image_to_readout(
@@ -32,7 +46,7 @@ extern "C" {
         image: *mut u8,
         image_len: usize,
     ) -> u64;
-    fn xc9500_setting_at_fuse(blocks: u32, class: u32, fuse: u32) -> u64;
+    fn xc9500_setting_at_fuse(blocks: u32, class: u32, fuse: Fuse) -> u64;
     fn xc9500_read_in_image(
         blocks: u32,
         class: u32,
@@ -59,8 +73,6 @@ extern "C" {
 
 const BLOCKS: u32 = 2;
 const SMALL: u32 = 0;
-const IMAGE_BYTES: usize = BLOCKS as usize * (72 * 108 + BLOCKS as usize * 18 * 36) / 8;
-const READOUT_BYTES: usize = BLOCKS as usize * (72 * 15 + BLOCKS as usize * 18 * 5);
 const NONE: u64 = (1 << 56) - 1;
 
 /// The result in the word of a call, or the refusal with its number and value.
@@ -73,7 +85,7 @@ fn result(call: &str, word: u64) -> Result<u64, String> {
     }
 }
 
-// Safe in all calls: the functions take any numbers, and each slice is whole and lent to the call alone.
+// Safe in all calls: the functions take any numbers, and each slice is whole and the call's alone.
 fn text_to_image(text: &[u8], image: &mut [u8]) -> Result<u64, String> {
     let word = unsafe {
         xc9500_text_to_image(
@@ -128,18 +140,36 @@ fn main() -> Result<(), String> {
         return Err("usage: link_from_rust TEXT NEW_TEXT".to_string());
     };
 
+    // The sizes of the device.
+    let image_bytes = result("image_bytes", unsafe { xc9500_image_bytes(BLOCKS, SMALL) })?;
+    let readout_bytes = result("readout_bytes", unsafe {
+        xc9500_readout_bytes(BLOCKS, SMALL)
+    })?;
+    let text_bytes = result("text_bytes", unsafe { xc9500_text_bytes(BLOCKS, SMALL) })?;
+
     // Text to image.
     let text = fs::read(source).map_err(|error| format!("the text: {error}"))?;
-    let mut image = [0; IMAGE_BYTES];
+    let mut image = vec![0; image_bytes as usize];
     text_to_image(&text, &mut image)?;
     report("read", &image)?;
 
-    // The setting that has fuse 3138, by its number: OE_MUX of macrocell 0 of block 0.
+    // Fuse 3138 has an address and a bit, and they have that fuse.
+    let fuse = Fuse(3138);
+    let word = unsafe { xc9500_address_of_fuse(BLOCKS, SMALL, fuse) };
+    let packed = result("address_of_fuse", word)?;
+    let (address, bit) = (Address((packed / 8) as u32), (packed % 8) as u32);
+    println!("fuse {}: address {}, bit {bit}", fuse.0, address.0);
+    let word = unsafe { xc9500_fuse_of_address(BLOCKS, SMALL, address, bit) };
+    if Fuse(result("fuse_of_address", word)? as u32) != fuse {
+        return Err("the address has another fuse".to_string());
+    }
+
+    // The setting that has this fuse, by its number: OE_MUX of macrocell 0 of block 0.
     let named = result("setting_at_fuse", unsafe {
-        xc9500_setting_at_fuse(BLOCKS, SMALL, 3138)
+        xc9500_setting_at_fuse(BLOCKS, SMALL, fuse)
     })?;
     if named == NONE {
-        return Err("no setting has fuse 3138".to_string());
+        return Err("no setting has the fuse".to_string());
     }
     let setting = (named / 32) as u32;
     let word = unsafe { xc9500_read_in_image(BLOCKS, SMALL, image.as_ptr(), image.len(), setting) };
@@ -158,21 +188,21 @@ fn main() -> Result<(), String> {
 
     // Image to text: a refusal 12 says how many bytes are needed. Then that text to an image.
     let needed = image_to_text(&image, &mut []);
-    if needed >> 56 != 12 {
-        return Err("image_to_text: no buffer was enough".to_string());
+    if (needed >> 56, needed & NONE) != (12, text_bytes) {
+        return Err("image_to_text: another size is needed".to_string());
     }
-    let mut text = vec![0; (needed & NONE) as usize];
+    let mut text = vec![0; text_bytes as usize];
     let length = result("image_to_text", image_to_text(&image, &mut text))? as usize;
     fs::write(target, &text[..length]).map_err(|error| format!("the new text: {error}"))?;
-    let mut again = [0; IMAGE_BYTES];
-    text_to_image(&text[..length], &mut again)?;
-    if again != image {
+    let mut second = vec![0; image.len()];
+    text_to_image(&text[..length], &mut second)?;
+    if second != image {
         return Err("the new text is of another image".to_string());
     }
     println!("new text: {length} bytes");
 
     // Image to readout, where the setting reads the same.
-    let mut readout = [0; READOUT_BYTES];
+    let mut readout = vec![0; readout_bytes as usize];
     let word = unsafe {
         xc9500_image_to_readout(
             BLOCKS,

@@ -8,7 +8,7 @@ use std::path::{Path, PathBuf};
 use std::process::{exit, Command};
 use std::time::SystemTime;
 
-const ARCHIVE: &str = "libcapi.a";
+const ARCHIVE: &str = "libxc9500.a";
 const ARCHIVE_DIR: &str = "XC9500_ARCHIVE_DIR";
 
 fn fail(reason: &str) -> ! {
@@ -16,17 +16,17 @@ fn fail(reason: &str) -> ! {
     exit(1);
 }
 
-/// Runs `rt staticlib capi`, which proves what is not proved yet and writes the archive.
+/// Runs `rt staticlib xc9500`, which proves what is not proved yet and writes the archive.
 fn make_archive(root: &Path) {
     // What rt prints is kept from cargo, which would read it as directives.
     let run = Command::new("rt")
-        .args(["staticlib", "capi"])
+        .args(["staticlib", "xc9500"])
         .current_dir(root)
         .output();
     match run {
         Ok(run) if run.status.success() => {}
         Ok(run) => fail(&format!(
-            "`rt staticlib capi` failed, {}\n{}{}",
+            "`rt staticlib xc9500` failed, {}\n{}{}",
             run.status,
             String::from_utf8_lossy(&run.stdout),
             String::from_utf8_lossy(&run.stderr),
@@ -34,7 +34,7 @@ fn make_archive(root: &Path) {
         Err(error) if error.kind() == ErrorKind::NotFound => fail(&format!(
             "`rt` is not on PATH; put it there, or name the archive's folder in {ARCHIVE_DIR}"
         )),
-        Err(error) => fail(&format!("`rt staticlib capi` did not start: {error}")),
+        Err(error) => fail(&format!("`rt staticlib xc9500` did not start: {error}")),
     }
 }
 
@@ -95,5 +95,5 @@ fn main() {
     }
     println!("cargo:rerun-if-changed={}", archive.display());
     println!("cargo:rustc-link-search=native={}", folder.display());
-    println!("cargo:rustc-link-lib=static=capi");
+    println!("cargo:rustc-link-lib=static=xc9500");
 }

@@ -162,8 +162,8 @@ fn conversion(answer: Answer<()>, bytes: &[u8]) -> String {
     format!("{} {}", digest.value, halves(word(answer.map(|()| 0))))
 }
 
-/// The sums, the counts and the passages of one device with slices of these lengths.
-fn passages(device: Device, image_length: usize, readout_length: usize) -> String {
+/// The sums, the counts and the conversions of one device with slices of these lengths.
+fn conversions(device: Device, image_length: usize, readout_length: usize) -> String {
     let mut image = vec![0; image_length];
     let mut readout = vec![0; readout_length];
     fill(&mut image, 1);
@@ -196,7 +196,7 @@ fn readout_vectors() -> String {
         let image = image_bytes(sized).unwrap();
         let readout = readout_bytes(sized).unwrap();
         for k in 0..9 {
-            let answers = passages(device, image - 1 + k % 3, readout - 1 + k / 3);
+            let answers = conversions(device, image - 1 + k % 3, readout - 1 + k / 3);
             writeln!(lines, "blocks {blocks} class {class} {answers}").unwrap();
         }
     }

@@ -21,21 +21,21 @@ const OE_MUX: u32 = 15563;
 
 fn read(in_readout: bool, d: Device, bytes: &[u8], setting: u32) -> u64 {
     if in_readout {
-        return capi::xc9500_read_in_readout(d.blocks, d.class, bytes, setting);
+        return xc9500::xc9500_read_in_readout(d.blocks, d.class, bytes, setting);
     }
-    capi::xc9500_read_in_image(d.blocks, d.class, bytes, setting)
+    xc9500::xc9500_read_in_image(d.blocks, d.class, bytes, setting)
 }
 
 fn set(in_readout: bool, d: Device, bytes: &mut [u8], setting: u32, pattern: u32) -> u64 {
     if in_readout {
-        return capi::xc9500_set_in_readout(d.blocks, d.class, bytes, setting, pattern);
+        return xc9500::xc9500_set_in_readout(d.blocks, d.class, bytes, setting, pattern);
     }
-    capi::xc9500_set_in_image(d.blocks, d.class, bytes, setting, pattern)
+    xc9500::xc9500_set_in_image(d.blocks, d.class, bytes, setting, pattern)
 }
 
 // How many settings a device has, 0 where there is none; below 2^20.
 fn setting_count(d: Device) -> u32 {
-    (capi::xc9500_setting_count(d.blocks, d.class) % MANY as u64) as u32
+    (xc9500::xc9500_setting_count(d.blocks, d.class) % MANY as u64) as u32
 }
 
 // The numbers to ask for: from a few past the last down through some hundreds, then in steps through all.
@@ -108,7 +108,7 @@ fn on_any_bytes(d: Device, image: &mut [u8], readout: &mut [u8]) {
 
 // On the readout of the image, which has no bit above a width.
 fn on_as_readout(d: Device, image: &[u8], readout: &mut [u8]) {
-    let answer = capi::xc9500_image_to_readout(d.blocks, d.class, image, readout);
+    let answer = xc9500::xc9500_image_to_readout(d.blocks, d.class, image, readout);
     vectors::put_answer(answer);
     edits(true, d, readout, 2);
 }
@@ -219,7 +219,7 @@ fn put_byte(name: &[u8], bytes: &[u8], i: usize) {
 // Document 01's case: an image of ones, in which two fuses are cleared and one is kept; the same in its readout.
 fn by_number(image: &mut [u8], readout: &mut [u8]) {
     vectors::fill_with(image, 255);
-    let answer = capi::xc9500_image_to_readout(2, 0, &image[..], readout);
+    let answer = xc9500::xc9500_image_to_readout(2, 0, &image[..], readout);
     vectors::put(b"readout of ones", answer);
     vectors::end_line();
     set_to_foe2(b"OE_MUX in the image", false, image);

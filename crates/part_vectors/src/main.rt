@@ -26,13 +26,13 @@ fn sizes(d: Device) {
 
 fn fuse(f: u32) {
     vectors::put(b"fuse", f as u64);
-    vectors::put_answer(capi::xc9500_address_of_fuse(2, 0, f));
+    vectors::put_answer(xc9500::xc9500_address_of_fuse(2, 0, f));
     vectors::end_line();
 }
 
 fn address(a: u32) {
     vectors::put(b"address", a as u64);
-    vectors::put_answer(capi::xc9500_fuse_of_address(2, 0, a, 0));
+    vectors::put_answer(xc9500::xc9500_fuse_of_address(2, 0, a, 0));
     vectors::end_line();
 }
 
@@ -57,9 +57,9 @@ fn bench_cases() {
 // Call number i: the address of a fuse, or the fuse of an address with bits 0 to 8 in turn.
 fn call(by_fuse: bool, d: Device, i: u32) -> u64 {
     if by_fuse {
-        return capi::xc9500_address_of_fuse(d.blocks, d.class, i);
+        return xc9500::xc9500_address_of_fuse(d.blocks, d.class, i);
     }
-    capi::xc9500_fuse_of_address(d.blocks, d.class, i / 9, i % 9)
+    xc9500::xc9500_fuse_of_address(d.blocks, d.class, i / 9, i % 9)
 }
 
 fn digest(by_fuse: bool, d: Device, calls: u32) -> u64 {

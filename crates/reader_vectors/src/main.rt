@@ -15,7 +15,7 @@ fn buffer_for_text() -> [u8; 411293]
 // Prints the answer of a call, and the digest of the image that was passed to it.
 fn read(name: &[u8], d: Device, text: &[u8], image: &mut [u8]) {
     vectors::fill(image, 4);
-    let answer = capi::xc9500_text_to_image(d.blocks, d.class, text, image);
+    let answer = xc9500::xc9500_text_to_image(d.blocks, d.class, text, image);
     vectors::put(name, vectors::digest_of(&image[..]));
     vectors::put_answer(answer);
 }
@@ -106,7 +106,7 @@ fn known(d: Device) -> Device {
 fn on_text(d: Device, text: &mut [u8], image: &mut [u8]) {
     vectors::fill(image, 2);
     let writer = known(d);
-    capi::xc9500_image_to_text(writer.blocks, writer.class, &image[..], text);
+    xc9500::xc9500_image_to_text(writer.blocks, writer.class, &image[..], text);
     vectors::put_device(d);
     lengths(d, &text[..], image);
     if part::is_known(d) {

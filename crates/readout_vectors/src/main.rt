@@ -17,18 +17,18 @@ fn there(d: Device, image: &mut [u8], readout: &mut [u8]) {
     vectors::put(b" readout", readout.len() as u64);
     vectors::put(
         b" sum",
-        capi::xc9500_fuse_sum(d.blocks, d.class, &image[..]),
+        xc9500::xc9500_fuse_sum(d.blocks, d.class, &image[..]),
     );
     vectors::put(
         b" zeros",
-        capi::xc9500_zero_count(d.blocks, d.class, &image[..]),
+        xc9500::xc9500_zero_count(d.blocks, d.class, &image[..]),
     );
-    let answer = capi::xc9500_image_to_readout(d.blocks, d.class, &image[..], readout);
+    let answer = xc9500::xc9500_image_to_readout(d.blocks, d.class, &image[..], readout);
     conversion(b" out", answer, &readout[..]);
 }
 
 fn back(name: &[u8], d: Device, readout: &[u8], image: &mut [u8]) {
-    let answer = capi::xc9500_readout_to_image(d.blocks, d.class, readout, image);
+    let answer = xc9500::xc9500_readout_to_image(d.blocks, d.class, readout, image);
     conversion(name, answer, &image[..]);
 }
 

@@ -420,7 +420,7 @@ fn of_number(digest: u64, d: Device, number: u32) -> u64 {
 }
 
 fn at_fuse(d: Device, fuse: u32) -> u64 {
-    capi::xc9500_setting_at_fuse(d.blocks, d.class, fuse)
+    xc9500::xc9500_setting_at_fuse(d.blocks, d.class, fuse)
 }
 
 // What is at fuse number i, or setting number i.

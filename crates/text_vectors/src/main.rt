@@ -16,7 +16,7 @@ fn buffer_for_text() -> [u8; 411300]
 // The answer of a call, and the digest of the caller's whole buffer.
 fn written(name: &[u8], d: Device, image: &[u8], text: &mut [u8]) {
     vectors::fill(text, 4);
-    let answer = capi::xc9500_image_to_text(d.blocks, d.class, image, text);
+    let answer = xc9500::xc9500_image_to_text(d.blocks, d.class, image, text);
     vectors::put(name, vectors::digest_of(&text[..]));
     vectors::put_answer(answer);
 }

@@ -1,4 +1,4 @@
-// What the tests put in: edges, odd devices, images, readouts with and without above bits, lengths.
+// What the tests put in: edges, odd devices, images, readouts with and without bits above a width, lengths.
 // All that is random comes from the generator that is handed over, so a run can be repeated.
 
 use xc9500_reference::random::Random;

@@ -59,13 +59,17 @@ macro_rules! header {
             extern "C" {
                 fn $name($($c)*) -> u64;
             }
-            // Safe: the function takes any numbers, and every slice is whole and lent to it alone.
+            // Safe: the function takes any numbers, and every slice is whole and the call's alone.
             answer(unsafe { $name($($passed)*) })
         }
     };
 }
 
 header! {
+    fn xc9500_fuse_count(device: Device);
+    fn xc9500_image_bytes(device: Device);
+    fn xc9500_readout_bytes(device: Device);
+    fn xc9500_text_bytes(device: Device);
     fn xc9500_address_of_fuse(device: Device, fuse: u32);
     fn xc9500_fuse_of_address(device: Device, address: u32, bit: u32);
     fn xc9500_fuse_sum(device: Device, image: &[u8]);

@@ -236,7 +236,7 @@ pub fn zero_count(device: Device, image: &[u8]) -> Answer<u32> {
     Ok(part.fuses - ones as u32)
 }
 
-// The passages take two rows at a time: those are whole bytes of an image, in which every second
+// The conversions take two rows at a time: those are whole bytes of an image, in which every second
 // row starts in the middle of a byte. Their words are shifted and masked by fixed amounts.
 
 pub(crate) const MAIN_IMAGE_BYTES: usize = image_of_strips(MAIN_STRIPS);

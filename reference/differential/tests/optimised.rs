@@ -71,7 +71,7 @@ fn sums() {
 }
 
 #[test]
-fn passages() {
+fn conversions() {
     let mut random = Random::new(0x9500_0022);
     let mut to_readout = Comparison::new(
         "optimised image_to_readout",

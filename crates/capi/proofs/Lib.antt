@@ -1,4 +1,0 @@
--- The laws of `capi` that belong to no one function.
--- Assumes nothing.
-pub mod Words
-pub mod Fitting

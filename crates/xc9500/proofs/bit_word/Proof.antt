@@ -1,0 +1,42 @@
+-- `bit_word` meets its contract, by the three kinds of answer.
+-- Assumes nothing.
+use borrow.Author.Needs.{needs}
+use Rattle.xc9500.proofs.bit_word.Statement.{statement}
+use Rattle.xc9500.proofs.bit_word.Tie as tie
+
+enum-known-answer : tie.Need-enum-known-answer
+enum-known-answer c = search needs
+
+cast-result : tie.Need-cast-result
+cast-result c = search needs
+
+enum-told : tie.Need-enum-told
+enum-told c = search needs
+
+enum-known-answer-2 : tie.Need-enum-known-answer-2
+enum-known-answer-2 c = search needs
+
+refusal-word-requires : tie.Need-refusal-word-requires
+refusal-word-requires c κs = search needs
+
+returns : tie.Need-returns
+returns c = search needs
+
+returns-2 : tie.Need-returns-2
+returns-2 c = search needs
+
+returns-3 : tie.Need-returns-3
+returns-3 c = rw (c .before .before .answer2 .given .1) (c .refusal-word .ensures)
+
+pub bit-word-spec : {M : Type 1} → statement M
+bit-word-spec =
+    tie.close
+    (tie.spec
+    enum-known-answer
+    cast-result
+    enum-told
+    enum-known-answer-2
+    refusal-word-requires
+    returns
+    returns-2
+    returns-3)

@@ -1,0 +1,4 @@
+-- The definitions that the contracts of `xc9500` cite.
+-- Assumes nothing.
+pub mod Packed
+pub mod Words

@@ -1,0 +1,85 @@
+-- How an answer is packed into one 64-bit word: the refusal's number in bits 56 to 63 (0: accepted), and its value, or
+-- the result, in the low 56 bits.
+use mathlib.Core.Path.{_≡_}
+use Prim.Native.Nat.{ℕ, _+_, _*_, _-_, _/_, _%_, _^_, _<_}
+use mathlib.Core.Option.{Option}
+use mathlib.Core.Option.Option.{none, some}
+use Rattle.part.specs.Outcome.{Outcome}
+use Rattle.part.specs.Outcome.Outcome.{accepted, refused}
+use Rattle.part.specs.declared.Device.{Device}
+use Rattle.part.specs.declared.Sizes.{Sizes}
+use Rattle.settings.specs.Order.{numberOf}
+use Rattle.settings.specs.declared.Setting.{Setting}
+
+abbrev pub refusalWord : (number value : ℕ) → ℕ
+refusalWord number value = number * 2 ^ 56 + value
+
+abbrev pub packed : {A : Type 0} → (A → ℕ) → Outcome A → ℕ
+packed result (accepted x) = result x
+packed result (refused number value) = refusalWord number value
+
+abbrev pub device : ℕ → ℕ → Device
+device blocks class = record { blocks = blocks; class = class }
+
+-- The result of an address and a bit: the address times 8 plus the bit.
+abbrev pub addressAndBit : ℕ × ℕ → ℕ
+addressAndBit p = p .0 * 8 + p .1
+
+-- The four results of the sizes of a device.
+abbrev pub fusesIn : Sizes → ℕ
+fusesIn z = z .fuses
+
+abbrev pub imageBytesIn : Sizes → ℕ
+imageBytesIn z = z .«image_bytes»
+
+abbrev pub readoutBytesIn : Sizes → ℕ
+readoutBytesIn z = z .«readout_bytes»
+
+abbrev pub textBytesIn : Sizes → ℕ
+textBytesIn z = z .«text_bytes»
+
+-- The result of a single number.
+abbrev pub itself : ℕ → ℕ
+itself x = x
+
+-- The result of a call that has none.
+abbrev pub noResult : Unit {0} → ℕ
+noResult x = 0
+
+-- A result that there may not be: 2^56 - 1 where there is none.
+abbrev pub orNone : {A : Type 0} → (A → ℕ) → Option A → ℕ
+orNone result none = 2 ^ 56 - 1
+orNone result (some x) = result x
+
+-- The result of a setting and a bit: the setting's number times 32 plus the bit.
+abbrev pub settingAndBit : Device → Setting × ℕ → ℕ
+settingAndBit d p = numberOf d (p .0) * 32 + p .1
+
+-- A call by setting number goes through the setting of that number.
+abbrev pub through : {A : Type 0} → Outcome Setting → (Setting → Outcome A) → Outcome A
+through (accepted s) answer = answer s
+through (refused number value) answer = refused number value
+
+-- What a caller reads of a word by the header's XC9500_REFUSAL and XC9500_RESULT.
+abbrev pub refusalIn : (word : ℕ) → ℕ
+refusalIn word = word / 2 ^ 56
+
+abbrev pub resultIn : (word : ℕ) → ℕ
+resultIn word = word % 2 ^ 56
+
+-- An accepted answer is read as refusal 0 and its result, a refused one as its number, which is not 0, and its value.
+abbrev pub WordReads : {A : Type 0} → (A → ℕ) → Outcome A → (word : ℕ) → Type 0
+WordReads result (accepted x) word = (refusalIn word ≡ 0) × (resultIn word ≡ result x)
+WordReads result (refused number value) word =
+    (0 < refusalIn word) × (refusalIn word ≡ number) × (resultIn word ≡ value)
+
+-- Where the result, or the value, has 56 bits, and no refusal has the number 0.
+abbrev pub WordFits : {A : Type 0} → (A → ℕ) → Outcome A → Type 0
+WordFits result (accepted x) = result x < 2 ^ 56
+WordFits result (refused number value) = (0 < number) × (value < 2 ^ 56)
+
+-- The same where there may be no result: a result that there is is not the one that stands for none.
+abbrev pub WordFitsOrNone : {A : Type 0} → (A → ℕ) → Outcome (Option A) → Type 0
+WordFitsOrNone result (accepted none) = Unit {0}
+WordFitsOrNone result (accepted (some x)) = result x < 2 ^ 56 - 1
+WordFitsOrNone result (refused number value) = (0 < number) × (value < 2 ^ 56)
