@@ -8,7 +8,7 @@ use Rattle.part.specs.Outcome.{Outcome}
 use Rattle.part.specs.Outcome.Outcome.{accepted}
 use Rattle.jedec.specs.Cut.{Tail}
 use Rattle.jedec.specs.Cut.Tail.{given, wrong}
-use Rattle.jedec_end.specs.Outcome.{verdict, resultOf}
+use Rattle.jedec_end.specs.Verdict.{verdict, resultOf}
 use Rattle.jedec_end.specs.declared.tail.TailSays.{TailSays}
 use Rattle.jedec_end.specs.declared.tail.TailSays.the-variants as tail
 
@@ -22,6 +22,7 @@ abbrev pub TailFits : (text : List ℕ) → TailSays → Type 0
 TailFits text (tail.Given x) = Unit {0}
 TailFits text (tail.Wrong at) = at ≤ length text
 
+-- An answer says what the bytes after ETX say.
 pub record TailStands (text : List ℕ) (at : ℕ) (t : Tail) (r : TailSays) : Type 0 where
   pub is : tailOf r ≡ t
   pub fits : TailFits text r

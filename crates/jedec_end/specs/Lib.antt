@@ -1,4 +1,4 @@
--- The definitions that the contracts of `jedec_end` cite: Outcome has those to believe, End those worked with.
+-- The definitions that the contracts of `jedec_end` cite: Verdict has those to believe, End those worked with.
 -- Assumes nothing.
-pub mod Outcome
+pub mod Verdict
 pub mod End

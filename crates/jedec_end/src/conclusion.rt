@@ -17,7 +17,7 @@ use jedec_progress::progress::Progress;
 use part::DoneAnswer;
 use part::Refusal;
 
-// Refusal 8: QF is not the count, or absent.
+// Refusal 8: QF is not the count, or is absent.
 fn wrong_count(fuses: u32, etx: u32, count: OptionalField) -> OptionalNumber
     ensures { λ r. ⌜ optionalNumber r ≡ wrongCount fuses etx (optionalField count) ⌝ }
 {

@@ -25,8 +25,8 @@ abbrev pub statesCount : Option (List ℕ) → Option ℕ
 statesCount none = none
 statesCount (some states) = some (length states)
 
--- The first bytes that are 0, 1 and blanks write so many states; with the byte after them,
--- if there is one, they write none.
+-- The first bytes that are 0, 1 and blanks write so many states; with the byte after them, if there is one, they write
+-- none.
 pub record RunStands (bytes : List ℕ) (r : StatesRun) : Type 0 where
   pub inside : r .length ≤ length bytes
   pub few : r .count ≤ r .length
@@ -53,6 +53,7 @@ pub record ListAt (after : List ℕ) (first skip number long : ℕ) : Type 0 whe
 pub record NoList (after : List ℕ) : Type 0 where
   pub is-bad : untilStar after < length after → listIn (take (untilStar after) after) ≡ bad
 
+-- What an answer about an L field says.
 abbrev pub ListStands : (after : List ℕ) → ListField → Type 0
 ListStands after (list-field.Good first skip number long) = ListAt after first skip number long
 ListStands after list-field.Other = NoList after
@@ -75,13 +76,14 @@ Inside text at (next.Field from to fs) = (at ≤ from) × (from ≤ to) × (to <
 Inside text at (next.End etx) = etx < length text
 Inside text at next.Early = Unit {0}
 
--- What a field says.
+-- A field says what it is judged to say.
 abbrev pub SaysThere : (text : List ℕ) → NextSays → Type 0
 SaysThere text (next.Field from to fs) =
     Says (drop 1 (take (to - from) (drop from text))) (judge (take (to - from) (drop from text))) fs
 SaysThere text (next.End etx) = Unit {0}
 SaysThere text next.Early = Unit {0}
 
+-- An answer says what stands next.
 pub record Stands (text : List ℕ) (at : ℕ) (r : NextSays) : Type 0 where
   pub cut : cutOf text r ≡ fieldsAt at (drop at text)
   pub inside : Inside text at r

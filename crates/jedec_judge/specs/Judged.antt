@@ -22,6 +22,7 @@ abbrev pub valueOr : ℕ → Option ℕ → ℕ
 valueOr other none = other
 valueOr other (some x) = x
 
+-- What an answer about a number says.
 abbrev pub numberRead : Digits → Option ℕ
 numberRead (digits.Number x) = some x
 numberRead digits.Wrong = none
@@ -58,6 +59,7 @@ pub record ListFits (after : List ℕ) (skip number : ℕ) : Type 0 where
   pub few : number ≤ length after
   pub any : 0 < number
 
+-- What an answer speaks of is there: a start state is 0 or 1, and states stand in the field.
 abbrev pub SaysFits : (after : List ℕ) → FieldSays → Type 0
 SaysFits after (says.Count n) = Unit {0}
 SaysFits after (says.Start s) = s < 2
@@ -66,6 +68,7 @@ SaysFits after (says.Sum x) = Unit {0}
 SaysFits after says.Skipped = Unit {0}
 SaysFits after says.Bad = Unit {0}
 
+-- An answer says what a field is judged to say.
 pub record Says (after : List ℕ) (j : Judged) (r : FieldSays) : Type 0 where
   pub is : judgedAfter after r ≡ j
   pub fits : SaysFits after r

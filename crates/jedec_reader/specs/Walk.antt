@@ -5,7 +5,7 @@ use mathlib.Core.Path.{_≡_}
 use mathlib.Core.List.{List}
 use Rattle.part.specs.Outcome.{Outcome, written}
 use Rattle.part.specs.Device.{mainFuses, subareaFuses}
-use Rattle.jedec_end.specs.Outcome.{verdict, resultOf}
+use Rattle.jedec_end.specs.Verdict.{verdict, resultOf}
 
 -- The bytes of an image of sixteen blocks.
 abbrev pub largestImage : ℕ

@@ -1,10 +1,10 @@
 // The reader for a count of fuses: the fields one after another, and the end.
 // A function here may require that an image has its length, a text its limit, and a position is in the text.
 ghost use mathlib.Core.Path.{_≡_};
+ghost use mathlib.Core.List.{[]};
 ghost use Prim.Native.Nat.{_+_, _/_, _<_, _≤_};
 ghost use lib.ListN.{length, drop};
 ghost use Rattle.part.specs.Answer.{doneOutcome};
-ghost use mathlib.Core.List.{[]};
 ghost use Rattle.jedec.specs.Rules.{stateGiven, imageWith};
 ghost use Rattle.jedec.specs.Meaning.{longest, ofCut, meaning};
 ghost use Rattle.jedec_fields.specs.Fields.{fieldsAt};

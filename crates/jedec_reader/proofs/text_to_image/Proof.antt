@@ -15,7 +15,7 @@ use Rattle.part.proofs.Devices.{is-known, is-unknown, fuses-small}
 use Rattle.part.proofs.Checks.{no-device, the-device, other-length, the-length}
 use Rattle.part.proofs.Targets.{says}
 use Rattle.jedec.specs.Meaning.{meaning}
-use Rattle.jedec_end.specs.Outcome.{verdict}
+use Rattle.jedec_end.specs.Verdict.{verdict}
 use Rattle.jedec_reader.specs.Reader.{toImageFromText, imageIn}
 use Rattle.jedec_reader.specs.Walk.{largestImage, ReadInto}
 use borrow.Author.Needs.{needs}
