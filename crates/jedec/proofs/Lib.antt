@@ -13,4 +13,6 @@ pub mod ReadBack
 pub mod Places
 pub mod StateBits
 pub mod States
+pub mod CaseImages
+pub mod Cases
 pub mod Laws

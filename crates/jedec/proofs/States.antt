@@ -25,7 +25,7 @@ use Rattle.jedec.proofs.ReadBack.{image-given}
 use Rattle.jedec.proofs.StateBits.{Bits, GivenBits, FieldsBits, fields-bits}
 
 module _ (fuses : ℕ) where
-  -- The first of several L fields in their places.
+  -- Where no L is out of place, the first is in place and the others are too.
   pub placed : (end : ℕ) (l : Listed) (lists : List Listed) → misplaced fuses end (l ∷ lists) ≡ none
       → (end ≤ l .first) × (endOf l ≤ fuses) × (misplaced fuses (endOf l) lists ≡ none)
   unfolding misplaced
@@ -51,7 +51,7 @@ module _ (fuses : ℕ) where
   pub in-place-iff : (end : ℕ) (lists : List Listed) → (misplaced fuses end lists ≡ none) ↔ InPlace fuses end lists
   in-place-iff end lists = (all-placed end lists, none-misplaced end lists)
 
--- The state that the fields give a fuse.
+-- The state that the fields give a fuse is that of the L that holds it, else the start state.
 module _ (from : ℕ) where
   given-bit : (lists : List Listed) → from < 2 → Each (λ l. Bits (l .states)) lists → (fuse : ℕ) → stateGiven from lists fuse < 2
   unfolding stateGiven
@@ -74,13 +74,13 @@ module _ (from : ℕ) where
   unfolding stateGiven
   given-after l lists fuse m = rw (le-leb (l .first) fuse (omega arith), le-ltb fuse (endOf l) m)
 
-  given-outside : (fuse : ℕ) (lists : List Listed) → Each (Outside fuse) lists → stateGiven from lists fuse ≡ from
+  pub given-outside : (fuse : ℕ) (lists : List Listed) → Each (Outside fuse) lists → stateGiven from lists fuse ≡ from
   unfolding stateGiven
   given-outside fuse [] o = refl
   given-outside fuse (l ∷ lists) (inl m, o) = given-before l lists fuse m ∙ given-outside fuse lists o
   given-outside fuse (l ∷ lists) (inr m, o) = given-after l lists fuse m ∙ given-outside fuse lists o
 
-  -- And an image in which each fuse has it.
+  -- An image has the states that the fields give exactly if each L gives its states and the others have the start state.
   module _ (fuses : ℕ) (stateOf : ℕ → ℕ) where
     each-gives : (end : ℕ) (lists : List Listed) → InPlace fuses end lists
         → ((fuse : ℕ) → end ≤ fuse → fuse < fuses → stateOf fuse ≡ stateGiven from lists fuse) → Each (Gives stateOf) lists
@@ -106,7 +106,7 @@ module _ (from : ℕ) where
         given-inside l lists fuse g m ∙ sym (gives .0 (fuse - l .first) (omega arith)) ∙ ap stateOf own)
         (λ m. given-after l lists fuse m ∙ gives-each fuse lists (gives .1) (λ o. other (inr m, o))))
 
--- The image with given states: its length, its bytes.
+-- The image with given states has its length, and each byte gathers eight of them.
 module _ (fuses : ℕ) (states : ℕ → ℕ) where
   pub image-length : length (imageWith fuses states) ≡ (fuses + 7) / 8
   unfolding imageWith

@@ -1,4 +1,4 @@
--- `with_buffer` is safe: the part that it lends is within the whole.
+-- `with_buffer` is safe: the part that it passes on is within the whole.
 -- Assumes nothing.
 use lib.Seq.{length-take-le}
 use borrow.Author.Needs.{needs}
@@ -23,8 +23,8 @@ same-length c = search needs
 returns : tie.Need-returns
 returns c = search needs
 
-pub with-space-spec : {M : Type 1} → statement M
-with-space-spec =
+pub with-buffer-spec : {M : Type 1} → statement M
+with-buffer-spec =
     tie.close
     (tie.spec
     at-most-requires
