@@ -14,7 +14,7 @@ use Rattle.image.proofs.Bits.{gathered-same}
 use Rattle.jedec.specs.Rules.{Listed, stateGiven, within, imageWith}
 use Rattle.jedec.specs.Form.{Each, Outside}
 use Rattle.jedec.specs.Cases.{allOnes, allZeros, onlyFirst, allButFirst, onlyLast}
-use Rattle.jedec.proofs.States.{given-outside, image-length, image-at}
+use Rattle.jedec.proofs.StatesGiven.{given-outside, image-length, image-at}
 
 -- A byte of the image that fields give.
 abbrev byteGiven : (from : ℕ) → List Listed → (index : ℕ) → ℕ

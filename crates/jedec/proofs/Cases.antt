@@ -10,8 +10,7 @@ use Rattle.jedec.specs.Judge.{unbroken, statesIn, listIn, judge}
 use Rattle.jedec.specs.Rules.{allFields, misplaced}
 use Rattle.jedec.specs.Meaning.{meaning, concluded}
 use Rattle.jedec.specs.WrittenText.{statesText, columnsText, linesText, upToEtx, textWith}
-use Rattle.jedec.specs.Cases.{AllHold, acceptedTexts, refusedTexts}
-use Rattle.jedec.specs.Cases.{WrittenText}
+use Rattle.jedec.specs.Cases.{AllHold, acceptedTexts, refusedTexts, WrittenText}
 use Rattle.jedec.proofs.CaseImages.{all-ones, all-zeros, only-first, first-of-three, all-but-first, only-last}
 
 pub accepted-texts : AllHold acceptedTexts

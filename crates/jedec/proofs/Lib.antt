@@ -1,5 +1,8 @@
 -- Laws lists what holds of texts; the other modules prove it.
 -- Assumes nothing.
+pub mod StatesGiven
+pub mod CaseImages
+pub mod Cases
 pub mod Numbers
 pub mod Conditions
 pub mod Misplaced
@@ -13,6 +16,4 @@ pub mod ReadBack
 pub mod Places
 pub mod StateBits
 pub mod States
-pub mod CaseImages
-pub mod Cases
 pub mod Laws
