@@ -3,7 +3,7 @@
 
 use xc9500_reference::*;
 
-const CASES: &str = include_str!("../../crates/text_cases/specs/Texts.antt");
+const CASES: &str = include_str!("../../crates/jedec/specs/Cases.antt");
 const DEVICE: Device = Device {
     blocks: 2,
     class: SMALL,

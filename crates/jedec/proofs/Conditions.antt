@@ -47,7 +47,7 @@ pub no-place : (n : ℕ) (o : Option ℕ) (other answer : Outcome (List ℕ)) �
 no-place n none other answer never e = (refl, e)
 no-place n (some at) other answer never e = absurd (never at e)
 
--- Each rule, from its place to what it says, and back.
+-- No rule gives a place exactly if what it asks for holds.
 pub the-count : (fuses etx : ℕ) (k : Given) → wrongCount fuses etx (k .count) ≡ none → Counted fuses k
 the-count fuses etx k e = given-as (k .count) refl e
   where
@@ -90,7 +90,7 @@ transmission-none text etx sum (inr s) = go (eqb sum 0)
     go true = refl
     go false = rw (eq-eqb sum (sum16 (take (etx + 1) text)) s)
 
--- What the end answers.
+-- The end answers with an image exactly if all that it asks for holds.
 module _ (fuses : ℕ) (text image : List ℕ) (etx sum : ℕ) (k : Given) where
   conclusion : concluded fuses text etx sum k ≡ accepted image → Concluded fuses text image etx sum k
   unfolding concluded
@@ -125,7 +125,7 @@ pub record Formed (fuses : ℕ) (text : List ℕ) (answer : Outcome (List ℕ)) 
   pub end-answer : concluded fuses text etx-offset sum gives ≡ answer
 
 module _ (fuses : ℕ) (text : List ℕ) (answer : Outcome (List ℕ)) (not-7 : Not 7 answer) where
-  -- The form, step by step.
+  -- The form is shown step by step, from the tail back to the first piece.
   record Ended (k : Given) (end : Option ℕ) : Type 0 where
     at : ℕ
     has : end ≡ some at
@@ -206,7 +206,7 @@ accepted-iff fuses text image = (
       ∙ concluding fuses text image (a .etx-offset) (a .sum) (a .gives) (a .concluded),
 )
 
--- A text that is too long, and one that does not start with STX.
+-- A text that is too long, and one that does not start with STX, are refused.
 pub too-long : (fuses : ℕ) (text : List ℕ) → longest < length text → meaning fuses text ≡ refused 7 longest
 unfolding meaning
 too-long fuses text h = rw (lt-ltb longest (length text) h)

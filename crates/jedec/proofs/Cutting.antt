@@ -28,7 +28,7 @@ no-star-pieces (b ∷ bytes) h =
     let both = and-iff (notStar b) (all notStar bytes) .0 h in
     piece-byte b (both .0) bytes ∙ rw (no-star-pieces bytes (both .1))
 
--- The bytes up to the next `*`.
+-- The bytes up to the next `*` are a piece.
 pub star-pieces : (bytes rest : List ℕ) → all notStar bytes ≡ true
     → pieces (bytes ++ star ∷ rest) ≡ record { ended = bytes ∷ pieces rest .ended; rest = pieces rest .rest }
 unfolding all pieces
@@ -37,7 +37,7 @@ star-pieces (b ∷ bytes) rest h =
     let both = and-iff (notStar b) (all notStar bytes) .0 h in
     piece-byte b (both .0) (bytes ++ star ∷ rest) ∙ rw (star-pieces bytes rest (both .1))
 
--- Blanks before a field.
+-- Blanks before a field are counted as such.
 pub blanks-before : (blanks bytes : List ℕ) → all isBlank blanks ≡ true → blanksBefore bytes ≡ 0
     → blanksBefore (blanks ++ bytes) ≡ length blanks
 unfolding all blanksBefore
@@ -58,7 +58,7 @@ starting (b ∷ bytes) h =
     let both = and-iff (not (isBlank b)) (not (eqb b etx)) .0 h in
     record { no-blank = rw (not-true (isBlank b) (both .0)); no-etx = not-true (eqb b etx) (both .1) }
 
--- Bytes that all pass a test, one after the other.
+-- Two lists of bytes pass a test together exactly if each does.
 pub all-append : (test : ℕ → Bool) (xs ys : List ℕ) → all test xs ≡ true → all test ys ≡ true → all test (xs ++ ys) ≡ true
 unfolding all
 all-append test [] ys h k = k
@@ -94,7 +94,7 @@ pub at-end : (at : ℕ) (gap tail : List ℕ) → all isBlank gap ≡ true → (
 unfolding blanksBefore
 at-end at gap tail blank other = rw (blanks-before gap (etx ∷ tail) blank refl, drop-append-seam gap (etx ∷ tail))
 
--- One field, and the rest of the pieces.
+-- The first piece gives its field, and the rest of the pieces the others.
 pub one-field : (at : ℕ) (p : SpacedField) → RightField p → (ended : List (List ℕ)) (rest : List ℕ)
     → fieldsFrom at ((p .blanks ++ p .bytes) ∷ ended) rest
     ≡ record {
@@ -107,7 +107,7 @@ one-field at p right ended rest =
     no-end at p (right .blank) (right .begins) _
     ∙ rw (blanks-before (p .blanks) (p .bytes) (right .blank) (s .no-blank), drop-append-seam (p .blanks) (p .bytes))
 
--- The fields before blanks and ETX.
+-- Fields before blanks and ETX are cut into these fields and this ETX.
 module _ (gap tail : List ℕ) (blank : all isBlank gap ≡ true) (no-star : all notStar tail ≡ true) where
   last : List ℕ
   last = gap ++ etx ∷ tail
@@ -143,7 +143,7 @@ module _ (gap tail : List ℕ) (blank : all isBlank gap ≡ true) (no-star : all
   unfolding last cutFrom
   fields-cut at spaced right = fields-last at spaced right
 
--- The offset after all fields.
+-- The offset after all fields is that of the first plus their bytes.
 pub offset-after-all : (at : ℕ) (spaced : List SpacedField) → offsetAfterAll at spaced ≡ at + length (spacedText spaced)
 unfolding offsetAfterAll spacedText
 offset-after-all at [] = omega arith

@@ -68,7 +68,7 @@ digits-then (suc count) (b ∷ bytes) at read sum e = go (hexValue b) refl e (λ
           blank = d .blank;
         }
 
--- A text whose bytes after the design text are taken apart so.
+-- A text whose bytes after the design text are taken apart so is put together from what was taken apart.
 module _ (text design others : List ℕ) (cut : Cut) (etxOffset : ℕ) (is : text ≡ (stx ∷ design) ++ star ∷ others)
     (p : TakenApart (firstAt design) others cut etxOffset) where
   by-fields : text ≡ headOf design (p .spaced) (p .gap) ++ p .tail

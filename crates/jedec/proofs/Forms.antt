@@ -57,7 +57,7 @@ blank-tail (b ∷ blanks) at sum h =
     let both = and-iff (isBlank b) (all isBlank blanks) .0 h in
     rw (both .0) (blank-tail blanks (at + 1) sum (both .1))
 
--- Four of them.
+-- A sum has four digits.
 four : (digits : List ℕ) (sum : ℕ) → sumIn digits ≡ some sum → (length digits ≡ 4) × (digitsRead 16 hexValue 0 digits ≡ some sum)
 unfolding sumIn
 four digits sum e = go (eqb (length digits) 4) refl e
@@ -73,7 +73,7 @@ tail-read digits blanks at sum h blank =
     let f = four digits sum h in
     rw (f .0) at (hex-tail digits at 0 sum blanks (f .1)) ∙ blank-tail blanks (at + 4) sum blank
 
--- Where the text after ETX begins.
+-- The text after ETX begins one byte after ETX.
 pub head-length : (design : List ℕ) (spaced : List SpacedField) (gap : List ℕ)
     → length (headOf design spaced gap) ≡ etxAt design spaced gap + 1
 head-length design spaced gap =

@@ -31,7 +31,7 @@ use Rattle.jedec.proofs.Cutting.{all-append}
 abbrev pub plain : ℕ → Bool
 plain b = leb 32 b && notStar b
 
--- What holds of every byte that passes one test, and another of which the first is a special case.
+-- Bytes that all pass a test also pass a weaker one.
 pub all-weaker : (p q : ℕ → Bool) → ((b : ℕ) → p b ≡ true → q b ≡ true) → (bytes : List ℕ) → all p bytes ≡ true → all q bytes ≡ true
 unfolding all
 all-weaker p q so [] h = refl
@@ -54,7 +54,7 @@ plain-no-mark (b ∷ bytes) h =
     let both = and-iff (plain b) (all plain bytes) .0 h in
     rw (no-mark b (both .0)) (plain-no-mark bytes (both .1))
 
--- Every digit passes a test.
+-- Where the digit of each number below the base passes a test, all digits of any number pass it.
 all-digits : (test : ℕ → Bool) (base : ℕ) → 0 < base → (digit : ℕ → ℕ) → ((y : ℕ) → y < base → test (digit y) ≡ true)
     → (places x : ℕ) → all test (digitsOf base digit places x) ≡ true
 unfolding all digitsOf
@@ -85,7 +85,7 @@ decimal-digits-plain = all-digits plain 10 (omega arith) decimalDigit decimal-pl
 pub hex-digits-plain : (places x : ℕ) → all plain (digitsOf 16 hexDigit places x) ≡ true
 hex-digits-plain = all-digits plain 16 (omega arith) hexDigit hex-plain
 
--- The states of so many fuses, from a fuse on.
+-- The states of so many fuses, from a fuse on, as numbers.
 unfoldable pub statesOf : (image : List ℕ) → (fuse width : ℕ) → List ℕ
 statesOf image fuse zero = []
 statesOf image fuse (suc width) = state image fuse ∷ statesOf image (fuse + 1) width
@@ -100,7 +100,7 @@ states-append image fuse (suc v) w =
     let there : fuse + suc v ≡ fuse + 1 + v = omega arith in
     rw (more, there) (ap (λ (l : List ℕ). state image fuse ∷ l) (states-append image (fuse + 1) v w))
 
--- A state's digit.
+-- The digit of a state is plain, is no blank, and is read as a state.
 state-digit : (s : ℕ) → s < 2
     → (plain (decimalDigit s) ≡ true) × (isBlank (decimalDigit s) ≡ false) × ((eqb (decimalDigit s) 48 || eqb (decimalDigit s) 49) ≡ true)
 state-digit =
@@ -170,7 +170,7 @@ pub sum-judged : (x : ℕ) → x < 2 ^ 16 → judge (letterC ∷ fourHex x) ≡ 
 unfolding all
 sum-judged x h = plain-judged (letterC ∷ fourHex x) (sum x) (hex-digits-plain 4 x) (rw (sum-back x h))
 
--- A line.
+-- A line is judged as the list of its states.
 abbrev pub lineBytes : (image : List ℕ) → (fuse : ℕ) → (widths : List ℕ) → List ℕ
 lineBytes image fuse widths = letterL ∷ sevenDigits fuse ++ columnsText image fuse widths
 

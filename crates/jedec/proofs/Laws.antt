@@ -1,4 +1,7 @@
 -- What holds of texts, each law once, for every fuse count and every line pattern:
+--   accepted-texts, refused-texts   texts of document 01's bench section and of points that it leaves open
+--                                   (specs/Cases.antt) mean what stands there
+--   written-text        what is written of eight fuses, byte by byte
 --   too-long, no-start  a text of more than 1,048,576 bytes, and one that does not start with STX, are refused 7
 --   accepted-iff        a text is accepted with an image exactly if it is of the form, its QF gives the count, no L is out of place, the
 --                       image is the one that its fields give, its C field, if there is one, gives the fuse sum of that image, and its
@@ -14,12 +17,13 @@
 --                       accepted
 --   form-iff            a text is of the form exactly if it is put together from STX, a design text, fields after blanks, ETX, four hex
 --                       digits and blanks, with good fields in order (`GoodForm`, `Assembled` in specs/Form.antt; what a good field is and
---                       the order stand on both sides; the texts of crate `text_cases` hold them)
+--                       the order stand on both sides; the cases hold them)
 --   assembled-iff       a text is accepted with an image exactly if it is put together so, with the right count,
 --                       each L in place and right sums
 --   read-back           what the writer writes of an image is accepted and gives that image
 --   seven-back, count-back, sum-back   seven digits, a plain count and four hex digits are read back as the number that was written
 --   values-small        a refusal has a number of 7 to 11, and its value is no larger than the longest text
+pub use Rattle.jedec.proofs.Cases.{accepted-texts, refused-texts, written-text}
 pub use Rattle.jedec.proofs.Conditions.{too-long, no-start, accepted-iff}
 pub use Rattle.jedec.proofs.Misplaced.{misplaced-iff, refused-9-iff}
 pub use Rattle.jedec.proofs.States.{in-place-iff, finished-state}

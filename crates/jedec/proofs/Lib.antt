@@ -1,5 +1,8 @@
 -- Laws lists what holds of texts; the other modules prove it.
 -- Assumes nothing.
+pub mod StatesGiven
+pub mod CaseImages
+pub mod Cases
 pub mod Numbers
 pub mod Conditions
 pub mod Misplaced

@@ -16,7 +16,7 @@ use Rattle.jedec.specs.Form.{Counted, InPlace, lastEnd, OutOfPlace, Firs
 use Rattle.jedec.proofs.Conditions.{Not, not-refused, no-place, the-count, count-none, formed, form-means}
 
 module _ (fuses : ℕ) where
-  -- One out of place is named.
+  -- Where the first L is out of place, the refusal names it.
   named : (end : ℕ) (l : Listed) (lists : List Listed) → OutOfPlace fuses end l → misplaced fuses end (l ∷ lists) ≡ some (l .at)
   unfolding misplaced
   named end l lists (inl early) = rw (lt-ltb (l .first) end early)

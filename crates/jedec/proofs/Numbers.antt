@@ -15,7 +15,7 @@ use Rattle.part.proofs.Tables.{each-below}
 use Rattle.jedec.specs.Characters.{andThen, decimalValue, hexValue, decimalDigit, hexDigit, digitsRead, numberIn, sumIn, digitsOf}
 use Rattle.jedec.specs.Characters.{countDigits, sevenDigits, fourHex}
 
--- Digits after digits.
+-- Digits after digits are read one list after the other.
 read-append : (base : ℕ) (value : ℕ → Option ℕ) (x : ℕ) (xs ys : List ℕ)
     → digitsRead base value x (xs ++ ys) ≡ andThen (digitsRead base value x xs) (λ y. digitsRead base value y ys)
 unfolding digitsRead
@@ -47,7 +47,7 @@ module _ (base : ℕ) (positive : 0 < base) (value : ℕ → Option ℕ) (digit 
       read-append base value 0 (digitsOf base digit count (x / base)) (digit (x % base) ∷ [])
       ∙ rw (digits-back back count (x / base) higher, back (x % base) (mod-lt x positive)) (ap some (div-add-mod' x base))
 
--- Digits of the two kinds.
+-- A digit of either kind is read as the number that it was written for.
 decimal-digit : (y : ℕ) → y < 10 → decimalValue (decimalDigit y) ≡ some y
 decimal-digit =
     each-below (λ (y : ℕ). decimalValue (decimalDigit y) ≡ some y) 10
@@ -58,7 +58,7 @@ hex-digit =
     each-below (λ (y : ℕ). hexValue (hexDigit y) ≡ some y) 16
     (refl, (refl, (refl, (refl, (refl, (refl, (refl, (refl, (refl, (refl, (refl, (refl, (refl, (refl, (refl, (refl, tt))))))))))))))))
 
--- 1 to 7 digits.
+-- A number written in 1 to 7 digits is read back.
 pub number-back : (count x : ℕ) → 1 ≤ count → count ≤ 7 → x < 10 ^ count → numberIn (digitsOf 10 decimalDigit count x) ≡ some x
 unfolding numberIn
 number-back count x some-digits few h =
@@ -89,7 +89,7 @@ enough-digits x h =
 pub count-back : (x : ℕ) → x < 10 ^ 7 → numberIn (countDigits x) ≡ some x
 count-back x h = let e = enough-digits x h in number-back (decimalDigits x) x (e .some-digits) (e .few) (e .enough)
 
--- Four hex digits.
+-- A sum written in four hex digits is read back.
 pub sum-back : (x : ℕ) → x < 2 ^ 16 → sumIn (fourHex x) ≡ some x
 unfolding sumIn
 sum-back x h = rw (digits-length 16 hexDigit 4 x) (digits-back 16 (omega arith) hexValue hexDigit hex-digit 4 x h)

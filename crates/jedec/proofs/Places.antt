@@ -40,7 +40,7 @@ data PlaceSmall : Option ℕ → Type 0 where
 seven : (at : ℕ) → at ≤ longest → Small (refused 7 at)
 seven at h = refusal {number = 7} (omega arith) (omega arith) h
 
--- What the fields gave.
+-- The offsets that the fields gave are no larger than the longest text.
 abbrev AtSmall : Option At → Type 0
 AtSmall none = Unit {0}
 AtSmall (some a) = a .at ≤ longest
@@ -82,7 +82,7 @@ fields-small (f ∷ fields) k s h =
     (fields-small fields (after k (f .start) (judge (f .bytes))) (after-small k (f .start) (judge (f .bytes)) s (h .0)) (h .1))
     (h .0)
 
--- The places of 8 to 11.
+-- The places of refusals 8 to 11 are offsets of fields, or that of ETX.
 unless-small : {number : ℕ} {o : Option ℕ} {answer : Outcome (List ℕ)} → 7 ≤ number → number ≤ 11 → PlaceSmall o → Small answer
     → Small (unless number o answer)
 unless-small low high nowhere s = s
@@ -112,7 +112,7 @@ concluded-small fuses text etxOffset x k h s =
     (unless-small {number = 11} (omega arith) (omega arith)
     (chosen PlaceSmall (eqb x 0 || eqb x (sum16 (take (etxOffset + 1) text))) nowhere (place h)) described)))
 
--- After ETX.
+-- A wrong byte after ETX lies in the text or at its end.
 abbrev TailSmall : Tail → Type 0
 TailSmall (given x) = Unit {0}
 TailSmall (wrong at) = at ≤ longest

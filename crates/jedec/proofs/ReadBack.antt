@@ -138,7 +138,7 @@ image-given fuses image is-image states same =
         (λ less. rw (lt-ltb (i * 8 + b) fuses less) (same (i * 8 + b) less ∙ byte-state image i b l))
         (λ more. rw (le-ltb (i * 8 + b) fuses more) (sym (is-image .no-more (i * 8 + b) more) ∙ byte-state image i b l))
 
--- The whole.
+-- The writer's text meets all conditions, so it is accepted with its image.
 module _ (fuses : ℕ) (pattern : List (List ℕ)) (image : List ℕ) (few : fuses < 10 ^ 7) (is-image : Image fuses image)
     (every-fuse : patternFuses pattern ≡ fuses) (none-empty : NoneEmpty pattern) where
   spaced : List SpacedField

@@ -1,31 +1,33 @@
 -- The image of a text in plain terms: when each L is in place, and which state each fuse then has.
 -- Assumes nothing. `InPlace` and `Described` stand in specs/Form.antt.
 use mathlib.Core.Path.{_≡_, refl, sym, _∙_, ap, subst}
-use mathlib.Core.Logic.{_↔_, inl, inr}
+use mathlib.Core.Logic.{_↔_}
 use mathlib.Core.Bool.{_&&_}
 use mathlib.Core.List.{List, [], _∷_}
 use mathlib.Core.Option.Option.{none, some}
 use Prim.Native.Nat.{ℕ, _+_, _*_, _-_, _/_, _%_, _<_, _≤_}
 use native.Mathlib.Omega.{arith}
 use lib.Dec.{ltb, leb}
-use lib.ListN.{length, getD, List·getD-eq-default}
-use borrow.Author.Tests.{lt-ltb, le-ltb, le-leb, lt-leb}
+use lib.ListN.{getD, List·getD-eq-default}
+use borrow.Author.Tests.{lt-ltb, le-ltb}
 use Rattle.part.proofs.Facts.{compared}
-use Rattle.image.specs.Bits.{bitAt, gathered}
+use Rattle.image.specs.Bits.{bitAt}
 use Rattle.image.specs.Image.{state}
-use Rattle.image.proofs.Bits.{bit-above, gathered-bit, gathered-small, tabulate-length, tabulate-at}
+use Rattle.image.proofs.Bits.{bit-above, gathered-bit, gathered-small}
 use Rattle.jedec.specs.Cut.{Field}
 use Rattle.jedec.specs.Judge.Judged.{start, bad}
 use Rattle.jedec.specs.Rules.{Listed, Given, nothingGiven, allFields, endOf, misplaced, startState}
 use Rattle.jedec.specs.Rules.{stateGiven, within, imageWith, finished}
 use Rattle.jedec.specs.Rules.Fields.{allGood}
-use Rattle.jedec.specs.Form.{InPlace, Each, Outside, Gives, Image, Described}
+use Rattle.jedec.specs.Form.{InPlace, Each, Image, Described}
 use Rattle.jedec.proofs.Places.{chosen}
+use Rattle.jedec.proofs.StatesGiven.{given-outside, each-gives, gives-each}
+pub use Rattle.jedec.proofs.StatesGiven.{image-length, image-at}
 use Rattle.jedec.proofs.ReadBack.{image-given}
 use Rattle.jedec.proofs.StateBits.{Bits, GivenBits, FieldsBits, fields-bits}
 
 module _ (fuses : ℕ) where
-  -- The first of several L fields in their places.
+  -- Where no L is out of place, the first is in place and the others are too.
   pub placed : (end : ℕ) (l : Listed) (lists : List Listed) → misplaced fuses end (l ∷ lists) ≡ none
       → (end ≤ l .first) × (endOf l ≤ fuses) × (misplaced fuses (endOf l) lists ≡ none)
   unfolding misplaced
@@ -51,7 +53,7 @@ module _ (fuses : ℕ) where
   pub in-place-iff : (end : ℕ) (lists : List Listed) → (misplaced fuses end lists ≡ none) ↔ InPlace fuses end lists
   in-place-iff end lists = (all-placed end lists, none-misplaced end lists)
 
--- The state that the fields give a fuse.
+-- The state that the fields give a fuse is 0 or 1, if theirs are.
 module _ (from : ℕ) where
   given-bit : (lists : List Listed) → from < 2 → Each (λ l. Bits (l .states)) lists → (fuse : ℕ) → stateGiven from lists fuse < 2
   unfolding stateGiven
@@ -59,67 +61,11 @@ module _ (from : ℕ) where
   given-bit (l ∷ lists) h bits fuse =
       chosen (λ x. x < 2) (leb (l .first) fuse && ltb fuse (endOf l)) (bits .0 (fuse - l .first)) (given-bit lists h (bits .1) fuse)
 
-  given-before : (l : Listed) (lists : List Listed) (fuse : ℕ) → fuse < l .first
-      → stateGiven from (l ∷ lists) fuse ≡ stateGiven from lists fuse
-  unfolding stateGiven
-  given-before l lists fuse m = rw (lt-leb (l .first) fuse m)
-
-  given-inside : (l : Listed) (lists : List Listed) (fuse : ℕ) → l .first ≤ fuse → fuse < endOf l
-      → stateGiven from (l ∷ lists) fuse ≡ getD (l .states) (fuse - l .first) 0
-  unfolding stateGiven
-  given-inside l lists fuse g m = rw (le-leb (l .first) fuse g, lt-ltb fuse (endOf l) m)
-
-  given-after : (l : Listed) (lists : List Listed) (fuse : ℕ) → endOf l ≤ fuse
-      → stateGiven from (l ∷ lists) fuse ≡ stateGiven from lists fuse
-  unfolding stateGiven
-  given-after l lists fuse m = rw (le-leb (l .first) fuse (omega arith), le-ltb fuse (endOf l) m)
-
-  given-outside : (fuse : ℕ) (lists : List Listed) → Each (Outside fuse) lists → stateGiven from lists fuse ≡ from
-  unfolding stateGiven
-  given-outside fuse [] o = refl
-  given-outside fuse (l ∷ lists) (inl m, o) = given-before l lists fuse m ∙ given-outside fuse lists o
-  given-outside fuse (l ∷ lists) (inr m, o) = given-after l lists fuse m ∙ given-outside fuse lists o
-
-  -- And an image in which each fuse has it.
-  module _ (fuses : ℕ) (stateOf : ℕ → ℕ) where
-    each-gives : (end : ℕ) (lists : List Listed) → InPlace fuses end lists
-        → ((fuse : ℕ) → end ≤ fuse → fuse < fuses → stateOf fuse ≡ stateGiven from lists fuse) → Each (Gives stateOf) lists
-    each-gives end [] p same = tt
-    each-gives end (l ∷ lists) p same = (
-      λ i h.
-          let index : l .first + i - l .first ≡ i = omega arith in
-          same (l .first + i) (omega arith) (omega arith) ∙ given-inside l lists (l .first + i) (omega arith) (omega arith) ∙ rw index,
-      each-gives (endOf l) lists (p .2) (λ fuse g h. same fuse (omega arith) h ∙ given-after l lists fuse g),
-    )
-
-    gives-each : (fuse : ℕ) (lists : List Listed) → Each (Gives stateOf) lists → (Each (Outside fuse) lists → stateOf fuse ≡ from)
-        → stateGiven from lists fuse ≡ stateOf fuse
-    unfolding stateGiven
-    gives-each fuse [] gives other = sym (other tt)
-    gives-each fuse (l ∷ lists) gives other =
-        compared fuse (l .first)
-        (λ m. given-before l lists fuse m ∙ gives-each fuse lists (gives .1) (λ o. other (inl m, o)))
-        (λ g.
-        compared fuse (endOf l)
-        (λ m.
-        let own : l .first + (fuse - l .first) ≡ fuse = omega arith in
-        given-inside l lists fuse g m ∙ sym (gives .0 (fuse - l .first) (omega arith)) ∙ ap stateOf own)
-        (λ m. given-after l lists fuse m ∙ gives-each fuse lists (gives .1) (λ o. other (inr m, o))))
-
--- The image with given states: its length, its bytes.
 module _ (fuses : ℕ) (states : ℕ → ℕ) where
-  pub image-length : length (imageWith fuses states) ≡ (fuses + 7) / 8
-  unfolding imageWith
-  image-length = tabulate-length ((fuses + 7) / 8) _
-
-  pub image-at : (i : ℕ) → i < (fuses + 7) / 8 → getD (imageWith fuses states) i 0 ≡ gathered (λ bit. within fuses states (i * 8 + bit)) 8
-  unfolding imageWith
-  image-at i h = tabulate-at ((fuses + 7) / 8) _ i h
-
   pub within-small : ((fuse : ℕ) → states fuse < 2) → (fuse : ℕ) → within fuses states fuse < 2
   within-small bits fuse = chosen (λ x. x < 2) (ltb fuse fuses) (bits fuse) (omega arith)
 
--- It has these states, and no more.
+-- The image with given states has these states, and no more.
 module _ (fuses : ℕ) (states : ℕ → ℕ) (bits : (fuse : ℕ) → states fuse < 2) where
   no-byte : (i : ℕ) → (fuses + 7) / 8 ≤ i → getD (imageWith fuses states) i 0 ≡ 0
   no-byte i g = List·getD-eq-default (imageWith fuses states) 0 (rw (image-length fuses states) g)

@@ -72,7 +72,7 @@ pub record TakenApart (at : ℕ) (bytes : List ℕ) (cut : Cut) (etxOffset : ℕ
   pub cut-fields : cut .fields ≡ fieldsOf at spaced
   pub etx-place : etxOffset ≡ offsetAfterAll at spaced + length gap
 
--- The piece with ETX, whatever stands behind it.
+-- The piece with ETX ends the fields, whatever stands behind it.
 last-piece : (at : ℕ) (gap tail : List ℕ) → all isBlank gap ≡ true → (other : Cut) (etxOffset : ℕ)
     → orEnd at (gap ++ etx ∷ tail) other .end ≡ some etxOffset
     → (bytes behind : List ℕ) → bytes ≡ gap ++ etx ∷ behind → TakenApart at bytes (orEnd at (gap ++ etx ∷ tail) other) etxOffset
@@ -90,7 +90,7 @@ last-piece at gap tail blank other etxOffset e bytes behind is =
       etx-place = cc;
     }
 
--- A piece with a field.
+-- A piece with a field adds this field to those behind it.
 one-piece : (at : ℕ) (p : SpacedField) → RightField p → (ended : List (List ℕ)) (rest : List ℕ) (etxOffset : ℕ)
     → TakenApart (offsetAfter at p) (joined ended rest) (fieldsFrom (offsetAfter at p) ended rest) etxOffset
     → TakenApart at (joined ((p .blanks ++ p .bytes) ∷ ended) rest) (fieldsFrom at ((p .blanks ++ p .bytes) ∷ ended) rest) etxOffset
@@ -107,7 +107,7 @@ one-piece at p right ended rest etxOffset q =
       etx-place = q .etx-place;
     }
 
--- All pieces up to the one with ETX.
+-- All pieces up to the one with ETX are taken apart so.
 pub taken-apart : (ended : List (List ℕ)) (at : ℕ) (rest : List ℕ) (etxOffset : ℕ) → NoStars ended
     → fieldsFrom at ended rest .end ≡ some etxOffset
     → TakenApart at (joined ended rest) (fieldsFrom at ended rest) etxOffset

@@ -46,7 +46,7 @@ lines-shifted image fuse (widths ∷ pattern) rest =
     regrouped
     ∙ rw (lines-shifted image (fuse + total widths) pattern rest) (sym (append-assoc (lf ∷ line) (star ∷ others-spaced) (lf ∷ rest)))
 
--- Over any lists: the digits of the count, the lines as text and as fields, the digits of the sum.
+-- The same bytes grouped by lines and by fields, over any digits of the count, lines and digits of the sum.
 text-shifted : (d l c p : List ℕ) → lf ∷ (l ++ (letterC ∷ c ++ lineEnd ++ etx ∷ [])) ≡ p ++ (lf ∷ (letterC ∷ c ++ lineEnd ++ etx ∷ []))
     → (stx ∷ lineEnd ++ letterQ ∷ letterF ∷ d ++ lineEnd ++ letterF ∷ decimalDigit 0 ∷ lineEnd) ++ l ++ (letterC ∷ c ++ lineEnd ++ etx ∷ [])
     ≡ (stx ∷ [])
@@ -77,7 +77,7 @@ upto-assembled fuses pattern image =
     (text-shifted (countDigits fuses) (linesText image 0 pattern) (fourHex (sum16 image)) (spacedText (lineFields image 0 pattern))
     (lines-shifted image 0 pattern (footText (sum16 image))))
 
--- Each field is right.
+-- Each field holds what a field may hold.
 after-lf-right : (b : ℕ) (bytes : List ℕ) → all plain (b ∷ bytes) ≡ true → form.starts (b ∷ bytes) ≡ true → RightField (afterLf (b ∷ bytes))
 unfolding afterLf all
 after-lf-right b bytes h s = record { blank = refl; no-star = plain-no-star (b ∷ bytes) h; begins = s }

@@ -7,3 +7,5 @@ pub mod Rules
 pub mod Meaning
 pub mod WrittenText
 pub mod Form
+pub mod Quoted
+pub mod Cases

@@ -16,7 +16,7 @@ use Rattle.jedec.specs.WrittenText.{statesText, columnsText}
 use Rattle.jedec_lines.specs.Columns.{bitsText, columnsOf}
 use Rattle.jedec_lines.proofs.Words.{Bytes}
 
--- The characters of a number's low bits.
+-- The characters of a number's low bits are so many bytes, and those of more bits follow them.
 pub bits-length : (width x : ℕ) → length (bitsText width x) ≡ width
 unfolding bitsText
 bits-length width x =
@@ -62,7 +62,7 @@ columns-bits image (w ∷ widths) fuse h =
     ap₂ (λ (l m : List ℕ). space ∷ l ++ m) (states-bits image w fuse (omega arith))
     (columns-bits image widths (fuse + w) (omega arith) ∙ ap (λ (y : ℕ). columnsOf y widths) (sym (shr-shr (number image) fuse w)))
 
--- They are given by the bits of the widths alone.
+-- The bits of the widths alone give the columns.
 pub columns-same : (widths : List ℕ) (x y : ℕ) → cut widths x ≡ cut widths y → columnsOf x widths ≡ columnsOf y widths
 unfolding columnsOf cut
 columns-same [] x y e = refl
@@ -72,7 +72,7 @@ columns-same (w ∷ widths) x y e =
     ap₂ (λ (l m : List ℕ). space ∷ l ++ m) (sym (bits-own w x) ∙ ap (bitsText w) first ∙ bits-own w y)
     (columns-same widths (x / 2 ^ w) (y / 2 ^ w) rest)
 
--- The bits of an image from a fuse on, in the eight bytes from an index on.
+-- The eight bytes from an index on hold the bits of an image from a fuse on.
 bits-at : (image : List ℕ) (fuse p s w : ℕ) → w ≡ join (replicate 8 8) (drop p image) → p + 8 ≤ length image → p * 8 + s ≡ fuse
     → (widths : List ℕ) → s + total widths ≤ 64 → cut widths (w / 2 ^ s) ≡ cut widths (number image / 2 ^ fuse)
 bits-at image fuse p s w e h f widths g =

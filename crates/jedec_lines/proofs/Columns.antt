@@ -20,7 +20,7 @@ use Rattle.jedec_lines.specs.Columns.{bitsText, columnText, Stored}
 use Rattle.jedec_lines.proofs.Words.{cut-number, number-small}
 use Rattle.jedec_lines.proofs.Bits.{bits-length, bits-bytes, bits-append, bits-low}
 
--- Seven bits apart, and the character 0 added to each.
+-- Seven bits, spread to one a byte, and the character 0 added to each are seven characters. A computed test shows it.
 abbrev pub apart : ℕ → ℕ
 apart bits = bitAnd (bits * 0x0002040810204081) 0x0101010101010101
 
@@ -38,7 +38,7 @@ pub seven-bits : (bits low : ℕ) → low ≡ bits % 2 ^ 7 → apart low + 0x303
 unfolding seven-right
 seven-bits bits low e = rw e (eqb-true _ _ (below-all seven-right 128 seven-all (bits % 2 ^ 7) (mod-lt bits (pow-pos 7))))
 
--- The eighth bit added.
+-- The eighth bit is added above the seven.
 eight-right : ℕ → Bool
 eight-right i = eqb (number (bitsText 8 (i % 2 ^ 7)) + i / 2 ^ 7 * 2 ^ 56) (number (bitsText 8 i))
 
@@ -57,7 +57,7 @@ eight-bits bits seven top e f =
         → seven + top * 2 ^ 56 ≡ number (bitsText 8 (bits % 2 ^ 8 % 2 ^ 7)) + bits % 2 ^ 8 / 2 ^ 7 * 2 ^ 56
     e' low high = ap₂ (λ (x y : ℕ). x + y * 2 ^ 56) (e ∙ ap (λ (y : ℕ). number (bitsText 8 y)) low) (f ∙ high)
 
--- A space before seven.
+-- A shift by a byte and a space give a space before seven characters.
 spaced-right : ℕ → Bool
 spaced-right i = eqb (number (bitsText 8 i) * 2 ^ 8 % 2 ^ 64 + 32) (number (space ∷ bitsText 7 i))
 
@@ -74,12 +74,12 @@ module _ (bits seven : ℕ) (e : seven ≡ number (bitsText 8 (bits % 2 ^ 7))) w
   unfolding bitsText cut total
   spaced-small = rw spaced-bits (number-small (space ∷ bitsText 7 (bits % 2 ^ 7)))
 
--- The bytes of the code's words that are always the same.
+-- The code's word for a space holds a space.
 blank : cut (replicate 1 8) 0x20 ≡ space ∷ []
 unfolding cut
 blank = refl
 
--- The characters of more bits than a column has.
+-- The characters of more bits than a column has begin with those of the column.
 column-of : (width k word : ℕ) → width ≤ k
     → bitsText k (word % 2 ^ k) ≡ bitsText width word ++ bitsText (k - width) (word % 2 ^ k / 2 ^ width)
 column-of width k word h =
@@ -91,7 +91,7 @@ column-of width k word h =
     ap (λ (n : ℕ). bitsText n x) (sym whole) ∙ bits-append width (k - width) x
     ∙ ap (λ (l : List ℕ). l ++ bitsText (k - width) (x / 2 ^ width)) own
 
--- A column of eight bits from a space and a word, and a narrower one from one word.
+-- A column of eight bits is stored as a space and a word, a narrower one as one word.
 pub wide-column : (out one two : List ℕ) (at width word r : ℕ) → width ≡ 8 → r ≡ number (bitsText 8 (word % 2 ^ 8))
     → one ≡ sets out at (cut (replicate 1 8) 0x20) → two ≡ sets one (at + 1) (cut (replicate 8 8) r)
     → Stored out two at (columnText width word)

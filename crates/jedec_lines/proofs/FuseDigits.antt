@@ -29,13 +29,13 @@ lowTwo x = x - x / 10000 * 10000 - (x - x / 10000 * 10000) / 100 * 100
 abbrev inPlaces : (high middle low : ℕ) → ℕ
 inPlaces high middle low = high * 0x10000 + middle * 0x100000000 + low * 0x1000000000000
 
--- The digits of a fuse.
+-- The characters of an L and seven digits are bytes.
 start-bytes : (fuse : ℕ) → Bytes (letterL ∷ sevenDigits fuse)
 unfolding digitsOf
 start-bytes fuse =
     (omega arith, (omega arith, (omega arith, (omega arith, (omega arith, (omega arith, (omega arith, (omega arith, tt))))))))
 
--- Six digits in twos, each two taken apart.
+-- Three numbers of two digits become six digits by one subtraction.
 taken-apart : (a b c d e f : ℕ)
     → inPlaces (f * 10 + e) (d * 10 + c) (b * 10 + a) * 256 - inPlaces f d b * 2559 + 0x303030303030304C
     ≡ (((((((48 + a) * 256 + (48 + b)) * 256 + (48 + c)) * 256 + (48 + d)) * 256 + (48 + e)) * 256 + (48 + f)) * 256 + 48) * 256 + 76
@@ -46,7 +46,7 @@ seven-placed : (a b c d e f g : ℕ) → g ≡ 0
     ≡ placed (76 ∷ (48 + g) ∷ (48 + f) ∷ (48 + e) ∷ (48 + d) ∷ (48 + c) ∷ (48 + b) ∷ (48 + a) ∷ [])
 seven-placed a b c d e f g h = rw h (omega arith)
 
--- The digits of a number below a million, lowest first, and its digits in twos.
+-- The three numbers of two digits are those of the digits; the seventh digit is 0.
 module _ (x : ℕ) (h : x < 1000000) where
   high-digits : highTwo x ≡ x / 10 / 10 / 10 / 10 / 10 % 10 * 10 + x / 10 / 10 / 10 / 10 % 10
   high-digits = omega arith
@@ -77,7 +77,7 @@ divided x h =
     (taken-apart a b c d e f ∙ seven-placed a b c d e f (x / 10 / 10 / 10 / 10 / 10 / 10 % 10) (no-more x h)
     ∙ sym (number-placed (letterL ∷ sevenDigits x) (start-bytes x)))
 
--- A tenth of each two, by one product of all.
+-- One product of all gives the tenth of each; the tenths are proved by a computed test.
 tenth-right : ℕ → Bool
 tenth-right i = eqb (bitAnd (i * 103) 0x3C00) (i / 10 * 1024)
 
@@ -109,7 +109,7 @@ tens-of : (x : ℕ) → x < 1000000
 tens-of x h =
     tenths (highTwo x) (middleTwo x) (lowTwo x) (omega arith) (omega arith) (omega arith)
 
--- The digits in twos by products: with x = 10000 h + 100 m + l, the products are told by h, m and l.
+-- With x = 10000 h + 100 m + l, the high halves of the code's products are h, m and l.
 module _ (h m l : ℕ) (hs : h < 100) (ms : m < 100) (ls : l < 100) where
   first-part : ℕ
   first-part = 2704 * h + 42949700 * m + 429497 * l

@@ -11,7 +11,7 @@ use Rattle.part.proofs.Facts.{compared}
 use Rattle.jedec.specs.Characters.{hexDigit, digitsOf, fourHex}
 use Rattle.jedec_lines.proofs.Words.{Bytes, placed, number-placed, cut-number}
 
--- Four hex digits.
+-- Each digit is the one meant, and four of them are the bytes of one word.
 pub hex-low : (x : ℕ) → x ≤ 9 → 48 + x ≡ hexDigit x
 hex-low x h = rw (le-leb x 9 h)
 

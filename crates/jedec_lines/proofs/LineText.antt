@@ -16,7 +16,7 @@ use Rattle.jedec_lines.proofs.Bits.{bits-length, columns-bits, columns-
 use Rattle.jedec_lines.proofs.Stored.{stored-next, stored-last}
 use Rattle.jedec_lines.proofs.FuseDigits.{start-cut}
 
--- How long each part of a line is.
+-- The bytes of a line are those of its start, of its columns and of its end.
 states-length : (image : List ℕ) (fuse width : ℕ) → length (statesText image fuse width) ≡ width
 unfolding statesText
 states-length image fuse zero = refl
@@ -43,7 +43,7 @@ line-length image fuse widths =
     length-append start columns ∙ ap₂ _+_ (start-length fuse) (columns-length image fuse widths) in
     length-append (start ++ columns) lineEnd ∙ ap (λ (n : ℕ). n + 2) inner ∙ omega arith
 
--- A line: its start, five columns, its end.
+-- The code's word for the end of a line holds `*` and LF.
 end-cut : cut (replicate 2 8) 0x0A2A ≡ lineEnd
 unfolding cut
 end-cut = refl
@@ -51,7 +51,7 @@ end-cut = refl
 regrouped : (a b c d e : List ℕ) → a ++ b ++ c ++ d ++ e ≡ a ++ (b ++ (c ++ (d ++ (e ++ []))))
 regrouped a b c d e = simp (append-assoc, append-nil)
 
--- Columns stored one after another, and how many bytes they are.
+-- Five columns stored one after another, with the number of their bytes.
 abbrev UpTo : (before after : List ℕ) (at : ℕ) (bytes : List ℕ) → ℕ → Type 0
 UpTo before after at bytes n = Stored before after at bytes × (length bytes ≡ n)
 

@@ -10,7 +10,7 @@ use lib.Seq.{sets, sets-eq, set-set, set-comm}
 use Rattle.cells.proofs.Laws.{sets-append}
 use Rattle.jedec_lines.specs.Columns.{Stored}
 
--- Bytes stored over others that are no more than they are.
+-- Bytes stored over fewer others replace them.
 set-before : (l bytes : List ℕ) (i j b : ℕ) → i < j → set (sets l j bytes) i b ≡ sets (set l i b) j bytes
 set-before l [] i j b h = refl
 set-before l (c ∷ bytes) i j b h =
@@ -29,7 +29,7 @@ overwritten : (l bytes old new : List ℕ) (at here : ℕ) → here ≡ at + len
 overwritten l bytes old new at here e h =
     rw (e, sets-append l at bytes old, sets-append l at bytes new) (stored-over (sets l at bytes) old new (at + length bytes) h)
 
--- Three runs of bytes, stored one after another.
+-- Three lists of bytes stored one after another are stored as one.
 pub three-parts : (out one two three a b c : List ℕ) (at p q : ℕ) → one ≡ sets out at a → two ≡ sets one p b → three ≡ sets two q c
     → p ≡ at + length a → q ≡ p + length b → three ≡ sets out at (a ++ b ++ c)
 three-parts out one two three a b c at p q e1 e2 e3 ep eq =
@@ -37,7 +37,7 @@ three-parts out one two three a b c at p q e1 e2 e3 ep eq =
     e3 ∙ rw (e2, e1, place, ep)
     (sym (sets-append out at (a ++ b) c ∙ ap (λ (l : List ℕ). sets l (at + length (a ++ b)) c) (sets-append out at a b)))
 
--- Some bytes stored, and then the bytes behind them; the last ones leave nothing behind them.
+-- Bytes stored behind stored ones replace what was left there; the last ones leave nothing behind them.
 pub stored-next : {before after next bytes new : List ℕ} {at : ℕ} (here : ℕ) → Stored before after at bytes
     → here ≡ at + length bytes → 2 ≤ length new → Stored after next here new → Stored before next at (bytes ++ new)
 stored-next {before} {after} {next} {bytes} {new} {at} here s e h t =

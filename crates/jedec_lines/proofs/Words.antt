@@ -15,7 +15,7 @@ abbrev pub Bytes : List ℕ → Type 0
 Bytes [] = Unit {0}
 Bytes (b ∷ bytes) = (b < 2 ^ 8) × Bytes bytes
 
--- Bytes as one number, written out; that number cut gives the bytes.
+-- The number of some bytes, written out; cut into bytes it gives them.
 abbrev pub placed : List ℕ → ℕ
 placed [] = 0
 placed (b ∷ bytes) = placed bytes * 2 ^ 8 + b
@@ -33,12 +33,12 @@ cut-number (b ∷ bytes) h =
     let small : b % 2 ^ 8 < 2 ^ 8 = mod-lt b (pow-pos 8) in
     ap₂ _∷_ (low y 8 small ∙ mod-eq-of-lt (h .0)) (ap (cut (replicate (length bytes) 8)) (high y 8 small) ∙ cut-number bytes (h .1))
 
--- The number of some bytes fits in them.
+-- The number of some bytes has no more bits than they have.
 pub number-small : (bytes : List ℕ) → number bytes < 2 ^ total (replicate (length bytes) 8)
 unfolding number
 number-small bytes = join-small (replicate (length bytes) 8) bytes
 
--- The bytes of a word, stored one by one.
+-- The bytes of a word stored one by one are the word stored.
 none-stored : (out : List ℕ) (at word : ℕ) → out ≡ sets out at (cut (replicate 0 8) word)
 unfolding cut
 none-stored out at word = refl

@@ -15,7 +15,7 @@ use Rattle.jedec.specs.WrittenText.{lineText, linesText, patternFuses}
 use Rattle.jedec_writer.specs.Pattern.{linesBytes}
 use Rattle.jedec_lines.proofs.LineText.{line-length}
 
--- Lines in two parts.
+-- Lines after lines: their text, bytes and fuses are those of both.
 lines-append : (image : List ℕ) (lines more : List (List ℕ)) (fuse : ℕ)
     → linesText image fuse (lines ++ more) ≡ linesText image fuse lines ++ linesText image (fuse + patternFuses lines) more
 unfolding linesText patternFuses
@@ -59,7 +59,7 @@ bytes-repeat (suc k) lines =
     bytes-append lines (repeat k lines) ∙ ap (λ (x : ℕ). linesBytes lines + x) (bytes-repeat k lines)
     ∙ add-comm (linesBytes lines) (k * linesBytes lines) ∙ sym (suc-mul k (linesBytes lines))
 
--- Lines stored part by part.
+-- Lines stored behind lines are stored as one.
 pub lines-sets : (image out : List ℕ) (lines more : List (List ℕ)) (fuse at n t : ℕ) → linesBytes lines ≡ n → patternFuses lines ≡ t
     → sets (sets out at (linesText image fuse lines)) (at + n) (linesText image (fuse + t) more)
     ≡ sets out at (linesText image fuse (lines ++ more))

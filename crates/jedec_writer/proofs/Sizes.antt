@@ -51,7 +51,7 @@ pub wire-and-size : (area : Area) → area ≡ WireAnd
 unfolding rowLines tabulate patternFuses linesBytes total
 wire-and-size area e = rw e (refl, refl)
 
--- The main rows of a block, and a block.
+-- The main rows of a block, and the whole block, have the fuses and bytes of the geometry.
 main-rows : (patternFuses (repeat mainRows (rowLines Main)) ≡ mainFuses) × (linesBytes (repeat mainRows (rowLines Main)) ≡ mainText)
 main-rows = (
   fuses-repeat mainRows (rowLines Main) ∙ ap (λ (k : ℕ). mainRows * k) (main-size Main refl .0),
@@ -73,7 +73,7 @@ block-size d =
 pub block-small : (d : Device) → known d ≡ true → (inBlock d mainFuses subareaFuses ≤ 65535) × (inBlock d mainText subareaText ≤ 65535)
 block-small d k = omega (arith, blocks-small d k)
 
--- A device: its fuses, and the bytes of its lines.
+-- A device has as many fuses and bytes of lines as its blocks together.
 device-fuses : (d : Device) → d .blocks * patternFuses (blockLines d) ≡ fuseCount d
 unfolding fuseCount
 device-fuses d = ap (λ (x : ℕ). d .blocks * x) (block-size d .0)
@@ -89,7 +89,7 @@ pattern-bytes : (d : Device) → linesBytes (pattern d) ≡ d .blocks * linesByt
 unfolding pattern
 pattern-bytes d = bytes-repeat (d .blocks) (blockLines d)
 
--- The text: eleven bytes and the count's digits, the lines, eight bytes, four digits.
+-- The text has eleven bytes and the count's digits, the lines, eight bytes and four digits.
 pub text-size : (d : Device) → textBytes d ≡ 11 + decimalDigits (fuseCount d) + linesBytes (pattern d) + 12
 unfolding textBytes
 text-size d = rw (pattern-bytes d, device-bytes d) (omega arith)
@@ -130,7 +130,7 @@ count-cut d k =
     cut (replicate (decimalDigits x) 8) (number (letterL ∷ sevenDigits x) / 2 ^ (64 - decimalDigits x * 8)) ≡ countDigits x)
     refl refl refl refl refl refl (d .blocks) (known-count d k)
 
--- The loops over rows and blocks, at their sizes.
+-- The loops over rows and blocks give the lines of a block and of a device.
 pub block-of-rows : (d : Device) (image out one two : List ℕ) (fuse at : ℕ)
     → one ≡ sets out at (linesText image fuse (repeat mainRows (rowLines Main)))
     → two ≡ sets one (at + mainText) (linesText image (fuse + mainFuses) (repeat (d .blocks * wireAndRows) (rowLines WireAnd)))
@@ -150,12 +150,12 @@ pub blocks-end : (d : Device) (image before out : List ℕ) (at f a left : ℕ)
 unfolding pattern
 blocks-end d image before out at f a left now h = loop-end now h
 
--- A line by itself.
+-- The text of one line is the line.
 single-line : (image : List ℕ) (fuse : ℕ) (line : List ℕ) → linesText image fuse (line ∷ []) ≡ lineText image fuse line
 unfolding linesText
 single-line image fuse line = append-nil (lineText image fuse line)
 
--- The lines of a row, one after another.
+-- The lines of a row stored one after another are the row.
 pub main-row-of : (area : Area) (image out one two three : List ℕ) (fuse at : ℕ) → area ≡ Main
     → one ≡ sets out at (lineText image fuse (8 ∷ 8 ∷ 8 ∷ 8 ∷ 8 ∷ []))
     → two ≡ sets one (at + 55) (lineText image (fuse + 40) (8 ∷ 8 ∷ 8 ∷ 8 ∷ 6 ∷ []))

@@ -28,7 +28,7 @@ use Rattle.jedec.proofs.Numbers.{digits-length}
 use Rattle.jedec_writer.proofs.Lines.{lines-length}
 use Rattle.jedec_writer.proofs.Sizes.{count-cut, text-size}
 
--- The code's words around the count and the sum.
+-- The code's words hold what stands around the count and the sum.
 before-count : cut (replicate 5 8) 0x46510A2A02 ≡ stx ∷ lineEnd ++ letterQ ∷ letterF ∷ []
 unfolding cut
 before-count = refl
@@ -72,7 +72,7 @@ foot-of out one two three at sum four e1 ef e2 e3 =
     (rw middle at e2) (rw after-sum at e3) refl (rw (hex-length sum) (omega arith))
     ∙ ap (sets out at) (sym (append-assoc (letterC ∷ fourHex sum) lineEnd (etx ∷ [])))
 
--- How long each part is.
+-- The lengths of the head, of all up to ETX, and of the text.
 head-length : (x : ℕ) → length (headText x) ≡ 11 + decimalDigits x
 head-length x =
     let a = stx ∷ lineEnd ++ letterQ ∷ letterF ∷ countDigits x in
@@ -98,7 +98,7 @@ text-length d image =
     let up = upToEtx (fuseCount d) (pattern d) image in
     length-append up (fourHex (sum16 up)) ∙ rw (up-to-length d image, hex-length (sum16 up)) (omega (arith, text-size d))
 
--- The whole text, from what each function stores.
+-- What the functions store one after another is the whole text.
 pub text-of : (d : Device) (image out one two three four : List ℕ) (digits end fuses last hex : ℕ) → textBytes d ≤ length out
     → digits ≡ decimalDigits (fuseCount d)
     → end ≡ textBytes d - 4 → fuses ≡ sum16 image → one ≡ sets out 0 (headText (fuseCount d))
@@ -119,7 +119,7 @@ text-of d image out one two three four digits end fuses last hex buffer ed ee ef
     let place : end ≡ 0 + length up = sym long ∙ sym (zero-add (length up)) in
     e4 ∙ rw (digits-of, whole, place) (sym (sets-append out 0 up (fourHex (sum16 up))))
 
--- The tests, 1 before 2 before 12, at the writer's definition.
+-- The code's tests, 1 before 2 before 12, are those of the definition.
 module _ (d : Device) (image buffer : List ℕ) where
   abbrev At : Outcome ℕ → List ℕ → Type 0
   At answer after = Written (toText d image (length buffer)) answer (withText d image buffer) buffer after

@@ -38,7 +38,7 @@ use Rattle.report_lines.specs.ReportLines.{wordSum, wordRefused, wordAt, line, 
 use Rattle.report.specs.Report.{linesOf, reportOf, bytesPut, atStart}
 use Rattle.report_lines.specs.Put.{Put}
 
--- The lines of an outcome, by what is answered and the image.
+-- The reader's answer and image give the lines of what the text means.
 image-lines : (d : Device) (o : Outcome (List ℕ)) (image : List ℕ) → accepted tt ≡ verdict o → image ≡ resultOf o
     → countLines d image ≡ linesOf d o
 image-lines d (accepted x) image e f = ap (countLines d) f
@@ -66,7 +66,7 @@ module _ (d : Device) (text before image : List ℕ) (k : known d ≡ true) (l :
       let said : refused n v ≡ verdict (meaning (fuseCount d) text) = rw (en, ev) (ap doneOutcome (sym e)) ∙ w .answers ∙ read in
       rw (refused-lines d (meaning (fuseCount d) text) n v said) at p
 
--- The device for a text.
+-- The device for a text has two blocks or four; it is known, and its image fits the buffer.
 two-or-four : (P : ℕ → Type 0) → P 2 → P 4 → (o : Option ℕ) → P (blocksBy o)
 two-or-four P two four none = two
 two-or-four P two four (some n) = go (eqb n (fuseCount (ofBlocks 4)))
@@ -135,7 +135,7 @@ pub report-short : (text : List ℕ) → length (reportOf text) ≤ 64
 unfolding reportOf
 report-short text = lines-short (ofBlocks (blocksFor text)) (outcomeOf text)
 
--- A report made beside and put at the start of a buffer.
+-- A report made in bytes apart, and put at the start of a buffer.
 module _ (text blank lines : List ℕ) (n : ℕ) (p : Put blank lines 0 (reportOf text) n) where
   is : length (reportOf text) ≡ n
   is = sym (p .ends ∙ zero-add (length (reportOf text)))

@@ -27,7 +27,7 @@ use Rattle.jedec_judge.proofs.FieldSays.{the-type}
 use Rattle.jedec_fields.proofs.Fields.{Cuts, pieces-star, Uncut, pieces-none}
 use Rattle.report.specs.Report.{ofBlocks, fuseCountIn, firstCount, blocksBy, blocksFor}
 
--- Four blocks or two.
+-- The code's test tells four blocks from two.
 pub four-known : known (ofBlocks 4) ≡ true
 unfolding known
 four-known = refl

@@ -1,6 +1,7 @@
 -- What holds of reports:
 --   report-short                   a report has at most 64 bytes, so a buffer of 64 bytes is never refused
 --   counts-whole, refusal-whole    every number of a report is printed whole: its digits are read as that number
+--   bench-text, empty-text, four-blocks, two-blocks   what is written for four texts (specs/Cases.antt)
 use mathlib.Core.Path.{_≡_}
 use mathlib.Core.Bool.{Bool, true, false, cond}
 use mathlib.Core.List.{List}
@@ -18,6 +19,7 @@ use Rattle.jedec.proofs.Laws.{count-back, values-small}
 use Rattle.report.specs.Report.{most, ofBlocks, blocksFor, outcomeOf}
 use Rattle.report.proofs.Answers.{by-device}
 pub use Rattle.report.proofs.Answers.{report-short}
+pub use Rattle.report.proofs.Cases.{bench-text, empty-text, four-blocks, two-blocks}
 
 abbrev pub Whole : ℕ → Type 0
 Whole x = numberIn (countDigits x) ≡ some x

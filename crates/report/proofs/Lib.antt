@@ -2,4 +2,5 @@
 -- Assumes nothing.
 pub mod Choice
 pub mod Answers
+pub mod Cases
 pub mod Laws

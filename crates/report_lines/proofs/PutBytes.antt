@@ -20,7 +20,7 @@ use Rattle.jedec.proofs.Numbers.{digits-length}
 use Rattle.report_lines.specs.ReportLines.{wordBlocks, wordFuses, wordZero, wordSum, line, countLines}
 use Rattle.report_lines.specs.Put.{Put}
 
--- The bytes still to come.
+-- The loop over bytes: the bytes still to come, put now, give what all give.
 pub none-yet : (bytes out : List ℕ) (at : ℕ) → sets out (at + 0) (drop 0 bytes) ≡ sets out at bytes
 none-yet bytes out at = rw (add-zero at)
 
@@ -33,14 +33,14 @@ one-more bytes out all at i l e =
 pub none-left : (bytes out all : List ℕ) (at i : ℕ) → length bytes ≤ i → sets out (at + i) (drop i bytes) ≡ all → out ≡ all
 none-left bytes out all at i l e = rw (drop-of-length-le bytes l) at e
 
--- A store behind others.
+-- A store behind others may as well come first.
 set-behind : (l bytes : List ℕ) (at j b : ℕ) → at + length bytes ≤ j → set (sets l at bytes) j b ≡ sets (set l j b) at bytes
 set-behind l [] at j b h = refl
 set-behind l (c ∷ bytes) at j b h =
     set-behind (set l at c) bytes (suc at) j b (omega arith)
     ∙ ap (λ (m : List ℕ). sets m (suc at) bytes) (set-comm l at j c b (λ e. omega arith))
 
--- The digits still to come, from the last on.
+-- The loop over digits, from the last on: those still to come, put now, give what all give.
 pub digit-put : (out all : List ℕ) (at i rest : ℕ) → 0 < i → sets out at (digitsOf 10 decimalDigit i rest) ≡ all
     → sets (set out (at + (i - 1)) (48 + rest % 10)) at (digitsOf 10 decimalDigit (i - 1) (rest / 10)) ≡ all
 unfolding digitsOf
@@ -58,7 +58,7 @@ unfolding digitsOf
 no-digit out all at zero rest h e = e
 no-digit out all at (suc i) rest h e = absurd (omega arith)
 
--- One part after another.
+-- Bytes put behind bytes are put as one.
 pub then : (before middle after xs ys : List ℕ) (at next end : ℕ) → Put before middle at xs next → Put middle after next ys end
     → Put before after at (xs ++ ys) end
 then before middle after xs ys at next end p q =
@@ -67,7 +67,7 @@ then before middle after xs ys at next end p q =
       ends = rw (length-append xs ys) (q .ends ∙ rw (p .ends) (add-assoc at (length xs) (length ys)));
     }
 
--- A word and a number.
+-- A word and a number fit, and are put as one.
 pub digits-fit : (out middle word : List ℕ) (x at behind digits : ℕ) → Put out middle at word behind → digits ≡ decimalDigits x
     → at + length word + 7 ≤ length out → behind + digits ≤ length middle
 digits-fit out middle word x at behind digits p e h =
@@ -83,7 +83,7 @@ word-number before middle after word x at behind digits p e f =
     then before middle after word (countDigits x) at behind (behind + digits) p
     (record { holds = f ∙ rw e; ends = rw (digits-length 10 decimalDigit (decimalDigits x) x) (ap (λ (n : ℕ). behind + n) e) })
 
--- A word and four hex digits.
+-- A word, four hex digits and LF are a line.
 pub hex-line : (out one two three word : List ℕ) (at behind end sum four : ℕ) → Put out one at word behind → four ≡ number (fourHex sum)
     → two ≡ sets one behind (cut (replicate 4 8) four) → Put two three (behind + 4) (lf ∷ []) end
     → Put out three at (line word (fourHex sum)) end
@@ -93,7 +93,7 @@ hex-line out one two three word at behind end sum four p e f q =
     then out two three (word ++ fourHex sum) (lf ∷ []) at (behind + 4) end
     (then out one two word (fourHex sum) at behind (behind + 4) p digits) q
 
--- The four lines of an image.
+-- Four lines put one after another are those of an image.
 pub four-lines : (d : Device) (image out one two three four : List ℕ) (i j k end blocks fuses zeros sum : ℕ)
     → Put out one 0 (line wordBlocks (countDigits blocks)) i → blocks ≡ blocksOf d
     → Put one two i (line wordFuses (countDigits fuses)) j → fuses ≡ fuseCount d

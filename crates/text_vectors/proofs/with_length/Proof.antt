@@ -1,4 +1,4 @@
--- `with_length` is safe: the part that it lends is within the whole.
+-- `with_length` is safe: the part that it passes on is within the whole.
 -- Assumes nothing.
 use lib.Seq.{length-take-le}
 use borrow.Author.Needs.{needs}

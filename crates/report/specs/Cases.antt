@@ -5,9 +5,9 @@ use mathlib.Core.List.{List, [], _∷_, _++_}
 use Prim.Native.Nat.{ℕ}
 use Prim.Native.String.{String}
 use Rattle.jedec.specs.Characters.{lf}
-use Rattle.text_cases.specs.Quoted.{chars}
-use Rattle.text_cases.specs.Texts.{file}
+use Rattle.jedec.specs.Quoted.{chars}
+use Rattle.jedec.specs.Cases.{file}
 use Rattle.report.specs.Report.{reportOf}
 
 abbrev pub line : String → List ℕ
 line characters = chars characters ++ lf ∷ []

@@ -7,10 +7,10 @@ use Prim.Native.String.{String}
 use lib.ListN.{replicate}
 use Rattle.part.specs.Outcome.{Outcome}
 use Rattle.part.specs.Outcome.Outcome.{accepted, refused}
 use Rattle.jedec.specs.Characters.{stx, etx, lf}
 use Rattle.jedec.specs.Meaning.{meaning}
 use Rattle.jedec.specs.WrittenText.{textWith}
-use Rattle.text_cases.specs.Quoted.{chars}
+use Rattle.jedec.specs.Quoted.{chars}
 
 -- A text, and what it means.
 pub record Case : Type 0 where

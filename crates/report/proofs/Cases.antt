@@ -1,4 +1,4 @@
--- What the bench program writes for the texts of specs/Reports.antt.
+-- What the bench program writes for the texts of specs/Cases.antt.
 -- Assumes nothing.
 use mathlib.Core.Path.{_≡_, refl}
 use mathlib.Core.Option.{orElse}
@@ -9,17 +9,17 @@ use lib.Count.{ones}
 use lib.ListN.{length}
 use Rattle.image.specs.Bits.{bitAt, onesIn}
 use Rattle.image.proofs.Counts.{zeros-and-ones}
-use Rattle.text_cases.specs.Texts.{allOnes}
+use Rattle.jedec.specs.Cases.{allOnes}
 use Rattle.image.specs.Image.{byteSum, sum16, state, zerosBelow}
 use Rattle.jedec.specs.Characters.{digitsRead, numberIn, sumIn, digitsOf}
 use Rattle.jedec.specs.Cut.{pieces, blanksBefore, fieldsFrom, holdsMark, tailFrom}
 use Rattle.jedec.specs.Judge.{unbroken, statesIn, listIn, judge}
 use Rattle.jedec.specs.Rules.{allFields, misplaced}
 use Rattle.jedec.specs.Meaning.{meaning, concluded}
-use Rattle.text_cases.proofs.Texts.{all-ones}
+use Rattle.jedec.proofs.CaseImages.{all-ones}
 use Rattle.report_lines.specs.ReportLines.{countLines, refusalLine}
 use Rattle.report.specs.Report.{firstCount, blocksFor, outcomeOf, reportOf}
-use Rattle.text_cases.specs.Reports.{BenchText, EmptyText, FourBlocks, TwoBlocks}
+use Rattle.report.specs.Cases.{BenchText, EmptyText, FourBlocks, TwoBlocks}
 
 pub empty-text : EmptyText
 unfolding reportOf outcomeOf blocksFor firstCount countLines refusalLine fuseCount meaning concluded pieces blanksBefore fieldsFrom
