@@ -44,7 +44,7 @@ readout-cut d image k e =
     ∙ number-bit image (first + bit) (omega (arith, fuse-below d index bit below hb, image-whole d k)))
     ∙ sym (tabulate-at (readoutBytes d) _ index below)))
 
--- Stores that fill a slice.
+-- Stores that fill a slice leave nothing of what it held.
 pub sets-whole : (out cells : List ℕ) → length out ≡ length cells → sets out 0 cells ≡ cells
 sets-whole out cells e =
     sets-eq cells out 0 (omega arith)
@@ -62,6 +62,7 @@ readout-number-bit d readout k fuse h =
     (joined-bit (widths d) readout index (widthAt d index) (firstFuse d (byteOfIndex d index)) bit
     (rw (widths-length d k) (kept .index-below)) (widths-at d index (kept .index-below)) (kept .bit-below))
 
+-- The image of a readout is cut from the number that its bytes join to.
 pub image-cut : (d : Device) (readout : List ℕ) → known d ≡ true
     → cut (replicate (imageBytes d) 8) (join (widths d) readout) ≡ imageOf d readout
 unfolding imageOf imageFrom

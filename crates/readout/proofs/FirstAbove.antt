@@ -12,12 +12,12 @@ use borrow.Author.Tests.{lt-ltb, le-ltb, lt-leb, le-leb}
 use Rattle.part.specs.Device.{known, readoutBytes}
 use Rattle.part.specs.declared.Device.{Device}
 use Rattle.part.proofs.Facts.{compared}
-use Rattle.readout_rows.specs.Widths.{widths, fine}
-use Rattle.readout_rows.proofs.Fine.{fine-le, fine-before, fine-at}
+use Rattle.readout_rows.specs.Widths.{widths, cellsWithin}
+use Rattle.readout_rows.proofs.CellsWithin.{within-le, within-before, above-at}
 use Rattle.readout.specs.Readout.{widthAt, aboveAt, lowest}
 use Rattle.readout.proofs.Widths.{widths-at, widths-length}
 
--- The lowest number that passes a test.
+-- A number that passes a test, where none below it does, is the lowest that passes.
 pub lowest-is : (test : ℕ → Bool) (n k : ℕ) → k ≤ n → ((i : ℕ) → i < k → test i ≡ false) → (k < n → test k ≡ true) → lowest test n ≡ k
 unfolding lowest
 lowest-is test zero k h before at = omega arith
@@ -49,22 +49,24 @@ none-below test (suc n) h i g =
     fails true le = absurd (omega arith)
     fails false le = refl
 
-pub first-above : (d : Device) (readout : List ℕ) → known d ≡ true → lowest (aboveAt d readout) (readoutBytes d) ≡ fine (widths d) readout
+-- The scan by the list of widths finds it.
+pub first-above : (d : Device) (readout : List ℕ) → known d ≡ true
+    → lowest (aboveAt d readout) (readoutBytes d) ≡ cellsWithin (widths d) readout
 unfolding aboveAt
 first-above d readout k =
     let size = widths-length d k in
-    let n = fine (widths d) readout in
-    let le : n ≤ readoutBytes d = rw size at (fine-le (widths d) readout) in
+    let n = cellsWithin (widths d) readout in
+    let le : n ≤ readoutBytes d = rw size at (within-le (widths d) readout) in
     lowest-is (aboveAt d readout) (readoutBytes d) n le
     (λ i h.
     let width : getD (widths d) i 0 ≡ widthAt d i = widths-at d i (omega arith) .0 in
-    let zero-there : getD readout i 0 / 2 ^ widthAt d i ≡ 0 = rw width at (fine-before (widths d) readout i h) in
+    let zero-there : getD readout i 0 / 2 ^ widthAt d i ≡ 0 = rw width at (within-before (widths d) readout i h) in
     lt-leb (2 ^ widthAt d i) (getD readout i 0) (within _ _ zero-there))
     (λ h.
     let width : getD (widths d) n 0 ≡ widthAt d n = widths-at d n h .0 in
     le-leb (2 ^ widthAt d n) (getD readout n 0)
     (compared (getD readout n 0) (2 ^ widthAt d n)
-    (λ less. absurd (fine-at (widths d) readout (rw size h) (rw width (div-eq-of-lt less))))
+    (λ less. absurd (above-at (widths d) readout (rw size h) (rw width (div-eq-of-lt less))))
     (λ more. more)))
   where
     within : (x w : ℕ) → x / 2 ^ w ≡ 0 → x < 2 ^ w

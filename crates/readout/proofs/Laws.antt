@@ -77,11 +77,12 @@ readout-above d image index bit h hb =
     bit-above (getD (readoutFrom d (state image)) index 0) (widthAt d index) bit
     (readout-within d (state image) (state-bit image) index h) hb
 
--- Image to readout to image, and readout to image to readout.
+-- The state of a fuse in a readout is a bit.
 state-in-bit : (d : Device) (readout : List ℕ) (fuse : ℕ) → stateIn d readout fuse < 2
 unfolding stateIn bitAt
 state-in-bit d readout fuse = omega arith
 
+-- Image to readout to image is the image.
 pub image-inverse : (d : Device) (image : List ℕ) → known d ≡ true → length image ≡ imageBytes d → ((i : ℕ) → getD image i 0 < 2 ^ 8)
     → imageOf d (readoutOf d image) ≡ image
 unfolding imageOf readoutOf
@@ -93,6 +94,7 @@ image-inverse d image k e small =
 abbrev pub Within : Device → List ℕ → Type 0
 Within d readout = (index : ℕ) → index < readoutBytes d → getD readout index 0 < 2 ^ widthAt d index
 
+-- Readout to image to readout is the readout.
 pub readout-inverse : (d : Device) (readout : List ℕ) → known d ≡ true → length readout ≡ readoutBytes d → Within d readout
     → readoutOf d (imageOf d readout) ≡ readout
 unfolding imageOf readoutOf
@@ -101,7 +103,7 @@ readout-inverse d readout k e small =
     (image-from d (stateIn d readout) (state-in-bit d readout) k)
     ∙ readout-own d readout e small
 
--- No bit above a width exactly if the scan goes through.
+-- No byte has a bit above its width exactly if there is no first one.
 pub no-above-iff : (d : Device) (readout : List ℕ) → (readoutBytes d ≤ firstAbove d readout) ↔ Within d readout
 unfolding aboveAt
 no-above-iff d readout = (
@@ -111,7 +113,7 @@ no-above-iff d readout = (
       (λ index below. lt-leb (2 ^ widthAt d index) (getD readout index 0) (h index below)) (λ bad. absurd (omega arith)))),
 )
 
--- An image's readout has none.
+-- No byte of an image's readout has a bit above its width.
 pub readout-accepted : (d : Device) (image : List ℕ) → Within d (readoutOf d image)
 unfolding readoutOf
 readout-accepted d image = readout-within d (state image) (state-bit image)

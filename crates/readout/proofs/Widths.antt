@@ -45,7 +45,7 @@ at-repeat (suc m) ws (suc q) r w b hq hr a =
     let f : suc q * total ws + b ≡ total ws + (q * total ws + b) = omega (arith, suc-mul q (total ws)) in
     rw (e, f) (at-right ws (repeat m ws) (q * length ws + r) w (q * total ws + b) (at-repeat m ws q r w b (le-of-suc-le-suc hq) hr a))
 
--- A row of wide columns of 8 bits and more columns of narrow bits.
+-- The columns of a row of `wide` columns of 8 bits and then `more` columns of `narrow` bits.
 at-row : (wide narrow more c : ℕ) → c < wide + more
     → At (replicate wide 8 ++ replicate more narrow) c (columnWidth wide narrow c) (columnStart wide narrow c)
 at-row wide narrow more c h =
@@ -60,7 +60,7 @@ at-row wide narrow more c h =
     (subst (λ (k : ℕ). At (replicate wide 8 ++ replicate more narrow) k narrow (wide * 8 + (c - wide) * narrow)) (sym e)
     (rw (length-replicate {A = ℕ} wide 8, total-replicate wide 8) at right)))
 
--- An index of a block: the byte there, in any block.
+-- What is to be shown of an index of a block and of the byte there.
 abbrev InBlock : Device → ℕ → ℕ → BytePlace → Type 0
 InBlock d block rest byte = (x : ℕ) × At (blockWidths d) rest (widthOf byte) x × (block * blockFuses d + x ≡ firstFuse d byte)
 

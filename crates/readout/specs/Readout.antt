@@ -15,10 +15,11 @@ use Rattle.part.specs.declared.Device.{Device}
 use Rattle.image.specs.Bits.{bitAt, gathered, tabulate}
 use Rattle.image.specs.Image.{state, imageFrom}
 
--- The width of the byte at an index, and the fuse of one of its bits.
+-- The width of the byte at an index.
 abbrev pub widthAt : Device → ℕ → ℕ
 widthAt d index = widthOf (byteOfIndex d index)
 
+-- The fuse of a bit of the byte at an index.
 abbrev pub fuseAt : Device → (index bit : ℕ) → ℕ
 fuseAt d index bit = fuseOfPlace d (record { byte = byteOfIndex d index; bit = bit })
 
@@ -27,6 +28,7 @@ unfoldable pub readoutFrom : Device → (ℕ → ℕ) → List ℕ
 readoutFrom d states =
     tabulate (readoutBytes d) (λ index. gathered (λ bit. states (fuseAt d index bit)) (widthAt d index))
 
+-- The readout of an image.
 unfoldable pub readoutOf : Device → List ℕ → List ℕ
 readoutOf d image = readoutFrom d (state image)
 
@@ -42,10 +44,11 @@ bitInReadout d fuse = placeOfFuse d fuse .bit
 unfoldable pub stateIn : Device → List ℕ → ℕ → ℕ
 stateIn d readout fuse = bitAt readout (indexInReadout d fuse) (bitInReadout d fuse)
 
+-- The image of a readout: each fuse has the state that it has in the readout.
 unfoldable pub imageOf : Device → List ℕ → List ℕ
 imageOf d readout = imageFrom d (stateIn d readout)
 
--- A byte has a bit above its width.
+-- Whether the byte at an index has a bit above its width.
 unfoldable pub aboveAt : Device → List ℕ → ℕ → Bool
 aboveAt d readout index = leb (2 ^ widthAt d index) (getD readout index 0)
 
@@ -54,14 +57,16 @@ unfoldable pub lowest : (ℕ → Bool) → ℕ → ℕ
 lowest test zero = zero
 lowest test (suc n) = cond (ltb (lowest test n) n) (lowest test n) (cond (test n) n (suc n))
 
+-- The lowest index of such a byte, or the number of bytes.
 abbrev pub firstAbove : Device → List ℕ → ℕ
 firstAbove d readout = lowest (aboveAt d readout) (readoutBytes d)
 
--- Image to readout, readout to image: refusals 1, 2 of both slices, and 6 with the lowest such index.
+-- Image to readout: refusals 1, and 2 of both slices.
 unfoldable pub toReadout : Device → (image target : List ℕ) → Outcome (Unit {0})
 toReadout d image target =
     ifKnown d (ifLength (length image) (imageBytes d) (ifLength (length target) (readoutBytes d) (accepted tt)))
 
+-- Readout to image: refusals 1, 2 of both slices, and 6 with the lowest index of a byte that has a bit above its width.
 unfoldable pub toImage : Device → (readout target : List ℕ) → Outcome (Unit {0})
 toImage d readout target =
     ifKnown d

@@ -76,7 +76,7 @@ eight-stored word carry shift byte out next h hs e =
     e
     ∙ ap (sets out byte) (ap (cut (replicate 8 8)) (eight-low word carry shift h hs) ∙ cut-low (replicate 8 8) (word * 2 ^ shift + carry) 0)
 
--- At most six cells are few bits.
+-- At most six cells have at most 48 bits.
 pub few : (count width x : ℕ) (cells : List ℕ) → count ≤ 6 → width ≤ 8 → x ≡ join (replicate count width) cells → x < 2 ^ 48
 few count width x cells hc hw e = rw e (join-few count width 6 cells hc hw)
 
@@ -119,7 +119,7 @@ module _ (cs ws readout : List ℕ) (at at' carry over s s' k : ℕ) (bits : tot
       ap (λ (y : ℕ). y * 2 ^ s + carry) (join-append cs ws cells ∙ ap (λ (l : List ℕ). join cs cells + join ws l * 2 ^ total cs) there)
       ∙ regrouped (join cs cells) rest carry (total cs) s ∙ ap (λ (y : ℕ). join cs cells * 2 ^ s + carry + y) power
 
-  -- What remains to be left over, and what remains to be stored, stored now, is what all gives.
+  -- What the rest leaves over is what all cells leave over.
   pub step-over : (m : ℕ)
       → (join ws (drop at' readout) * 2 ^ s' + over) / 2 ^ (m * 8)
       ≡ (join (cs ++ ws) (drop at readout) * 2 ^ s + carry) / 2 ^ ((k + m) * 8)
@@ -130,6 +130,7 @@ module _ (cs ws readout : List ℕ) (at at' carry over s s' k : ℕ) (bits : tot
       rw (step-word, ← bytes, ← shr-shr (word + rest * 2 ^ (k * 8)) (k * 8) (m * 8), eo)
       (ap (λ (y : ℕ). y / 2 ^ (m * 8)) (add-comm rest (word / 2 ^ (k * 8)) ∙ sym (add-mul-div-right word rest (pow-pos (k * 8)))))
 
+  -- The bytes of the rest, stored now, give what the bytes of all cells give.
   pub step-stored : (out next : List ℕ) (byte byte' m : ℕ) → byte' ≡ byte + k
       → next ≡ sets out byte (cut (replicate k 8) (join cs (drop at readout) * 2 ^ s + carry))
       → sets next byte' (cut (replicate m 8) (join ws (drop at' readout) * 2 ^ s' + over))

@@ -14,11 +14,12 @@ use borrow.Author.Tests.{ltb-true}
 use Rattle.cells.specs.Cells.{cut, join, total, number}
 use Rattle.cells.proofs.Laws.{piece, total-replicate}
 
--- The fields of these widths where they are, and what leaves no more of a word.
+-- The fields of these widths, each where it stands in a word.
 unfoldable pub fields : List ℕ → ℕ → ℕ
 fields [] x = 0
 fields (w ∷ ws) x = fields ws (x / 2 ^ 8) * 2 ^ 8 + x % 2 ^ w
 
+-- The mask that leaves only the fields.
 unfoldable pub mask : List ℕ → ℕ
 mask [] = 0
 mask (w ∷ ws) = mask ws * 2 ^ 8 + (2 ^ w - 1)

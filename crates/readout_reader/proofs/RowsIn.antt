@@ -15,7 +15,7 @@ use Rattle.part.specs.declared.Area.the-variants.{Main, WireAnd}
 use Rattle.part.specs.declared.Device.{Device}
 use Rattle.readout_rows.specs.Widths.{rowWidths, pairWidths, blockWidths, widths, wholeBytes, bytesIn}
 use Rattle.readout_rows.proofs.RowSizes.{mainPairs, subareaPairs, pairs-of-block, main-pairs-size, device-size, device-whole}
-use Rattle.readout_rows.proofs.Stores.{Left, begun, turned, ended}
+use Rattle.readout_rows.proofs.Stores.{Remaining, begun, after-step, ended}
 use Rattle.readout_reader.proofs.Carried.{of-cells, bytes-in-parts, step-over, step-stored}
 
 -- A row of the main area: eight cells of 8 bits, one more, and six of 6 bits.
@@ -61,7 +61,7 @@ main-rows readout o0 o1 o2 at byte carry d1 e1 e2 =
     o0 o1 byte (byte + 13) 14 refl e1
     ∙ ap (λ (x : ℕ). sets o0 byte (cut (replicate 27 8) x)) all
 
--- A row of the wire-AND area is few bits.
+-- The number that a row of the wire-AND area joins to has no more bits than the row has fuses.
 pub wire-and-row-small : (cells : List ℕ) (x : ℕ) → x ≡ join (rowWidths WireAnd) cells → x < 2 ^ wireAndRowFuses
 unfolding rowWidths total
 wire-and-row-small cells x e = rw e (join-small (rowWidths WireAnd) cells)
@@ -109,20 +109,22 @@ bytes-length ws cells = cut-length (replicate (wholeBytes ws) 8) (join ws cells)
 unfoldable pub bytesOf : (ws readout : List ℕ) (count at : ℕ) → List ℕ
 bytesOf ws readout count at = bytesIn (repeat count ws) (drop at readout)
 
--- The loop that stores them.
-abbrev pub LeftIn : (ws readout before out : List ℕ) (at byte count a b left : ℕ) → Type 0
-LeftIn ws readout = Left (bytesOf ws readout) (length ws) (wholeBytes ws) readout
+-- What holds in the loop that stores them.
+abbrev pub RemainingIn : (ws readout before out : List ℕ) (at byte count a b left : ℕ) → Type 0
+RemainingIn ws readout = Remaining (bytesOf ws readout) (length ws) (wholeBytes ws) readout
 
 pub begun-in : (ws readout out : List ℕ) (at byte count : ℕ) → at + count * length ws ≤ length readout
-    → byte + count * wholeBytes ws ≤ length out → LeftIn ws readout out out at byte count at byte count
+    → byte + count * wholeBytes ws ≤ length out → RemainingIn ws readout out out at byte count at byte count
 begun-in ws readout out at byte count = begun (bytesOf ws readout) (length ws) (wholeBytes ws) readout out at byte count
 
-module _ (ws readout before out : List ℕ) (at byte count a b left : ℕ) (now : LeftIn ws readout before out at byte count a b left) where
-  pub turned-in : (next : List ℕ) (bytes whole : ℕ) → 0 < left → total ws ≡ wholeBytes ws * 8 → bytes ≡ length ws → whole ≡ wholeBytes ws
-      → next ≡ sets out b (bytesIn ws (drop a readout)) → LeftIn ws readout before next at byte count (a + bytes) (b + whole) (left - 1)
+module _ (ws readout before out : List ℕ) (at byte count a b left : ℕ)
+    (now : RemainingIn ws readout before out at byte count a b left) where
+  pub after-step-in : (next : List ℕ) (bytes whole : ℕ) → 0 < left → total ws ≡ wholeBytes ws * 8 → bytes ≡ length ws
+      → whole ≡ wholeBytes ws → next ≡ sets out b (bytesIn ws (drop a readout))
+      → RemainingIn ws readout before next at byte count (a + bytes) (b + whole) (left - 1)
   unfolding bytesOf repeat
-  turned-in next bytes whole h t eb ew e =
-      turned now (bytesIn ws (drop a readout)) next bytes whole h eb ew (bytes-length ws (drop a readout))
+  after-step-in next bytes whole h t eb ew e =
+      after-step now (bytesIn ws (drop a readout)) next bytes whole h eb ew (bytes-length ws (drop a readout))
       (λ k. bytes-append ws (repeat k ws) (drop a readout) t
       ∙ ap (λ (l : List ℕ). bytesIn ws (drop a readout) ++ bytesIn (repeat k ws) l) (drop-drop (length ws) a readout))
       e
@@ -154,12 +156,12 @@ block-of-pairs d readout out one two at byte e1 e2 =
 
 -- The loop over the blocks of a device.
 pub blocks-begun : (d : Device) (readout out : List ℕ) → known d ≡ true → length readout ≡ readoutBytes d → length out ≡ imageBytes d
-    → LeftIn (blockWidths d) readout out out 0 0 (d .blocks) 0 0 (d .blocks)
+    → RemainingIn (blockWidths d) readout out out 0 0 (d .blocks) 0 0 (d .blocks)
 blocks-begun d readout out k e f =
     begun-in (blockWidths d) readout out 0 0 (d .blocks) (omega (arith, device-size d k .1)) (omega (arith, device-whole d k))
 
 pub blocks-ended : (d : Device) (readout before out : List ℕ) (a b left : ℕ)
-    → LeftIn (blockWidths d) readout before out 0 0 (d .blocks) a b left → left ≤ 0
+    → RemainingIn (blockWidths d) readout before out 0 0 (d .blocks) a b left → left ≤ 0
     → out ≡ sets before 0 (bytesIn (widths d) (drop 0 readout))
 unfolding widths
 blocks-ended d readout before out a b left now h = ended-in (blockWidths d) readout before out 0 0 (d .blocks) a b left now h

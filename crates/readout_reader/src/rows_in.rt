@@ -31,7 +31,7 @@ fn put_above(cells: u64, carry: u64, shift: u32, image: &mut [u8], byte: usize, 
     word >> (bytes * 8)
 }
 
-// The same for a whole word and eight bytes: what is left over is the top of the word.
+// As `put_above`, for a whole word and eight bytes: what is left over is the top of the word.
 fn put_eight(word: u64, carry: u64, shift: u32, image: &mut [u8], byte: usize) -> u64
     requires { ⌜ (carry < 2 ^ shift) × (shift ≤ 36) × (byte + 8 ≤ length (now image)) ⌝ }
     ensures { λ r. ⌜ r ≡ (word * 2 ^ shift + carry) / 2 ^ (8 * 8) ⌝ }
@@ -43,7 +43,7 @@ fn put_eight(word: u64, carry: u64, shift: u32, image: &mut [u8], byte: usize) -
 }
 
 // Six cells of 6 bits, each in a byte of a word, put together: first each with the one above it, then two and two. At
-// the end what is below is moved up and all down: so it stays one word for the compiler, and is stored as one.
+// the end what is below is moved up, and then all down: so it stays one word for the compiler, and is stored as one.
 fn six_together(word: u64) -> u64
     ensures { λ r. ⌜ r ≡ join (replicate 6 6) (cut (replicate 6 8) word) ⌝ }
 {
@@ -82,8 +82,8 @@ fn wire_and_row(readout: &[u8], at: usize, skip: usize) -> u64
     five_together(word8(readout, at - skip) >> (skip * 8))
 }
 
-// What `put_above` says, of the cells of a main row: nine image bytes and `more` are put. The narrow cells are taken
-// from eight bytes, of which `skip` are before them.
+// As `put_above`, for the cells of a main row, which fill nine image bytes and `more`. The narrow cells are taken from
+// eight bytes, of which `skip` are before them.
 fn main_row_in(
     readout: &[u8],
     at: usize,

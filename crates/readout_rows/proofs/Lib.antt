@@ -1,7 +1,7 @@
--- The lemmas of `readout_rows` that belong to no one function: sizes, and bits above a width.
+-- The lemmas of `readout_rows` that belong to no one function: sizes, bits above a width, and loops that store.
 -- Assumes nothing.
 pub mod RowSizes
-pub mod Fine
+pub mod CellsWithin
 pub mod Scan
 pub mod RowsAbove
 pub mod Stores

@@ -1,4 +1,4 @@
--- A loop that stores bytes made from a source, a step of the loop after another.
+-- A loop that stores bytes made from a source, some bytes at each step.
 -- Assumes nothing.
 use mathlib.Core.Path.{_≡_, refl, sym, _∙_, ap}
 use mathlib.Core.List.{List, [], _++_}
@@ -10,9 +10,9 @@ use Rattle.cells.proofs.Laws.{sets-append}
 use Rattle.part.proofs.Facts.{space}
 
 -- What holds when `left` of `count` steps are still to come. `made` gives the bytes of so many steps from a byte of the source
--- on; a step takes `step` bytes of the source and stores `size`. The stores of what is left, made now, give what all give, and
--- both slices have the bytes for them.
-pub record Left (made : (count from : ℕ) → List ℕ) (step size : ℕ) (source before out : List ℕ) (from at count f a left : ℕ)
+-- on, and a step takes `step` bytes of the source and stores `size`. The bytes of the steps to come, stored now, give what the
+-- bytes of all steps give, and both slices are long enough for them.
+pub record Remaining (made : (count from : ℕ) → List ℕ) (step size : ℕ) (source before out : List ℕ) (from at count f a left : ℕ)
     : Type 0 where
   pub source-left : f + left * step ≤ length source
   pub out-left : a + left * size ≤ length out
@@ -20,22 +20,23 @@ pub record Left (made : (count from : ℕ) → List ℕ) (step size : ℕ) (sour
   pub rest : sets out a (made left f) ≡ sets before at (made count from)
 
 pub begun : (made : (count from : ℕ) → List ℕ) (step size : ℕ) (source out : List ℕ) (from at count : ℕ)
-    → from + count * step ≤ length source → at + count * size ≤ length out → Left made step size source out out from at count from at count
+    → from + count * step ≤ length source → at + count * size ≤ length out
+    → Remaining made step size source out out from at count from at count
 begun made step size source out from at count f g = record { source-left = f; out-left = g; same = refl; rest = refl }
 
 module _ {made : (count from : ℕ) → List ℕ} {step size : ℕ} {source before out : List ℕ} {from at count f a left : ℕ}
-    (now : Left made step size source before out from at count f a left) where
+    (now : Remaining made step size source before out from at count f a left) where
   pub next-source : 0 < left → f + step ≤ length source
   next-source h = space left step f (length source) h (now .source-left) .0
 
   pub next-out : 0 < left → a + size ≤ length out
   next-out h = space left size a (length out) h (now .out-left) .0
 
-  -- One step, of which `one` are the bytes.
-  pub turned : (one next : List ℕ) (s n : ℕ) → 0 < left → s ≡ step → n ≡ size → length one ≡ size
+  -- After one step, of which `one` are the bytes.
+  pub after-step : (one next : List ℕ) (s n : ℕ) → 0 < left → s ≡ step → n ≡ size → length one ≡ size
       → ((k : ℕ) → made (suc k) f ≡ one ++ made k (f + step)) → next ≡ sets out a one
-      → Left made step size source before next from at count (f + s) (a + n) (left - 1)
-  turned one next s n h es en size-of-one split e =
+      → Remaining made step size source before next from at count (f + s) (a + n) (left - 1)
+  after-step one next s n h es en size-of-one split e =
       let more : left ≡ suc (left - 1) = omega arith in
       let kept : length next ≡ length out = ap length e ∙ length-sets out a one in
       let all : sets out a (one ++ made (left - 1) (f + step)) ≡ sets before at (made count from) =

@@ -1,3 +1,3 @@
--- The definition that the contracts of `readout_rows` and of `readout` cite.
+-- The definitions that the contracts of `readout_rows`, `readout_writer` and `readout_reader` cite.
 -- Assumes nothing.
 pub mod Widths

@@ -36,10 +36,10 @@ wholeBytes ws = total ws / 8
 unfoldable pub bytesIn : List ℕ → List ℕ → List ℕ
 bytesIn ws cells = cut (replicate (wholeBytes ws) 8) (join ws cells)
 
--- How many cells, from the first on, have no bit above their width.
-unfoldable pub fine : List ℕ → List ℕ → ℕ
-fine [] cells = 0
-fine (w ∷ ws) cells = cond (eqb (getD cells 0 0 / 2 ^ w) 0) (suc (fine ws (drop 1 cells))) 0
+-- How many cells, from the first on, are within their width, that is, have no bit above it.
+unfoldable pub cellsWithin : List ℕ → List ℕ → ℕ
+cellsWithin [] cells = 0
+cellsWithin (w ∷ ws) cells = cond (eqb (getD cells 0 0 / 2 ^ w) 0) (suc (cellsWithin ws (drop 1 cells))) 0
 
 -- The bits above a width in so many bytes, taken as one word.
 unfoldable pub aboveMask : (count width : ℕ) → ℕ

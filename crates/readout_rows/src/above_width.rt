@@ -6,7 +6,7 @@ ghost use Prim.Native.Nat.{_+_, _*_, _≤_};
 ghost use lib.ListN.{length, drop, replicate};
 ghost use Rattle.cells.specs.Cells.{repeat};
 ghost use Rattle.part.specs.Device.{known, readoutBytes};
-ghost use Rattle.readout_rows.specs.Widths.{rowWidths, blockWidths, widths, fine};
+ghost use Rattle.readout_rows.specs.Widths.{rowWidths, blockWidths, widths, cellsWithin};
 use super::sizes;
 use cells::words::joined;
 use cells::words::word8;
@@ -16,7 +16,7 @@ use part::Device;
 // The index of the first of `count` bytes from index `at` on that has a bit above `width`, or the index behind them.
 fn run_above(readout: &[u8], at: usize, width: u32, count: usize) -> usize
     requires { ⌜ (at + count ≤ length (now readout)) × (width ≤ 8) ⌝ }
-    ensures { λ r. ⌜ r ≡ at + fine (replicate count width) (drop at (now (readout .entry))) ⌝ }
+    ensures { λ r. ⌜ r ≡ at + cellsWithin (replicate count width) (drop at (now (readout .entry))) ⌝ }
 {
     let mut a = at;
     let mut left = count;
@@ -34,7 +34,7 @@ fn run_above(readout: &[u8], at: usize, width: u32, count: usize) -> usize
 // have none above; the others are taken as one word, and as a rule none has any.
 fn row_above(area: Area, readout: &[u8], at: usize) -> usize
     requires { ⌜ at + length (rowWidths area) ≤ length (now readout) ⌝ }
-    ensures { λ r. ⌜ r ≡ at + fine (rowWidths area) (drop at (now (readout .entry))) ⌝ }
+    ensures { λ r. ⌜ r ≡ at + cellsWithin (rowWidths area) (drop at (now (readout .entry))) ⌝ }
 {
     match area {
         Area::Main => {
@@ -55,7 +55,7 @@ fn row_above(area: Area, readout: &[u8], at: usize) -> usize
 // The index of the first byte of some rows that has a bit above its width, or the index behind them.
 fn rows_above(area: Area, readout: &[u8], at: usize, count: usize) -> usize
     requires { ⌜ at + count * length (rowWidths area) ≤ length (now readout) ⌝ }
-    ensures { λ r. ⌜ r ≡ at + fine (repeat count (rowWidths area)) (drop at (now (readout .entry))) ⌝ }
+    ensures { λ r. ⌜ r ≡ at + cellsWithin (repeat count (rowWidths area)) (drop at (now (readout .entry))) ⌝ }
 {
     let bytes = sizes::row_bytes(area);
     let mut a = at;
@@ -74,7 +74,7 @@ fn rows_above(area: Area, readout: &[u8], at: usize, count: usize) -> usize
 // The index of the first byte of a block that has a bit above its width, or the index behind the block.
 fn block_above(d: Device, readout: &[u8], at: usize) -> usize
     requires { ⌜ (known d ≡ true) × (at + length (blockWidths d) ≤ length (now readout)) ⌝ }
-    ensures { λ r. ⌜ r ≡ at + fine (blockWidths d) (drop at (now (readout .entry))) ⌝ }
+    ensures { λ r. ⌜ r ≡ at + cellsWithin (blockWidths d) (drop at (now (readout .entry))) ⌝ }
 {
     let found = rows_above(Area::Main, readout, at, sizes::MAIN_ROWS);
     if found < at + sizes::MAIN_BYTES {
@@ -87,7 +87,7 @@ fn block_above(d: Device, readout: &[u8], at: usize) -> usize
 // The index of the first byte of a readout that has a bit above its width, or its length.
 pub fn first_above(d: Device, readout: &[u8]) -> usize
     requires { ⌜ (known d ≡ true) × (length (now readout) ≡ readoutBytes d) ⌝ }
-    ensures { λ r. ⌜ r ≡ 0 + fine (widths d) (drop 0 (now (readout .entry))) ⌝ }
+    ensures { λ r. ⌜ r ≡ 0 + cellsWithin (widths d) (drop 0 (now (readout .entry))) ⌝ }
 {
     let bytes = sizes::block_bytes(d);
     let mut a: usize = 0;

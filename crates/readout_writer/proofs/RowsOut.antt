@@ -18,15 +18,16 @@ use Rattle.part.specs.declared.Area.the-variants.{Main, WireAnd}
 use Rattle.part.specs.declared.Device.{Device}
 use Rattle.readout_rows.specs.Widths.{rowWidths, pairWidths, blockWidths, widths, wholeBytes}
 use Rattle.readout_rows.proofs.RowSizes.{mainPairs, subareaPairs, pairs-of-block, main-pairs-size, device-size, device-whole}
-use Rattle.readout_rows.proofs.Stores.{Left, begun, turned, ended}
+use Rattle.readout_rows.proofs.Stores.{Remaining, begun, after-step, ended}
 
--- Cells of a word of eight bytes, behind some bits of it, where they lie `past` bits behind a start.
+-- Cells of a word of eight bytes after its first `skip` bits, where they lie `past` bits after a start.
 from-bit : (image ws : List ℕ) (start past p skip w : ℕ) → p + 8 ≤ length image → skip + total ws ≤ 64 → p * 8 + skip ≡ start + past
     → w ≡ join (replicate 8 8) (drop p image) → cut ws (w / 2 ^ skip) ≡ cut ws (number image / 2 ^ start / 2 ^ past)
 from-bit image ws start past p skip w h g e f =
     rw f
     (piece image ws p skip 8 h g ∙ ap (λ (t : ℕ). cut ws (number image / 2 ^ t)) e ∙ ap (cut ws) (sym (shr-shr (number image) start past)))
 
+-- A main row from three words, and a wire-AND row from one.
 pub main-row : (image out one two three : List ℕ) (byte shift at u v w : ℕ) → shift ≤ 4 → byte + 14 ≤ length image
     → u ≡ join (replicate 8 8) (drop byte image) → one ≡ sets out at (cut (replicate 4 8) (u / 2 ^ shift))
     → v ≡ join (replicate 8 8) (drop (byte + 4) image) → two ≡ sets one (at + 4) (cut (replicate 5 8) (v / 2 ^ shift))
@@ -93,23 +94,23 @@ wire-and-pair-out area image out one two byte at e e1 e2 =
 unfoldable pub cellsOf : (ws image : List ℕ) (count byte : ℕ) → List ℕ
 cellsOf ws image count byte = cut (repeat count ws) (number image / 2 ^ (byte * 8))
 
--- The loop that stores them.
-abbrev pub LeftOut : (ws image before out : List ℕ) (byte at count b a left : ℕ) → Type 0
-LeftOut ws image = Left (cellsOf ws image) (wholeBytes ws) (length ws) image
+-- What holds in the loop that stores them.
+abbrev pub RemainingOut : (ws image before out : List ℕ) (byte at count b a left : ℕ) → Type 0
+RemainingOut ws image = Remaining (cellsOf ws image) (wholeBytes ws) (length ws) image
 
 pub begun-out : (ws image out : List ℕ) (byte at count : ℕ) → byte + count * wholeBytes ws ≤ length image
-    → at + count * length ws ≤ length out → LeftOut ws image out out byte at count byte at count
+    → at + count * length ws ≤ length out → RemainingOut ws image out out byte at count byte at count
 begun-out ws image out byte at count = begun (cellsOf ws image) (wholeBytes ws) (length ws) image out byte at count
 
-module _ (ws image before out : List ℕ) (byte at count b a left : ℕ) (now : LeftOut ws image before out byte at count b a left) where
-  pub turned-out : (next : List ℕ) (whole bytes : ℕ) → 0 < left → total ws ≡ wholeBytes ws * 8 → whole ≡ wholeBytes ws → bytes ≡ length ws
-      → next ≡ sets out a (cut ws (number image / 2 ^ (b * 8)))
-      → LeftOut ws image before next byte at count (b + whole) (a + bytes) (left - 1)
+module _ (ws image before out : List ℕ) (byte at count b a left : ℕ) (now : RemainingOut ws image before out byte at count b a left) where
+  pub after-step-out : (next : List ℕ) (whole bytes : ℕ) → 0 < left → total ws ≡ wholeBytes ws * 8 → whole ≡ wholeBytes ws
+      → bytes ≡ length ws → next ≡ sets out a (cut ws (number image / 2 ^ (b * 8)))
+      → RemainingOut ws image before next byte at count (b + whole) (a + bytes) (left - 1)
   unfolding cellsOf repeat
-  turned-out next whole bytes h t ew eb e =
+  after-step-out next whole bytes h t ew eb e =
       let x = number image / 2 ^ (b * 8) in
       let bits : (b + wholeBytes ws) * 8 ≡ b * 8 + total ws = omega arith in
-      turned now (cut ws x) next whole bytes h ew eb (cut-length ws x)
+      after-step now (cut ws x) next whole bytes h ew eb (cut-length ws x)
       (λ k. cut-append ws (repeat k ws) x
       ∙ ap (λ (y : ℕ). cut ws x ++ cut (repeat k ws) y)
       (shr-shr (number image) (b * 8) (total ws) ∙ ap (λ (j : ℕ). number image / 2 ^ j) (sym bits)))
@@ -134,12 +135,12 @@ block-of-pairs d image out one two byte at e1 e2 =
 
 -- The loop over the blocks of a device.
 pub blocks-begun : (d : Device) (image out : List ℕ) → known d ≡ true → length image ≡ imageBytes d → length out ≡ readoutBytes d
-    → LeftOut (blockWidths d) image out out 0 0 (d .blocks) 0 0 (d .blocks)
+    → RemainingOut (blockWidths d) image out out 0 0 (d .blocks) 0 0 (d .blocks)
 blocks-begun d image out k e f =
     begun-out (blockWidths d) image out 0 0 (d .blocks) (omega (arith, device-whole d k)) (omega (arith, device-size d k .1))
 
 pub blocks-ended : (d : Device) (image before out : List ℕ) (b a left : ℕ)
-    → LeftOut (blockWidths d) image before out 0 0 (d .blocks) b a left → left ≤ 0
+    → RemainingOut (blockWidths d) image before out 0 0 (d .blocks) b a left → left ≤ 0
     → out ≡ sets before 0 (cut (widths d) (number image / 2 ^ (0 * 8)))
 unfolding widths
 blocks-ended d image before out b a left now h = ended-out (blockWidths d) image before out 0 0 (d .blocks) b a left now h

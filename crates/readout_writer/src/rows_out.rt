@@ -26,7 +26,8 @@ fn main_row_out(image: &[u8], byte: usize, shift: u32, out: &mut [u8], at: usize
     put_cells(word8(image, byte + 6) >> (shift + 24), 6, 6, out, at + 9);
 }
 
-// The bytes of a wire-AND row of an image that starts at a bit of the eight bytes taken: the last row ends the image.
+// The bytes of a wire-AND row of an image that starts at a bit of the eight bytes taken. For the second row of a pair
+// they end with the row, since the last row ends the image.
 fn wire_and_row_out(image: &[u8], byte: usize, shift: u32, out: &mut [u8], at: usize)
     requires { ⌜ (shift ≤ 28) × (byte + 8 ≤ length (now image)) × (at + wireAndColumns ≤ length (now out)) ⌝ }
     ensures { λ _. ⌜ now (out .exit) ≡ sets (now (out .entry)) at

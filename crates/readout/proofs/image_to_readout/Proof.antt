@@ -24,7 +24,7 @@ use borrow.Author.Needs.{needs}
 use Rattle.readout.proofs.image_to_readout.Statement.{statement}
 use Rattle.readout.proofs.image_to_readout.Tie as tie
 
--- The tests, at this function's definition.
+-- The case of each test, for the definition of this function.
 module _ (d : Device) (image before : List ℕ) where
   abbrev At : Outcome (Unit {0}) → List ℕ → Type 0
   At answer after = Written (toReadout d image before) answer (readoutOf d image) before after

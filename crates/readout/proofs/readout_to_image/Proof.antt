@@ -16,7 +16,7 @@ use Rattle.part.specs.Device.{known, imageBytes, readoutBytes}
 use Rattle.part.specs.declared.Device.{Device}
 use Rattle.part.proofs.Devices.{is-known, is-unknown}
 use Rattle.readout.specs.Readout.{toImage, imageOf, firstAbove}
-use Rattle.readout_rows.specs.Widths.{widths, bytesIn, fine}
+use Rattle.readout_rows.specs.Widths.{widths, bytesIn, cellsWithin}
 use Rattle.readout.proofs.Conversions.{image-bytes-in, image-length, sets-whole}
 use Rattle.readout.proofs.FirstAbove.{first-above}
 use Rattle.part.proofs.Targets.{unknown, wrong-first, wrong-second, right}
@@ -30,7 +30,7 @@ afterScan d readout = cond (ltb (firstAbove d readout) (readoutBytes d)) (refuse
 
 -- What the scan found, and what the definition says of it.
 module _ (d : Device) (readout : List ℕ) (above : ℕ) (k : known d ≡ true) (l : length readout ≡ readoutBytes d)
-    (e : above ≡ 0 + fine (widths d) (drop 0 readout)) where
+    (e : above ≡ 0 + cellsWithin (widths d) (drop 0 readout)) where
   the-above : above ≡ firstAbove d readout
   the-above = e ∙ zero-add _ ∙ sym (first-above d readout k)
 
@@ -40,7 +40,7 @@ module _ (d : Device) (readout : List ℕ) (above : ℕ) (k : known d ≡ true) 
   no-above : length readout ≤ above → accepted tt ≡ afterScan d readout
   no-above h = rw (← the-above, le-ltb above (readoutBytes d) (omega arith))
 
--- The tests, at this function's definition.
+-- The case of each test, for the definition of this function.
 module _ (d : Device) (readout before : List ℕ) where
   abbrev At : Outcome (Unit {0}) → List ℕ → Type 0
   At answer after = Written (toImage d readout before) answer (imageOf d readout) before after
@@ -77,13 +77,14 @@ whole d readout before after k e f =
 
 one-above-refused : (d : Device) (readout before : List ℕ) (x y above : ℕ) → known d ≡ true → x ≡ readoutBytes d → length readout ≡ x
     → y ≡ imageBytes d → length before ≡ y
-    → above ≡ 0 + fine (widths d) (drop 0 readout) → above < length readout → At d readout before (refused 6 above) before
+    → above ≡ 0 + cellsWithin (widths d) (drop 0 readout) → above < length readout → At d readout before (refused 6 above) before
 one-above-refused d readout before x y above k ex hx ey hy e h =
     passed d readout before k x ex hx y ey hy (refused 6 above) (one-above d readout above k (hx ∙ ex) e h) before refl
 
 all-passed : (d : Device) (readout before after : List ℕ) (x y above : ℕ) → known d ≡ true → x ≡ readoutBytes d → length readout ≡ x
     → y ≡ imageBytes d → length before ≡ y
-    → above ≡ 0 + fine (widths d) (drop 0 readout) → length readout ≤ above → after ≡ sets before 0 (bytesIn (widths d) (drop 0 readout))
+    → above ≡ 0 + cellsWithin (widths d) (drop 0 readout) → length readout ≤ above
+    → after ≡ sets before 0 (bytesIn (widths d) (drop 0 readout))
     → At d readout before (accepted tt) after
 all-passed d readout before after x y above k ex hx ey hy e h f =
     passed d readout before k x ex hx y ey hy (accepted tt) (no-above d readout above k (hx ∙ ex) e h) after

@@ -9,7 +9,7 @@ use Rattle.part.specs.declared.Device.{Device}
 use Rattle.readout_rows.specs.Widths.{blockWidths, wholeBytes}
 use Rattle.readout_rows.proofs.RowSizes.{block-whole}
 use Rattle.readout_rows.proofs.Stores.{next-source, next-out}
-use Rattle.readout_reader.proofs.RowsIn.{LeftIn, turned-in, blocks-begun, blocks-ended}
+use Rattle.readout_reader.proofs.RowsIn.{RemainingIn, after-step-in, blocks-begun, blocks-ended}
 use Rattle.readout_reader.proofs.rows_in.blocks_in.Statement.{statement}
 use Rattle.readout_reader.proofs.rows_in.blocks_in.Tie as tie
 
@@ -18,7 +18,7 @@ whole d = block-whole d .1
 
 abbrev Inv-loop : tie.InvT-loop
 Inv-loop d readout image₀ whole bytes a₀ b₀ left₀ image a b left =
-    LeftIn (blockWidths d) readout image₀ image 0 0 (d .blocks) a b left
+    RemainingIn (blockWidths d) readout image₀ image 0 0 (d .blocks) a b left
 
 abbrev μ-loop : tie.MeasureT-loop
 μ-loop d readout image₀ whole bytes a₀ b₀ left₀ image a b left = left
@@ -37,19 +37,19 @@ block-in-requires c κs = search (needs, next-source, next-out)
 
 add-a : tie.Need-add-a Inv-loop μ-loop
 add-a c =
-    let turn = c .before .before .before .before in
-    let loop = turn .before in
+    let step = c .before .before .before .before in
+    let loop = step .before in
     let start = loop .before .before .before .before .before in
-    omega (arith, next-source (loop .loop .inv) (turn .loop-test .taken), loop .before .block-bytes .ensures, start .good)
+    omega (arith, next-source (loop .loop .inv) (step .loop-test .taken), loop .before .block-bytes .ensures, start .good)
 
 add-b : tie.Need-add-b Inv-loop μ-loop
 add-b c =
-    let turn = c .before .before .before .before in
-    let loop = turn .before in
+    let step = c .before .before .before .before in
+    let loop = step .before in
     let start = loop .before .before .before .before .before in
     omega (
       arith,
-      next-out (loop .loop .inv) (turn .loop-test .taken),
+      next-out (loop .loop .inv) (step .loop-test .taken),
       loop .loop .inv .same,
       loop .before .before .block-image-bytes .ensures,
       start .good,
@@ -62,7 +62,7 @@ loop-less : tie.Need-loop-less Inv-loop μ-loop
 loop-less c = omega arith
 
 loop-again : tie.Need-loop-again Inv-loop μ-loop
-loop-again c = search (needs, turned-in, whole)
+loop-again c = search (needs, after-step-in, whole)
 
 same-length : tie.Need-same-length Inv-loop μ-loop
 same-length c = search needs

@@ -1,4 +1,4 @@
--- `five_together` meets its contract: the fields move as they are meant to.
+-- `five_together` meets its contract: the mask leaves the fields, and each is moved to its bits.
 -- Assumes nothing.
 use mathlib.Core.Path.{_≡_, refl, _∙_}
 use mathlib.Core.List.{[], _∷_}
@@ -24,7 +24,7 @@ paired low odd a b c d e x y z g h ex ey ez =
     let half : odd / 2 ^ 1 ≡ c * 2 ^ 15 + e * 2 ^ 31 = omega arith in
     rw half (omega arith, omega arith)
 
--- What is below is moved up, and all down.
+-- What is below is moved up, and then all is moved down.
 joined : (p a b : ℕ) → a < 2 ^ 22 → p ≡ a + b * 2 ^ 24 → (p + p % 16777216 * 3) / 2 ^ 2 ≡ a + b * 2 ^ 22
 joined p a b ha e =
     let one : p % 16777216 ≡ a = omega arith in

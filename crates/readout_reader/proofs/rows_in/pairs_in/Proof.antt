@@ -1,4 +1,4 @@
--- `pairs_in` meets its contract: the loop of `pairs_out`, the other way.
+-- `pairs_in` meets its contract: a loop whose invariant is `RemainingIn`.
 -- Assumes nothing.
 use mathlib.Core.Path.{_≡_}
 use Prim.Native.Nat.{_*_}
@@ -9,7 +9,7 @@ use Rattle.part.specs.declared.Area.{Area}
 use Rattle.readout_rows.specs.Widths.{pairWidths, wholeBytes}
 use Rattle.readout_rows.proofs.RowSizes.{pair-whole}
 use Rattle.readout_rows.proofs.Stores.{next-source, next-out}
-use Rattle.readout_reader.proofs.RowsIn.{LeftIn, begun-in, turned-in, ended-in}
+use Rattle.readout_reader.proofs.RowsIn.{RemainingIn, begun-in, after-step-in, ended-in}
 use Rattle.readout_reader.proofs.rows_in.pairs_in.Statement.{statement}
 use Rattle.readout_reader.proofs.rows_in.pairs_in.Tie as tie
 
@@ -18,7 +18,7 @@ whole area = pair-whole area
 
 abbrev Inv-loop : tie.InvT-loop
 Inv-loop area readout at image₀ byte count whole bytes a₀ b₀ left₀ image a b left =
-    LeftIn (pairWidths area) readout image₀ image at byte count a b left
+    RemainingIn (pairWidths area) readout image₀ image at byte count a b left
 
 abbrev μ-loop : tie.MeasureT-loop
 μ-loop area readout at image₀ byte count whole bytes a₀ b₀ left₀ image a b left = left
@@ -37,19 +37,19 @@ pair-in-requires c κs = search (needs, next-source, next-out)
 
 add-a : tie.Need-add-a Inv-loop μ-loop
 add-a c =
-    let turn = c .before .before .before .before in
-    let loop = turn .before in
+    let step = c .before .before .before .before in
+    let loop = step .before in
     let start = loop .before .before .before .before .before in
-    omega (arith, next-source (loop .loop .inv) (turn .loop-test .taken), loop .before .pair-readout-bytes .ensures, start .good)
+    omega (arith, next-source (loop .loop .inv) (step .loop-test .taken), loop .before .pair-readout-bytes .ensures, start .good)
 
 add-b : tie.Need-add-b Inv-loop μ-loop
 add-b c =
-    let turn = c .before .before .before .before in
-    let loop = turn .before in
+    let step = c .before .before .before .before in
+    let loop = step .before in
     let start = loop .before .before .before .before .before in
     omega (
       arith,
-      next-out (loop .loop .inv) (turn .loop-test .taken),
+      next-out (loop .loop .inv) (step .loop-test .taken),
       loop .loop .inv .same,
       loop .before .before .pair-image-bytes .ensures,
       start .good,
@@ -62,7 +62,7 @@ loop-less : tie.Need-loop-less Inv-loop μ-loop
 loop-less c = omega arith
 
 loop-again : tie.Need-loop-again Inv-loop μ-loop
-loop-again c = search (needs, turned-in, whole)
+loop-again c = search (needs, after-step-in, whole)
 
 same-length : tie.Need-same-length Inv-loop μ-loop
 same-length c = search needs

@@ -1,4 +1,4 @@
--- `six_together` meets its contract: the fields move as they are meant to.
+-- `six_together` meets its contract: the mask leaves the fields, and each is moved to its bits.
 -- Assumes nothing.
 use mathlib.Core.Path.{_≡_, refl, _∙_}
 use mathlib.Core.List.{[], _∷_}
@@ -23,7 +23,7 @@ paired low odd a b c d e f x y z g h ex ey ez =
     let quarter : odd / 2 ^ 2 ≡ b * 2 ^ 6 + d * 2 ^ 22 + f * 2 ^ 38 = omega arith in
     rw quarter (omega arith, omega arith)
 
--- Three pairs: the lowest is moved up, then the lower two, and all down.
+-- Of three pairs the lowest is moved up, then the lower two, and then all is moved down.
 joined : (p a b c : ℕ) → a < 2 ^ 12 → b < 2 ^ 12 → p ≡ a + b * 2 ^ 16 + c * 2 ^ 32
     → (p + p % 65536 * 15 + (p + p % 65536 * 15) % 4294967296 * 15) / 2 ^ 8 ≡ a + b * 2 ^ 12 + c * 2 ^ 24
 joined p a b c ha hb e =

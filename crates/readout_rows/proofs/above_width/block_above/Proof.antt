@@ -5,7 +5,7 @@ use native.Mathlib.Omega.{arith}
 use borrow.Author.Needs.{needs}
 use Rattle.part.specs.declared.Area.the-variants.{Main, WireAnd}
 use Rattle.readout_rows.proofs.RowSizes.{main-size, wire-and-size, block-size}
-use Rattle.readout_rows.proofs.RowsAbove.{block-fine-found, block-fine-on}
+use Rattle.readout_rows.proofs.RowsAbove.{block-within-found, block-within-on}
 use Rattle.readout_rows.proofs.above_width.block_above.Statement.{statement}
 use Rattle.readout_rows.proofs.above_width.block_above.Tie as tie
 
@@ -16,7 +16,7 @@ add-if1 : tie.Need-add-if1
 add-if1 c = search needs
 
 returns : tie.Need-returns
-returns c = search (needs, block-fine-found)
+returns c = search (needs, block-within-found)
 
 cast-rows : tie.Need-cast-rows
 cast-rows c = search needs
@@ -33,7 +33,7 @@ rows-above-requires-2 c κs =
     rw (wire-and-size WireAnd refl .1) (omega (arith, block-size (start .args .d), start .pre))
 
 returns-2 : tie.Need-returns-2
-returns-2 c = search (needs, block-fine-on)
+returns-2 c = search (needs, block-within-on)
 
 pub block-above-spec : {M : Type 1} → statement M
 block-above-spec =

@@ -3,7 +3,7 @@
 use native.Mathlib.Omega.{arith}
 use borrow.Author.Needs.{needs}
 use Rattle.readout_rows.specs.Widths.{blockWidths}
-use Rattle.readout_rows.proofs.Scan.{Scan, scan-space, scan-turned}
+use Rattle.readout_rows.proofs.Scan.{Scan, scan-space, scan-step}
 use Rattle.readout_rows.proofs.RowsAbove.{blocks-scan, blocks-found, blocks-none}
 use Rattle.readout_rows.proofs.above_width.first_above.Statement.{statement}
 use Rattle.readout_rows.proofs.above_width.first_above.Tie as tie
@@ -41,7 +41,7 @@ loop-less : tie.Need-loop-less Inv-loop μ-loop
 loop-less c = omega arith
 
 loop-again : tie.Need-loop-again Inv-loop μ-loop
-loop-again c = search (needs, scan-turned)
+loop-again c = search (needs, scan-step)
 
 returns-2 : tie.Need-returns-2 Inv-loop μ-loop
 returns-2 c = search (needs, blocks-none)

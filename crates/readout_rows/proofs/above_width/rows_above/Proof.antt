@@ -3,7 +3,7 @@
 use native.Mathlib.Omega.{arith}
 use borrow.Author.Needs.{needs}
 use Rattle.readout_rows.specs.Widths.{rowWidths}
-use Rattle.readout_rows.proofs.Scan.{Scan, scan-begun, scan-space, scan-found, scan-turned, scan-ended}
+use Rattle.readout_rows.proofs.Scan.{Scan, scan-begun, scan-space, scan-found, scan-step, scan-ended}
 use Rattle.readout_rows.proofs.above_width.rows_above.Statement.{statement}
 use Rattle.readout_rows.proofs.above_width.rows_above.Tie as tie
 
@@ -40,7 +40,7 @@ loop-less : tie.Need-loop-less Inv-loop μ-loop
 loop-less c = omega arith
 
 loop-again : tie.Need-loop-again Inv-loop μ-loop
-loop-again c = search (needs, scan-turned)
+loop-again c = search (needs, scan-step)
 
 returns-2 : tie.Need-returns-2 Inv-loop μ-loop
 returns-2 c = search (needs, scan-ended)

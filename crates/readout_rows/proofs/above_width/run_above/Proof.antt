@@ -3,7 +3,7 @@
 use mathlib.Core.List.{[], _∷_}
 use native.Mathlib.Omega.{arith}
 use borrow.Author.Needs.{needs}
-use Rattle.readout_rows.proofs.Scan.{Scan, run-begun, run-space, run-found, run-turned, run-ended}
+use Rattle.readout_rows.proofs.Scan.{Scan, run-begun, run-space, run-found, run-step, run-ended}
 use Rattle.readout_rows.proofs.above_width.run_above.Statement.{statement}
 use Rattle.readout_rows.proofs.above_width.run_above.Tie as tie
 
@@ -42,7 +42,7 @@ loop-less : tie.Need-loop-less Inv-loop μ-loop
 loop-less c = omega arith
 
 loop-again : tie.Need-loop-again Inv-loop μ-loop
-loop-again c = search (needs, run-turned)
+loop-again c = search (needs, run-step)
 
 returns-2 : tie.Need-returns-2 Inv-loop μ-loop
 returns-2 c = search (needs, run-ended)

@@ -1,4 +1,4 @@
--- `pairs_out` meets its contract: a loop whose invariant is `Left`.
+-- `pairs_out` meets its contract: a loop whose invariant is `RemainingOut`.
 -- Assumes nothing.
 use mathlib.Core.Path.{_≡_}
 use Prim.Native.Nat.{_*_}
@@ -9,7 +9,7 @@ use Rattle.part.specs.declared.Area.{Area}
 use Rattle.readout_rows.specs.Widths.{pairWidths, wholeBytes}
 use Rattle.readout_rows.proofs.RowSizes.{pair-whole}
 use Rattle.readout_rows.proofs.Stores.{next-source, next-out}
-use Rattle.readout_writer.proofs.RowsOut.{LeftOut, begun-out, turned-out, ended-out}
+use Rattle.readout_writer.proofs.RowsOut.{RemainingOut, begun-out, after-step-out, ended-out}
 use Rattle.readout_writer.proofs.rows_out.pairs_out.Statement.{statement}
 use Rattle.readout_writer.proofs.rows_out.pairs_out.Tie as tie
 
@@ -18,7 +18,7 @@ whole area = pair-whole area
 
 abbrev Inv-loop : tie.InvT-loop
 Inv-loop area image byte out₀ at count whole bytes b₀ a₀ left₀ out b a left =
-    LeftOut (pairWidths area) image out₀ out byte at count b a left
+    RemainingOut (pairWidths area) image out₀ out byte at count b a left
 
 abbrev μ-loop : tie.MeasureT-loop
 μ-loop area image byte out₀ at count whole bytes b₀ a₀ left₀ out b a left = left
@@ -37,19 +37,19 @@ pair-out-requires c κs = search (needs, next-source, next-out)
 
 add-b : tie.Need-add-b Inv-loop μ-loop
 add-b c =
-    let turn = c .before .before .before .before in
-    let loop = turn .before in
+    let step = c .before .before .before .before in
+    let loop = step .before in
     let start = loop .before .before .before .before .before in
-    omega (arith, next-source (loop .loop .inv) (turn .loop-test .taken), loop .before .before .pair-image-bytes .ensures, start .good)
+    omega (arith, next-source (loop .loop .inv) (step .loop-test .taken), loop .before .before .pair-image-bytes .ensures, start .good)
 
 add-a : tie.Need-add-a Inv-loop μ-loop
 add-a c =
-    let turn = c .before .before .before .before in
-    let loop = turn .before in
+    let step = c .before .before .before .before in
+    let loop = step .before in
     let start = loop .before .before .before .before .before in
     omega (
       arith,
-      next-out (loop .loop .inv) (turn .loop-test .taken),
+      next-out (loop .loop .inv) (step .loop-test .taken),
       loop .loop .inv .same,
       loop .before .pair-readout-bytes .ensures,
       start .good,
@@ -62,7 +62,7 @@ loop-less : tie.Need-loop-less Inv-loop μ-loop
 loop-less c = omega arith
 
 loop-again : tie.Need-loop-again Inv-loop μ-loop
-loop-again c = search (needs, turned-out, whole)
+loop-again c = search (needs, after-step-out, whole)
 
 same-length : tie.Need-same-length Inv-loop μ-loop
 same-length c = search needs
