@@ -14,7 +14,7 @@ use Rattle.part.specs.Device.{known, imageBytes, readoutBytes, mainColumns, mai
 use Rattle.part.specs.declared.Area.the-variants.{Main, WireAnd}
 use Rattle.part.specs.declared.Device.{Device}
 use Rattle.readout_rows.specs.Widths.{rowWidths, pairWidths, blockWidths, widths, wholeBytes, bytesIn}
-use Rattle.readout_rows.proofs.RowSizes.{mainPairs, subareaPairs, pairs-of-block, main-pairs-size, device-size, device-whole}
+use Rattle.readout_rows.proofs.RowSizes.{mainPairs, wireAndPairs, pairs-of-block, main-pairs-size, device-size, device-whole}
 use Rattle.readout_rows.proofs.Stores.{Remaining, begun, after-step, ended}
 use Rattle.readout_reader.proofs.Carried.{of-cells, bytes-in-parts, step-over, step-stored}
 
@@ -137,11 +137,11 @@ module _ (ws readout before out : List ℕ) (at byte count a b left : ℕ)
 pub block-of-pairs : (d : Device) (readout out one two : List ℕ) (at byte : ℕ)
     → one ≡ sets out byte (bytesIn (repeat mainPairs (pairWidths Main)) (drop at readout))
     → two ≡ sets one (byte + mainFuses / 8)
-    (bytesIn (repeat (d .blocks * subareaPairs) (pairWidths WireAnd)) (drop (at + mainBytes) readout))
+    (bytesIn (repeat (d .blocks * wireAndPairs) (pairWidths WireAnd)) (drop (at + mainBytes) readout))
     → two ≡ sets out byte (bytesIn (blockWidths d) (drop at readout))
 block-of-pairs d readout out one two at byte e1 e2 =
     let ws = repeat mainPairs (pairWidths Main) in
-    let vs = repeat (d .blocks * subareaPairs) (pairWidths WireAnd) in
+    let vs = repeat (d .blocks * wireAndPairs) (pairWidths WireAnd) in
     let cells = drop at readout in
     let whole : total ws ≡ wholeBytes ws * 8 = omega (arith, main-pairs-size) in
     let size : length (bytesIn ws cells) ≡ mainFuses / 8 = bytes-length ws cells ∙ main-pairs-size .2 in

@@ -129,7 +129,7 @@ fn main_rows_in(readout: &[u8], at: usize, image: &mut [u8], byte: usize)
     let carry = main_row_in(readout, at, 0, 0, 0, image, byte, 4);
     main_row_in(
         readout,
-        at + sizes::MAIN_ROW_BYTES,
+        at + sizes::MAIN_COLUMNS,
         2,
         carry,
         4,
@@ -146,7 +146,7 @@ fn wire_and_rows_in(readout: &[u8], at: usize, image: &mut [u8], byte: usize)
         ≡ sets (now (image .entry)) byte (bytesIn (pairWidths WireAnd) (drop at (now (readout .entry)))) ⌝ }
 {
     let one = wire_and_row(readout, at, 0);
-    let two = wire_and_row(readout, at + sizes::WIRE_AND_ROW_BYTES, 3);
+    let two = wire_and_row(readout, at + sizes::WIRE_AND_COLUMNS, 3);
     let top = put_eight(two, one, WIRE_AND_ROW_FUSES, image, byte);
     put_cells(top, 8, 1, image, byte + 8);
 }
@@ -192,7 +192,7 @@ fn block_in(d: Device, readout: &[u8], at: usize, image: &mut [u8], byte: usize)
         ≡ sets (now (image .entry)) byte (bytesIn (blockWidths d) (drop at (now (readout .entry)))) ⌝ }
 {
     pairs_in(Area::Main, readout, at, image, byte, sizes::MAIN_PAIRS);
-    let pairs = d.blocks as usize * sizes::SUBAREA_PAIRS;
+    let pairs = d.blocks as usize * sizes::WIRE_AND_PAIRS;
     pairs_in(
         Area::WireAnd,
         readout,

@@ -80,16 +80,16 @@ repeat-twice (suc k) ws =
 abbrev pub mainPairs : ℕ
 mainPairs = mainRows / 2
 
-abbrev pub subareaPairs : ℕ
-subareaPairs = wireAndRows / 2
+abbrev pub wireAndPairs : ℕ
+wireAndPairs = wireAndRows / 2
 
 -- A block in pairs of rows.
 pub pairs-of-block : (d : Device)
-    → blockWidths d ≡ repeat mainPairs (pairWidths Main) ++ repeat (d .blocks * subareaPairs) (pairWidths WireAnd)
+    → blockWidths d ≡ repeat mainPairs (pairWidths Main) ++ repeat (d .blocks * wireAndPairs) (pairWidths WireAnd)
 unfolding blockWidths pairWidths
 pairs-of-block d =
-    let half : d .blocks * subareaPairs * 2 ≡ d .blocks * wireAndRows = omega arith in
-    rw (repeat-twice mainPairs (rowWidths Main), repeat-twice (d .blocks * subareaPairs) (rowWidths WireAnd), half)
+    let half : d .blocks * wireAndPairs * 2 ≡ d .blocks * wireAndRows = omega arith in
+    rw (repeat-twice mainPairs (rowWidths Main), repeat-twice (d .blocks * wireAndPairs) (rowWidths WireAnd), half)
 
 -- The pairs of main rows of a block have the fuses, the readout bytes and the image bytes of its main area.
 pub main-pairs-size : (total (repeat mainPairs (pairWidths Main)) ≡ mainFuses)

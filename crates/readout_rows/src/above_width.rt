@@ -39,13 +39,13 @@ fn row_above(area: Area, readout: &[u8], at: usize) -> usize
     match area {
         Area::Main => {
             if (word8(readout, at + 7) >> 16) & 0xC0C0_C0C0_C0C0 == 0 {
-                return at + sizes::MAIN_ROW_BYTES;
+                return at + sizes::MAIN_COLUMNS;
             }
             run_above(readout, at + 9, 6, 6)
         }
         Area::WireAnd => {
             if joined(readout, at + 1, 8, 4) & 0x8080_8080 == 0 {
-                return at + sizes::WIRE_AND_ROW_BYTES;
+                return at + sizes::WIRE_AND_COLUMNS;
             }
             run_above(readout, at + 1, 7, 4)
         }
@@ -80,7 +80,7 @@ fn block_above(d: Device, readout: &[u8], at: usize) -> usize
     if found < at + sizes::MAIN_BYTES {
         return found;
     }
-    let rows = d.blocks as usize * sizes::SUBAREA_ROWS;
+    let rows = d.blocks as usize * sizes::WIRE_AND_ROWS;
     rows_above(Area::WireAnd, readout, at + sizes::MAIN_BYTES, rows)
 }
 

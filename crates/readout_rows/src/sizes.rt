@@ -9,19 +9,20 @@ use part::Area;
 use part::Device;
 use part::geometry;
 
-// The rows of the main area of a block and of a wire-AND subarea, and how many pairs they are.
+// The rows of the main area of a block and of a wire-AND subarea.
 pub const MAIN_ROWS: usize = geometry::MAIN_ROWS as usize;
 
-pub const SUBAREA_ROWS: usize = geometry::WIRE_AND_ROWS as usize;
+pub const WIRE_AND_ROWS: usize = geometry::WIRE_AND_ROWS as usize;
 
+// How many pairs of rows they are.
 pub const MAIN_PAIRS: usize = MAIN_ROWS / 2;
 
-pub const SUBAREA_PAIRS: usize = SUBAREA_ROWS / 2;
+pub const WIRE_AND_PAIRS: usize = WIRE_AND_ROWS / 2;
 
-// The bytes of a row in a readout.
-pub const MAIN_ROW_BYTES: usize = geometry::MAIN_COLUMNS as usize;
+// The columns of a row, each of which is a byte of a readout.
+pub const MAIN_COLUMNS: usize = geometry::MAIN_COLUMNS as usize;
 
-pub const WIRE_AND_ROW_BYTES: usize = geometry::WIRE_AND_COLUMNS as usize;
+pub const WIRE_AND_COLUMNS: usize = geometry::WIRE_AND_COLUMNS as usize;
 
 // The bytes of the main area of a block in an image and in a readout.
 pub const MAIN_IMAGE_BYTES: usize = geometry::MAIN_IMAGE_BYTES as usize;
@@ -33,17 +34,17 @@ const MAIN_PAIR_IMAGE_BYTES: usize = 2 * geometry::MAIN_ROW_FUSES as usize / 8;
 
 const WIRE_AND_PAIR_IMAGE_BYTES: usize = 2 * geometry::WIRE_AND_ROW_FUSES as usize / 8;
 
-const MAIN_PAIR_BYTES: usize = 2 * MAIN_ROW_BYTES;
+const MAIN_PAIR_BYTES: usize = 2 * MAIN_COLUMNS;
 
-const WIRE_AND_PAIR_BYTES: usize = 2 * WIRE_AND_ROW_BYTES;
+const WIRE_AND_PAIR_BYTES: usize = 2 * WIRE_AND_COLUMNS;
 
 // The bytes of a row in a readout.
 pub fn row_bytes(area: Area) -> usize
     ensures { λ r. ⌜ r ≡ length (rowWidths area) ⌝ }
 {
     match area {
-        Area::Main => MAIN_ROW_BYTES,
-        Area::WireAnd => WIRE_AND_ROW_BYTES,
+        Area::Main => MAIN_COLUMNS,
+        Area::WireAnd => WIRE_AND_COLUMNS,
     }
 }
 

@@ -17,7 +17,7 @@ use Rattle.part.specs.declared.Area.{Area}
 use Rattle.part.specs.declared.Area.the-variants.{Main, WireAnd}
 use Rattle.part.specs.declared.Device.{Device}
 use Rattle.readout_rows.specs.Widths.{rowWidths, pairWidths, blockWidths, widths, wholeBytes}
-use Rattle.readout_rows.proofs.RowSizes.{mainPairs, subareaPairs, pairs-of-block, main-pairs-size, device-size, device-whole}
+use Rattle.readout_rows.proofs.RowSizes.{mainPairs, wireAndPairs, pairs-of-block, main-pairs-size, device-size, device-whole}
 use Rattle.readout_rows.proofs.Stores.{Remaining, begun, after-step, ended}
 
 -- Cells of a word of eight bytes after its first `skip` bits, where they lie `past` bits after a start.
@@ -124,13 +124,13 @@ module _ (ws image before out : List ℕ) (byte at count b a left : ℕ) (now : 
 pub block-of-pairs : (d : Device) (image out one two : List ℕ) (byte at : ℕ)
     → one ≡ sets out at (cut (repeat mainPairs (pairWidths Main)) (number image / 2 ^ (byte * 8)))
     → two ≡ sets one (at + mainBytes)
-    (cut (repeat (d .blocks * subareaPairs) (pairWidths WireAnd)) (number image / 2 ^ ((byte + mainFuses / 8) * 8)))
+    (cut (repeat (d .blocks * wireAndPairs) (pairWidths WireAnd)) (number image / 2 ^ ((byte + mainFuses / 8) * 8)))
     → two ≡ sets out at (cut (blockWidths d) (number image / 2 ^ (byte * 8)))
 block-of-pairs d image out one two byte at e1 e2 =
     let bits : (byte + mainFuses / 8) * 8 ≡ byte * 8 + mainFuses = omega arith in
     e2
     ∙ rw (e1, bits, ← shr-shr (number image) (byte * 8) mainFuses, pairs-of-block d)
-    (cut-sets out (repeat mainPairs (pairWidths Main)) (repeat (d .blocks * subareaPairs) (pairWidths WireAnd)) at
+    (cut-sets out (repeat mainPairs (pairWidths Main)) (repeat (d .blocks * wireAndPairs) (pairWidths WireAnd)) at
     (number image / 2 ^ (byte * 8)) mainBytes mainFuses (main-pairs-size .1) (main-pairs-size .0))
 
 -- The loop over the blocks of a device.

@@ -49,11 +49,11 @@ fn pair_out(area: Area, image: &[u8], byte: usize, out: &mut [u8], at: usize)
     match area {
         Area::Main => {
             main_row_out(image, byte, 0, out, at);
-            main_row_out(image, byte + 13, 4, out, at + sizes::MAIN_ROW_BYTES);
+            main_row_out(image, byte + 13, 4, out, at + sizes::MAIN_COLUMNS);
         }
         Area::WireAnd => {
             wire_and_row_out(image, byte, 0, out, at);
-            wire_and_row_out(image, byte + 1, 28, out, at + sizes::WIRE_AND_ROW_BYTES);
+            wire_and_row_out(image, byte + 1, 28, out, at + sizes::WIRE_AND_COLUMNS);
         }
     }
 }
@@ -86,7 +86,7 @@ fn block_out(d: Device, image: &[u8], byte: usize, out: &mut [u8], at: usize)
         ≡ sets (now (out .entry)) at (cut (blockWidths d) (number (now (image .entry)) / 2 ^ (byte * 8))) ⌝ }
 {
     pairs_out(Area::Main, image, byte, out, at, sizes::MAIN_PAIRS);
-    let pairs = d.blocks as usize * sizes::SUBAREA_PAIRS;
+    let pairs = d.blocks as usize * sizes::WIRE_AND_PAIRS;
     pairs_out(
         Area::WireAnd,
         image,
