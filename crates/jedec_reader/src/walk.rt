@@ -10,6 +10,7 @@ ghost use Rattle.jedec.specs.Meaning.{longest, ofCut, meaning};
 ghost use Rattle.jedec_fields.specs.Fields.{fieldsAt};
 ghost use Rattle.jedec_end.specs.End.{TextRead};
 ghost use Rattle.jedec_reader.specs.Walk.{largestImage, ReadInto};
+use jedec::LONGEST_TEXT;
 use jedec::STX;
 use jedec_fields::NextSays;
 use jedec_progress::progress::after_field;
@@ -19,9 +20,7 @@ use part::Refusal;
 use part::geometry::MAIN_IMAGE_BYTES;
 use part::geometry::SUBAREA_IMAGE_BYTES;
 
-// The longest text that is read, as a refusal's value and as a length.
-const LONGEST_TEXT: u32 = 1048576;
-
+// The longest text that is read, as a length.
 const LONGEST_LENGTH: usize = LONGEST_TEXT as usize;
 
 // The bytes of an image of sixteen blocks: no device has more.
