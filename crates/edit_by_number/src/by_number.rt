@@ -118,10 +118,10 @@ pub fn read_numbered(d: Device, layout: Layout, bytes: &[u8], number: SettingNum
     if settings::numbers::count_of(d) <= number.0 {
         return NumberAnswer::Refused(Refusal::NoSuchSetting);
     }
-    // copies are lent to what may be compiled apart: so the pointer and the length of `bytes` stay in registers
+    // Copies are given to what may be compiled apart: so the pointer and the length of `bytes` stay in registers
     if number.0 == settings::numbers::number_of_usercode(d) {
-        let its = bytes;
-        return NumberAnswer::Number(setting_bits::patterns::usercode_at(d, layout, its));
+        let whole = bytes;
+        return NumberAnswer::Number(setting_bits::patterns::usercode_at(d, layout, whole));
     }
     let same = bytes;
     let s = settings::numbers::setting_of(d, number);

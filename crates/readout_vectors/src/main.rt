@@ -3,7 +3,7 @@
 use part::Device;
 use vectors::near;
 
-// The answer of a call, and the digest of the bytes that were lent to it.
+// The answer of a call, and the digest of the bytes that it was given.
 fn conversion(name: &[u8], answer: u64, bytes: &[u8]) {
     vectors::put(name, vectors::digest_of(bytes));
     vectors::put_answer(answer);

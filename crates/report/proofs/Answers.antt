@@ -33,7 +33,7 @@ use Rattle.jedec.proofs.Numbers.{digits-length}
 use Rattle.jedec_lines.proofs.Stored.{stored-first}
 use Rattle.jedec_reader.specs.Reader.{verdict, resultOf, toImageFromText, imageIn}
 use Rattle.report_lines.specs.ReportLines.{wordBlocks, wordFuses, wordZero}
-use Rattle.report.specs.Report.{ofBlocks, fieldsIn, firstCount, blocksBy, blocksFor, outcomeOf}
+use Rattle.report.specs.Report.{most, ofBlocks, fieldsIn, firstCount, blocksBy, blocksFor, outcomeOf}
 use Rattle.report_lines.specs.ReportLines.{wordSum, wordRefused, wordAt, line, countLines, refusalLine}
 use Rattle.report.specs.Report.{linesOf, reportOf, bytesPut, atStart}
 use Rattle.report_lines.specs.Put.{Put}
@@ -84,10 +84,10 @@ module _ (text : List ℕ) (b : ℕ) (e : b ≡ blocksFor text) where
   unfolding known
   device-known = rw e (by-device (λ n. known (ofBlocks n) ≡ true) refl refl text)
 
-  module _ (x : ℕ) (f : x ≡ imageBytes (ofBlocks b)) (made : List ℕ) (l : length made ≡ 5184) where
+  module _ (x : ℕ) (f : x ≡ imageBytes (ofBlocks b)) (made : List ℕ) (l : length made ≡ imageBytes (ofBlocks 4)) where
     pub image-fits : x ≤ length made
     unfolding fuseCount imageBytes
-    image-fits = rw (f, l, e) (by-device (λ n. imageBytes (ofBlocks n) ≤ 5184) (omega arith) (omega arith) text)
+    image-fits = rw (f, l, e) (by-device (λ n. imageBytes (ofBlocks n) ≤ imageBytes (ofBlocks 4)) (omega arith) (omega arith) text)
 
     pub image-part : x ≡ length (take x made)
     image-part = sym (length-take-le x made image-fits)
@@ -96,14 +96,14 @@ module _ (text : List ℕ) (b : ℕ) (e : b ≡ blocksFor text) where
     image-size = sym image-part ∙ f
 
 module _ (text out after : List ℕ) (end : ℕ) where
-  pub too-long : 65536 < length text → Put out after 0 (refusalLine 7 65536) end → Put out after 0 (reportOf text) end
+  pub too-long : most < length text → Put out after 0 (refusalLine 7 most) end → Put out after 0 (reportOf text) end
   unfolding outcomeOf reportOf
-  too-long h p = rw (lt-ltb 65536 (length text) h) p
+  too-long h p = rw (lt-ltb most (length text) h) p
 
-  pub not-too-long : (b : ℕ) → b ≡ blocksFor text → length text ≤ 65536
+  pub not-too-long : (b : ℕ) → b ≡ blocksFor text → length text ≤ most
       → Put out after 0 (linesOf (ofBlocks b) (meaning (fuseCount (ofBlocks b)) text)) end → Put out after 0 (reportOf text) end
   unfolding outcomeOf reportOf
-  not-too-long b e h p = rw (le-ltb 65536 (length text) h) (rw e at p)
+  not-too-long b e h p = rw (le-ltb most (length text) h) (rw e at p)
 
 -- A report is short.
 line-short : (word digits : List ℕ) (n : ℕ) → length digits ≤ n → length (line word digits) ≤ length word + n + 1

@@ -11,16 +11,27 @@ ghost use Rattle.part.specs.Outcome.{Written};
 ghost use Rattle.jedec.specs.Meaning.{meaning};
 ghost use Rattle.jedec_fields.specs.Fields.{fieldsAt};
 ghost use Rattle.report_lines.specs.Put.{Put};
-ghost use Rattle.report.specs.Report.{firstCount, blocksBy, blocksFor, linesOf, reportOf, bytesPut, atStart};
+ghost use Rattle.report.specs.Report.{ofBlocks, firstCount, blocksBy, blocksFor, linesOf};
+ghost use Rattle.report.specs.Report.{reportOf, bytesPut, atStart};
 use jedec_fields::NextSays;
 use jedec_judge::FieldSays;
 use part::Device;
 use part::DoneAnswer;
 use part::NumberAnswer;
 use part::Refusal;
+use part::geometry::MAIN_IMAGE_BYTES;
+use part::geometry::SUBAREA_IMAGE_BYTES;
 use report_lines::lines::put;
 use report_lines::lines::put_counts;
 use report_lines::lines::put_refusal;
+
+// The longest text that the bench program reads, as a refusal's value and as a length.
+const MOST_BYTES: u32 = 65536;
+
+const MOST_LENGTH: usize = MOST_BYTES as usize;
+
+// The bytes of an image of four blocks.
+const IMAGE_OF_FOUR: usize = (4 * (MAIN_IMAGE_BYTES + 4 * SUBAREA_IMAGE_BYTES)) as usize;
 
 // The part whose fuse count tells four blocks from two.
 const FOUR: Device = Device {
@@ -89,11 +100,11 @@ fn put_lines(d: Device, text: &[u8], image: &mut [u8], out: &mut [u8]) -> usize
     }
 }
 
-// Buffer for the image of four blocks.
-fn image_buffer() -> [u8; 5184]
-    ensures { λ r. ⌜ length r ≡ 5184 ⌝ }
+// A buffer for the image of two blocks or of four.
+fn image_buffer() -> [u8; IMAGE_OF_FOUR]
+    ensures { λ r. ⌜ length r ≡ imageBytes (ofBlocks 4) ⌝ }
 {
-    [0u8; 5184]
+    [0u8; IMAGE_OF_FOUR]
 }
 
 // The report of a text. None has more than 64 bytes.
@@ -101,8 +112,8 @@ fn put_report(text: &[u8], out: &mut [u8]) -> usize
     requires { ⌜ 64 ≤ length (now out) ⌝ }
     ensures { λ r. ⌜ Put (now (out .entry)) (now (out .exit)) 0 (reportOf (now (text .entry))) r ⌝ }
 {
-    if 65536 < text.len() {
-        return put_refusal(7, 65536, out);
+    if MOST_LENGTH < text.len() {
+        return put_refusal(7, MOST_BYTES, out);
     }
     let d = Device {
         blocks: blocks_for(text),

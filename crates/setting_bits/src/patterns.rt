@@ -17,6 +17,8 @@ ghost use Rattle.setting_bits.specs.SettingBits.{withPattern, aboveOf};
 use super::Layout;
 use part::Device;
 use part::Place;
+use part::geometry::MAIN_COLUMNS;
+use part::geometry::MAIN_ROW_FUSES;
 use settings::Setting;
 
 // A byte of an image or a readout, and one of its bits.
@@ -89,14 +91,14 @@ fn usercode_location(d: Device, layout: Layout, pair: u32) -> Location
     let column = 7 - pair % 8;
     match layout {
         Layout::Image => {
-            let fuse = row * 108 + column * 8 + 6;
+            let fuse = row * MAIN_ROW_FUSES + column * 8 + 6;
             Location {
                 index: (fuse / 8) as usize,
                 bit: fuse % 8,
             }
         }
         Layout::Readout => Location {
-            index: (row * 15 + column) as usize,
+            index: (row * MAIN_COLUMNS + column) as usize,
             bit: 6,
         },
     }

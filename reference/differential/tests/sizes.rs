@@ -13,7 +13,7 @@ use xc9500_reference::{
 
 /// One of the four sizes, asked for again and again since there are only twelve devices.
 fn agrees(
-    name: &str,
+    name: &'static str,
     seed: u64,
     library: fn(Device) -> Answer<u64>,
     reference: fn(Device) -> Answer<u64>,

@@ -5,6 +5,7 @@ use std::fs;
 use std::io;
 use std::path::Path;
 use std::process::ExitCode;
+use std::thread;
 use xc9500_reference::vectors::PROGRAMS;
 
 /// What is done with a file and what it must hold.
@@ -36,13 +37,29 @@ fn main() -> ExitCode {
             return ExitCode::from(2);
         }
     };
-    let mut status = ExitCode::SUCCESS;
-    for (program, prints) in PROGRAMS {
-        let file = Path::new(folder).join(program).join("stdout");
-        if let Err(error) = act(&file, prints().as_bytes()) {
-            eprintln!("{}: {error}", file.display());
-            status = ExitCode::FAILURE;
-        }
+    // The programs have nothing in common, so each is worked out by a thread of its own.
+    let failed = thread::scope(|scope| {
+        let threads: Vec<_> = PROGRAMS
+            .iter()
+            .map(|(program, prints)| {
+                let file = Path::new(folder).join(program).join("stdout");
+                scope.spawn(move || {
+                    act(&file, prints().as_bytes())
+                        .map_err(|error| eprintln!("{}: {error}", file.display()))
+                        .is_err()
+                })
+            })
+            .collect();
+        // Every thread is waited for, also after one has failed.
+        let failed: Vec<bool> = threads
+            .into_iter()
+            .map(|thread| thread.join().unwrap_or(true))
+            .collect();
+        failed.contains(&true)
+    });
+    if failed {
+        ExitCode::FAILURE
+    } else {
+        ExitCode::SUCCESS
     }
-    status
 }
