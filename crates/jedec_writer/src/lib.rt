@@ -8,7 +8,7 @@ use part::Device;
 use part::NumberAnswer;
 use part::Refusal;
 
-pub mod text;
+mod text;
 
 // The text of an image, put at the start of `text`: how many bytes it has. Refused: 1, 2, 12.
 pub fn image_to_text(d: Device, image: &[u8], text: &mut [u8]) -> NumberAnswer
