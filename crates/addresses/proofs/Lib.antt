@@ -4,4 +4,3 @@ pub mod ByteAddresses
 pub mod Conversions
 pub mod Readouts
 pub mod Laws
-mod Positions
