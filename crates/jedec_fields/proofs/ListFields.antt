@@ -154,7 +154,7 @@ module _ (after : List ℕ) (d : LeadingDigits) (s : DigitsStand after d) where
             }
 
         pub a-good-list : getD after (d .length + 1 + run .length) 0 ≡ 42 → (run .count ≡ 0 → ⊥)
-            → ListAt after (d .value) (d .length + 1) (run .count) (d .length + 1 + run .length)
+            → ListAt after (d .value) (d .length + 1) (run .count) (run .bits) (d .length + 1 + run .length)
         unfolding untilStar holdsMark statesOf
         a-good-list star n =
             let field-long : length (take long after) ≡ long = length-take-le long after run-inside in
@@ -183,6 +183,7 @@ module _ (after : List ℕ) (d : LeadingDigits) (s : DigitsStand after d) where
                           many = rw rest (counted-states .1);
                           few = omega (arith, runs .few);
                           any = omega arith;
+                          told = λ l. rw rest (runs .told l);
                         };
                   };
             }

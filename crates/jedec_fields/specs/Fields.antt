@@ -12,7 +12,7 @@ use Rattle.jedec.specs.Characters.{star}
 use Rattle.jedec.specs.Cut.{pieces, Cut, fieldsFrom, holdsMark}
 use Rattle.jedec.specs.Judge.{statesIn, listIn, judge}
 use Rattle.jedec.specs.Judge.Judged.{bad}
-use Rattle.jedec_judge.specs.Judged.{Says}
+use Rattle.jedec_judge.specs.Judged.{statesOf, fewStates, AsBits, Says}
 use Rattle.jedec_judge.specs.declared.FieldSays.the-variants as says
 use Rattle.jedec_fields.specs.declared.lists.StatesRun.{StatesRun}
 use Rattle.jedec_fields.specs.declared.lists.ListField.{ListField}
@@ -25,13 +25,14 @@ abbrev pub statesCount : Option (List ℕ) → Option ℕ
 statesCount none = none
 statesCount (some states) = some (length states)
 
--- The first bytes that are 0, 1 and blanks write so many states; with the byte after them, if there is one, they write
--- none.
+-- The first bytes that are 0, 1 and blanks write so many states, and few are told as bits; with the byte after them, if
+-- there is one, they write none.
 pub record RunStands (bytes : List ℕ) (r : StatesRun) : Type 0 where
   pub inside : r .length ≤ length bytes
   pub few : r .count ≤ r .length
   pub writes : statesCount (statesIn (take (r .length) bytes)) ≡ some (r .count)
   pub stops : r .length < length bytes → statesIn (take (suc (r .length)) bytes) ≡ none
+  pub told : r .count ≤ fewStates → AsBits (statesOf (take (r .length) bytes)) (r .count) (r .bits)
 
 -- How many bytes stand before the first `*`, or all.
 unfoldable pub untilStar : List ℕ → ℕ
@@ -43,11 +44,11 @@ unfoldable pub fieldsAt : (at : ℕ) → List ℕ → Cut
 fieldsAt at bytes = fieldsFrom at (pieces bytes .ended) (pieces bytes .rest)
 
 -- A good L field, by what follows the L.
-pub record ListAt (after : List ℕ) (first skip number long : ℕ) : Type 0 where
+pub record ListAt (after : List ℕ) (first skip number bits long : ℕ) : Type 0 where
   pub inside : long < length after
   pub until : untilStar after ≡ long
   pub unmarked : holdsMark (take long after) ≡ false
-  pub says : Says (take long after) (listIn (take long after)) (says.List first skip number)
+  pub says : Says (take long after) (listIn (take long after)) (says.List first skip number bits)
 
 -- Any other: what stands before the `*`, if there is one, is bad.
 pub record NoList (after : List ℕ) : Type 0 where
@@ -55,7 +56,7 @@ pub record NoList (after : List ℕ) : Type 0 where
 
 -- What an answer about an L field says.
 abbrev pub ListStands : (after : List ℕ) → ListField → Type 0
-ListStands after (list-field.Good first skip number long) = ListAt after first skip number long
+ListStands after (list-field.Good first skip number bits long) = ListAt after first skip number bits long
 ListStands after list-field.Other = NoList after
 
 -- The fields of a text from an offset on, by what stands next.

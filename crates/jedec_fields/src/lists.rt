@@ -1,33 +1,39 @@
 // L fields by what follows the L: digits, a blank, states and blanks.
 // Each byte of a good one is looked at once.
 ghost use Rattle.jedec_fields.specs.Fields.{RunStands, ListStands};
+use jedec_judge::FEW_STATES;
 use jedec_judge::digits::leading_digits;
+use jedec_runs::states::bits_at;
 use jedec_runs::states::blank_at;
 use jedec_runs::states::states_at;
 
-// Bytes from the first on that are 0, 1 and blanks, and how many states they write.
+// Bytes from the first on that are 0, 1 and blanks, how many states they write, and these states if they are few.
 pub struct StatesRun {
     pub length: usize,
     pub count: usize,
+    pub bits: u64,
 }
 
 // An L field by what follows the L: its first fuse, how many bytes stand before the states, how many states there are,
-// and how many bytes stand before its `*`.
+// the states if they are few, and how many bytes stand before its `*`.
 pub enum ListField {
     Good {
         first: u32,
         skip: usize,
         count: usize,
+        bits: u64,
         length: usize,
     },
     Other,
 }
 
-// How many of the first bytes are 0, 1 and blanks, and how many states they write.
+// How many of the first bytes are 0, 1 and blanks, and how many states they write. The first states are kept, so that
+// an L field of a few states is not read a second time.
 fn states_run(bytes: &[u8]) -> StatesRun
     ensures { λ r. ⌜ RunStands (now (bytes .entry)) r ⌝ }
 {
     let mut n: usize = 0;
+    let mut bits: u64 = 0;
     let mut i: usize = 0;
     while i < bytes.len() {
         let count = states_at(bytes, i);
@@ -36,14 +42,21 @@ fn states_run(bytes: &[u8]) -> StatesRun
             return StatesRun {
                 length: i,
                 count: n,
+                bits,
             };
         }
+        let from = n;
+        let at = i;
         n += count;
         i += taken;
+        if from <= FEW_STATES {
+            bits += bits_at(bytes, at, count) << from;
+        }
     }
     StatesRun {
         length: i,
         count: n,
+        bits,
     }
 }
 
@@ -74,6 +87,7 @@ pub fn list_field(bytes: &[u8]) -> ListField
         first: digits.value,
         skip,
         count: run.count,
+        bits: run.bits,
         length,
     }
 }

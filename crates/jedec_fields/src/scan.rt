@@ -64,13 +64,19 @@ pub fn next_judged(text: &[u8], at: usize) -> NextSays
             first,
             skip,
             count,
+            bits,
             length,
         } = list {
             let star = after + length;
             return NextSays::Field {
                 start,
                 star,
-                says: FieldSays::List { first, skip, count },
+                says: FieldSays::List {
+                    first,
+                    skip,
+                    count,
+                    bits,
+                },
             };
         }
     }

@@ -25,8 +25,9 @@ pub put-length : (fuses : ℕ) (rest : List ℕ) (s : FieldSays) (m : OptionalNu
     → length (putField fuses rest s m image) ≡ length image
 put-length fuses rest (says.Count n) m image e = refl
 put-length fuses rest (says.Start x) m image e = image-length fuses (stateGiven x []) ∙ sym e
-put-length fuses rest (says.List first skip number) optional-number.None image e = put-states-length (statesOf (drop skip rest)) image first
-put-length fuses rest (says.List first skip number) (optional-number.Some x) image e = refl
+put-length fuses rest (says.List first skip number bits) optional-number.None image e =
+    put-states-length (statesOf (drop skip rest)) image first
+put-length fuses rest (says.List first skip number bits) (optional-number.Some x) image e = refl
 put-length fuses rest (says.Sum x) m image e = refl
 put-length fuses rest says.Skipped m image e = refl
 put-length fuses rest says.Bad m image e = refl

@@ -3,6 +3,7 @@
 pub mod WrittenStates
 pub mod Pending
 pub mod StatesPut
+pub mod BitsPut
 pub mod Images
 pub mod ListedImages
 pub mod Lengths

@@ -5,7 +5,7 @@ use mathlib.Core.List.{List, _++_, append-assoc}
 use Prim.Native.Nat.{ℕ, zero, suc, _+_, _*_, _-_, _/_, _%_, _^_, _≤_, _<_}
 use native.Mathlib.Omega.{arith}
 use native.Mathlib.Nat.{add-mul, mul-assoc, mul-comm, pow-suc, add-comm, add-zero, div-one, mul-one, zero-mul, div-eq-of-lt, zero-add}
-use native.Mathlib.Nat.{mod-lt}
+use native.Mathlib.Nat.{mod-lt, mod-eq-of-lt}
 use native.Mathlib.Numerals.{add-one}
 use lib.Arith.{digits-div, digits-mod, digits-lt}
 use lib.ListN.{length, getD, set, replicate, length-set, replicate-append-replicate}
@@ -13,6 +13,7 @@ use lib.Pow.{pow-pos, pow-add, split, high, low, shr-shr, shr-lt}
 use lib.Seq.{set-getD, set-set, getD-set-same}
 use Rattle.cells.specs.Cells.{cut, total}
 use Rattle.cells.proofs.Laws.{cut-append, cut-low, total-replicate}
+use Rattle.jedec_runs.proofs.BitsJoined.{bits-under}
 use Rattle.image.specs.Bits.{putBit, withBit}
 use Rattle.image.specs.Image.{withFuse}
 use Rattle.jedec_image.specs.States.{withStates}
@@ -60,9 +61,25 @@ module _ (image : List ℕ) (index bit l s : ℕ) (inside : index < length image
       rw (p, add-comm l (s * 2 ^ bit)) (digits-lt h under)
 
 -- A byte whose eight bits are all new is stored whole.
-put-stored : (image : List ℕ) (index l : ℕ) → getD image index 0 < 2 ^ 8 → pending image index 8 l ≡ set image index l
+pub put-stored : (image : List ℕ) (index l : ℕ) → getD image index 0 < 2 ^ 8 → pending image index 8 l ≡ set image index l
 unfolding pending
 put-stored image index l h = ap (set image index) (rw (div-eq-of-lt h) (zero-add l))
+
+-- A byte with new low bits is a byte.
+module _ (old bit l : ℕ) (part : bit < 8) (under : l < 2 ^ bit) (octet : old < 2 ^ 8) where
+  last-whole : old / 2 ^ bit * 2 ^ bit + l < 2 ^ 8
+  last-whole =
+      let e : 8 ≡ 8 - bit + bit = omega arith in
+      let above : old < 2 ^ (8 - bit + bit) = rw (← e) octet in
+      let all : old / 2 ^ bit * 2 ^ bit + l < 2 ^ (8 - bit) * 2 ^ bit = digits-lt (shr-lt (8 - bit) bit above) under in
+      let p : 2 ^ (8 - bit) * 2 ^ bit ≡ 2 ^ 8 = sym (ap (λ (k : ℕ). 2 ^ k) e ∙ pow-add 2 (8 - bit) bit) in
+      omega arith
+
+  pub last-exact : old / 2 ^ bit * 2 ^ bit % 2 ^ 64 ≡ old / 2 ^ bit * 2 ^ bit
+  last-exact = mod-eq-of-lt (omega (arith, last-whole))
+
+  pub last-fits : old / 2 ^ bit * 2 ^ bit % 2 ^ 64 + l < 2 ^ 8
+  last-fits = rw last-exact last-whole
 
 -- Several states more that stay in the byte are as many new low bits more.
 more-low : (low x bit : ℕ) → low + x % 2 ^ 1 * 2 ^ bit + x / 2 ^ 1 * 2 ^ (bit + 1) ≡ low + x * 2 ^ bit
@@ -107,9 +124,6 @@ put-few (suc k) image index bit l x rest h fits under small =
     ∙ same-put image index (bit + 1 + k) (bit + suc k) _ (l + x * 2 ^ bit) (index * 8 + (bit + 1) + k) (index * 8 + bit + suc k) rest
     (omega arith) (more-low l x bit) (omega arith)
 
-pub group-under : (l x bit k : ℕ) → l < 2 ^ bit → x < 2 ^ k → l + x * 2 ^ bit < 2 ^ (bit + k)
-group-under l x bit k h g = rw (add-comm l (x * 2 ^ bit), pow-add 2 bit k, mul-comm (2 ^ bit) (2 ^ k)) (digits-lt g h)
-
 -- Of states that run over, some fill the byte and the others stand in the next.
 module _ (image : List ℕ) (index bit l x k : ℕ) (rest : List ℕ) (eight : bit < 8) (few : k ≤ 8) (full : 8 ≤ bit + k)
     (fits : index * 8 + bit + k ≤ length image * 8) (under : l < 2 ^ bit) (small : x < 2 ^ k) (octet : getD image index 0 < 2 ^ 8) where
@@ -129,7 +143,7 @@ module _ (image : List ℕ) (index bit l x k : ℕ) (rest : List ℕ) (eight : b
   stored-small : stored < 2 ^ 8
   unfolding stored
   stored-small =
-      subst (λ (n : ℕ). l + x % 2 ^ into * 2 ^ bit < 2 ^ n) in-byte (group-under l (x % 2 ^ into) bit into under (mod-lt x (pow-pos into)))
+      subst (λ (n : ℕ). l + x % 2 ^ into * 2 ^ bit < 2 ^ n) in-byte (bits-under bit into l (x % 2 ^ into) under (mod-lt x (pow-pos into)))
 
   in-two : l + x * 2 ^ bit ≡ x / 2 ^ into * 2 ^ 8 + stored
   unfolding stored

@@ -5,10 +5,9 @@ use mathlib.Core.List.{List, [], _∷_, _++_}
 use mathlib.Core.Option.Option.{none, some}
 use Prim.Native.Nat.{ℕ, zero, suc, _+_, _*_, _-_, _/_, _%_, _^_, _≤_, _<_}
 use native.Mathlib.Omega.{arith}
-use native.Mathlib.Nat.{mod-lt, mod-eq-of-lt, div-add-mod', mul-one}
+use native.Mathlib.Nat.{mod-lt, div-add-mod', mul-one}
 use lib.ListN.{length, getD, set, drop, replicate, length-set, length-append, length-replicate, drop-of-length-le}
-use lib.Arith.{digits-lt}
-use lib.Pow.{pow-pos, pow-add, pow-mono, shl-exact, shr-lt}
+use lib.Pow.{pow-pos, pow-mono, shl-exact, shr-lt}
 use mir.Syntax.{w8}
 use mir.Val.{Fits}
 use Rattle.cells.specs.Cells.{cut, join}
@@ -16,11 +15,12 @@ use Rattle.cells.proofs.Laws.{cut-length, join-small, total-replicate}
 use Rattle.jedec_runs.specs.Runs.{IsBlankAt, StatesAt}
 use Rattle.jedec_runs.proofs.StatesTaken.{StatesTaken, taken-at}
 use Rattle.jedec_runs.proofs.StatesWritten.{none-first}
+use Rattle.jedec_runs.proofs.BitsJoined.{bits-under}
 use Rattle.jedec_judge.specs.Judged.{statesOf}
 use Rattle.jedec_image.specs.States.{withStates}
 use Rattle.jedec_image.proofs.WrittenStates.{WritesStates, rest-written, none-written}
-use Rattle.jedec_image.proofs.Pending.{pending, pending-none, pending-own, group-under}
-use Rattle.jedec_image.proofs.Pending.{put-few, put-over}
+use Rattle.jedec_image.proofs.Pending.{pending, pending-none, pending-own}
+use Rattle.jedec_image.proofs.Pending.{last-exact, last-fits, put-few, put-over}
 
 -- What is stored, with the new low bits of one byte, and the states still to come.
 pub record Puts (bytes image₀ : List ℕ) (fuse : ℕ) (image : List ℕ) (index bit low i : ℕ) : Type 0 where
@@ -53,7 +53,7 @@ starts bytes image fuse low w l e o =
 pub byte-wide : (image : List ℕ) (k : ℕ) → ((j : ℕ) → Fits w8 (getD image j 0)) → getD image k 0 < 2 ^ 64
 byte-wide image k o = omega (arith, o k .fits)
 
-set-octets : (image : List ℕ) (index x : ℕ) → ((k : ℕ) → Fits w8 (getD image k 0)) → x < 2 ^ 8 → (k : ℕ)
+pub set-octets : (image : List ℕ) (index x : ℕ) → ((k : ℕ) → Fits w8 (getD image k 0)) → x < 2 ^ 8 → (k : ℕ)
     → Fits w8 (getD (set image index x) k 0)
 set-octets [] index x o h k = o k
 set-octets (a ∷ image) zero x o h zero = record { fits = h }
@@ -81,7 +81,7 @@ module _ (bytes image₀ : List ℕ) (fuse : ℕ) (image : List ℕ) (index bit 
     exact = shl-exact count bit 64 bits-small (omega (arith, r .small, there .few))
 
     next-under : low + bits * 2 ^ bit % 2 ^ 64 < 2 ^ (bit + count)
-    next-under = rw exact (group-under low bits bit count (r .under) bits-small)
+    next-under = rw exact (bits-under bit count low bits (r .under) bits-small)
 
     pub no-overflow : low + bits * 2 ^ bit % 2 ^ 64 < 2 ^ 64
     no-overflow = let m : bit + count ≤ 64 = omega (arith, r .small, there .few) in omega (arith, next-under, pow-mono m)
@@ -168,28 +168,15 @@ module _ (bytes image₀ : List ℕ) (fuse : ℕ) (image : List ℕ) (index bit 
     pub there-yet : 0 < bit → index < length image
     there-yet m = omega (arith, r .fits)
 
-    -- The last byte, with its new low bits, is a byte.
-    last-whole : getD image index 0 / 2 ^ bit * 2 ^ bit + low < 2 ^ 8
-    last-whole =
-        let e : 8 ≡ 8 - bit + bit = omega (arith, r .small) in
-        let above : getD image index 0 < 2 ^ (8 - bit + bit) = rw (← e) (r .octets index .fits) in
-        let all : getD image index 0 / 2 ^ bit * 2 ^ bit + low < 2 ^ (8 - bit) * 2 ^ bit =
-        digits-lt (shr-lt (8 - bit) bit above) (r .under) in
-        let p : 2 ^ (8 - bit) * 2 ^ bit ≡ 2 ^ 8 = sym (ap (λ (k : ℕ). 2 ^ k) e ∙ pow-add 2 (8 - bit) bit) in
-        omega arith
-
-    last-exact : getD image index 0 / 2 ^ bit * 2 ^ bit % 2 ^ 64 ≡ getD image index 0 / 2 ^ bit * 2 ^ bit
-    last-exact = mod-eq-of-lt (omega (arith, last-whole))
-
     pub last-byte : getD image index 0 / 2 ^ bit * 2 ^ bit % 2 ^ 64 + low < 2 ^ 8
-    last-byte = rw last-exact last-whole
+    last-byte = last-fits (getD image index 0) bit low (r .small) (r .under) (r .octets index .fits)
 
     pub last-space : getD image index 0 / 2 ^ bit * 2 ^ bit % 2 ^ 64 + low < 2 ^ 64
     last-space = omega (arith, last-byte)
 
     pub last-stored : set image index (getD image index 0 / 2 ^ bit * 2 ^ bit % 2 ^ 64 + low) ≡ withStates image₀ fuse (statesOf bytes)
     unfolding pending
-    last-stored = rw last-exact done
+    last-stored = rw (last-exact (getD image index 0) bit low (r .small) (r .under) (r .octets index .fits)) done
 
     pub all-stored : bit ≤ 0 → image ≡ withStates image₀ fuse (statesOf bytes)
     all-stored m =

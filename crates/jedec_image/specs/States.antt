@@ -25,21 +25,21 @@ putList after first skip (optional-number.Some x) image = image
 abbrev pub putField : (fuses : ℕ) → (after : List ℕ) → FieldSays → OptionalNumber → List ℕ → List ℕ
 putField fuses after (says.Count n) m image = image
 putField fuses after (says.Start s) m image = imageWith fuses (stateGiven s [])
-putField fuses after (says.List first skip number) m image = putList after first skip m image
+putField fuses after (says.List first skip number bits) m image = putList after first skip m image
 putField fuses after (says.Sum x) m image = image
 putField fuses after says.Skipped m image = image
 putField fuses after says.Bad m image = image
 
 -- The states of an L field are there, and the fuses from its first on are below the count.
-pub record ListGoesIn (fuses : ℕ) (after : List ℕ) (first skip number : ℕ) : Type 0 where
-  pub list : ListFits after skip number
+pub record ListGoesIn (fuses : ℕ) (after : List ℕ) (first skip number bits : ℕ) : Type 0 where
+  pub list : ListFits after skip number bits
   pub fits : first + number ≤ fuses
 
 abbrev pub PutFits : (fuses : ℕ) → (after : List ℕ) → FieldSays → OptionalNumber → Type 0
 PutFits fuses after (says.Count n) m = Unit {0}
 PutFits fuses after (says.Start s) m = s < 2
-PutFits fuses after (says.List first skip number) m =
-    m ≡ optional-number.None → ListGoesIn fuses after first skip number
+PutFits fuses after (says.List first skip number bits) m =
+    m ≡ optional-number.None → ListGoesIn fuses after first skip number bits
 PutFits fuses after (says.Sum x) m = Unit {0}
 PutFits fuses after says.Skipped m = Unit {0}
 PutFits fuses after says.Bad m = Unit {0}

@@ -4,12 +4,14 @@ ghost use mathlib.Core.Path.{_≡_};
 ghost use mathlib.Core.List.{[]};
 ghost use mathlib.Core.Option.Option.{some};
 ghost use Prim.Native.Nat.{_+_, _*_, _-_, _/_, _^_, _<_, _≤_};
-ghost use lib.ListN.{length, drop};
+ghost use lib.ListN.{length, drop, replicate};
+ghost use Rattle.cells.specs.Cells.{cut};
 ghost use Rattle.jedec.specs.Judge.{statesIn};
 ghost use Rattle.jedec.specs.Rules.{stateGiven, imageWith};
-ghost use Rattle.jedec_judge.specs.Judged.{statesOf};
+ghost use Rattle.jedec_judge.specs.Judged.{statesOf, fewStates};
 ghost use Rattle.jedec_image.specs.States.{withStates, putField, PutFits};
 use cells::words::low_bits;
+use jedec_judge::FEW_STATES;
 use jedec_judge::FieldSays;
 use jedec_progress::progress::OptionalNumber;
 use jedec_runs::states::bits_at;
@@ -70,6 +72,29 @@ fn put_states(bytes: &[u8], image: &mut [u8], fuse: usize)
     }
 }
 
+// A few states, told as bits, put in place from a fuse on. The low bits of the first byte stay, and so do the high bits
+// of the last.
+fn put_bits(bits: u64, count: u32, image: &mut [u8], fuse: usize)
+    requires { ⌜ (count ≤ fewStates) × (0 < count) × (bits < 2 ^ count)
+        × (fuse + count ≤ length (now image) * 8) ⌝ }
+    ensures { λ _. ⌜ now (image .exit) ≡ withStates (now (image .entry)) fuse (cut (replicate count 1) bits) ⌝ }
+{
+    let mut index = fuse / 8;
+    let bit: u32 = (fuse % 8) as u32;
+    let mut rest = low_bits(image[index] as u64, bit) + (bits << bit);
+    let mut left = bit + count;
+    while 8 <= left {
+        image[index] = low_bits(rest, 8) as u8;
+        rest = rest >> 8;
+        index += 1;
+        left -= 8;
+    }
+    if 0 < left {
+        let above = image[index] as u64 >> left;
+        image[index] = ((above << left) + rest) as u8;
+    }
+}
+
 // What a field puts into the image: a start state, or states unless an L is misplaced.
 pub fn put_field(
     fuses: u32,
@@ -87,9 +112,14 @@ pub fn put_field(
         FieldSays::List {
             first,
             skip,
-            count: _,
+            count,
+            bits,
         } => match misplaced {
             OptionalNumber::None => {
+                if count <= FEW_STATES {
+                    put_bits(bits, count as u32, image, first as usize);
+                    return;
+                }
                 let from = skip + 1;
                 put_states(&field[from..], image, first as usize);
             }

@@ -1,12 +1,13 @@
 -- What the answers about numbers and judged fields say, in the terms of crate `jedec`.
 -- A field is judged without a list of its states: they are read off its bytes.
-use Prim.Native.Nat.{ℕ, _≤_, _<_}
+use Prim.Native.Nat.{ℕ, _^_, _≤_, _<_}
 use mathlib.Core.Path.{_≡_}
 use mathlib.Core.Bool.{true}
 use mathlib.Core.List.{List, []}
 use mathlib.Core.Option.{Option}
 use mathlib.Core.Option.Option.{none, some}
-use lib.ListN.{length, getD, take, drop}
+use lib.ListN.{length, getD, take, drop, replicate}
+use Rattle.cells.specs.Cells.{cut}
 use Rattle.jedec.specs.Characters.{letterL, decimalValue, digitsRead}
 use Rattle.jedec.specs.Cut.{startsWith}
 use Rattle.jedec.specs.Judge.{Judged, statesIn, listIn}
@@ -46,24 +47,33 @@ statesOf bytes = orEmpty (statesIn bytes)
 abbrev pub judgedAfter : (after : List ℕ) → FieldSays → Judged
 judgedAfter after (says.Count n) = count n
 judgedAfter after (says.Start s) = start s
-judgedAfter after (says.List first skip many) = list first (statesOf (drop skip after))
+judgedAfter after (says.List first skip many bits) = list first (statesOf (drop skip after))
 judgedAfter after (says.Sum x) = sum x
 judgedAfter after says.Skipped = skipped
 judgedAfter after says.Bad = bad
 
--- The states that an answer speaks of are there, and there are so many.
-pub record ListFits (after : List ℕ) (skip number : ℕ) : Type 0 where
+-- So many states, and no more, are told as bits: the first as the lowest.
+abbrev pub fewStates : ℕ
+fewStates = 56
+
+pub record AsBits (states : List ℕ) (number bits : ℕ) : Type 0 where
+  pub small : bits < 2 ^ number
+  pub are : states ≡ cut (replicate number 1) bits
+
+-- The states that an answer speaks of are there, and there are so many; few are told as bits.
+pub record ListFits (after : List ℕ) (skip number bits : ℕ) : Type 0 where
   pub inside : skip ≤ length after
   pub found : statesIn (drop skip after) ≡ some (statesOf (drop skip after))
   pub many : length (statesOf (drop skip after)) ≡ number
   pub few : number ≤ length after
   pub any : 0 < number
+  pub told : number ≤ fewStates → AsBits (statesOf (drop skip after)) number bits
 
 -- What an answer speaks of is there: a start state is 0 or 1, and states stand in the field.
 abbrev pub SaysFits : (after : List ℕ) → FieldSays → Type 0
 SaysFits after (says.Count n) = Unit {0}
 SaysFits after (says.Start s) = s < 2
-SaysFits after (says.List first skip many) = ListFits after skip many
+SaysFits after (says.List first skip many bits) = ListFits after skip many bits
 SaysFits after (says.Sum x) = Unit {0}
 SaysFits after says.Skipped = Unit {0}
 SaysFits after says.Bad = Unit {0}

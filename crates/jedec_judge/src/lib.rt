@@ -9,8 +9,12 @@ use jedec::STX;
 pub mod digits;
 pub mod letters;
 
-// What a field says. Of an L field these are the first fuse, how many bytes after the L stand before the states, and
-// how many states there are.
+// So many states of an L field, and no more, are told as bits: below them there is room in a word for the low bits of
+// the byte that the first one goes into.
+pub const FEW_STATES: usize = 56;
+
+// What a field says. Of an L field these are the first fuse, how many bytes after the L stand before the states, how
+// many states there are, and the states themselves, the first as the lowest bit, if they are at most `FEW_STATES`.
 pub enum FieldSays {
     Count(u32),
     Start(u32),
@@ -18,6 +22,7 @@ pub enum FieldSays {
         first: u32,
         skip: usize,
         count: usize,
+        bits: u64,
     },
     Sum(u32),
     Skipped,

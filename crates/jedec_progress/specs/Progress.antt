@@ -42,7 +42,7 @@ noProgress = record {
 abbrev pub mayStand : Progress → FieldSays → Bool
 mayStand p (says.Count n) = not (has (optionalField (p .count)))
 mayStand p (says.Start s) = has (optionalField (p .count)) && not (has (optionalNumber (p .start))) && not (p .listed)
-mayStand p (says.List first skip number) = has (optionalField (p .count)) && not (has (optionalField (p .sum)))
+mayStand p (says.List first skip number bits) = has (optionalField (p .count)) && not (has (optionalField (p .sum)))
 mayStand p (says.Sum x) = has (optionalField (p .count)) && not (has (optionalField (p .sum)))
 mayStand p says.Skipped = true
 mayStand p says.Bad = false
@@ -98,7 +98,7 @@ withSum p at x = record {
 abbrev pub afterField : (fuses : ℕ) → Progress → (at : ℕ) → FieldSays → Progress
 afterField fuses p at (says.Count n) = withCount p at n
 afterField fuses p at (says.Start s) = withStart p s
-afterField fuses p at (says.List first skip number) = withList fuses p at first number
+afterField fuses p at (says.List first skip number bits) = withList fuses p at first number
 afterField fuses p at (says.Sum x) = withSum p at x
 afterField fuses p at says.Skipped = p
 afterField fuses p at says.Bad = p
@@ -107,7 +107,7 @@ afterField fuses p at says.Bad = p
 abbrev pub FewStates : FieldSays → Type 0
 FewStates (says.Count n) = Unit {0}
 FewStates (says.Start s) = Unit {0}
-FewStates (says.List first skip number) = number ≤ longest
+FewStates (says.List first skip number bits) = number ≤ longest
 FewStates (says.Sum x) = Unit {0}
 FewStates says.Skipped = Unit {0}
 FewStates says.Bad = Unit {0}

@@ -29,7 +29,7 @@ pub in-order : (fuses : ℕ) (p : Progress) (k : Given) (image rest : List ℕ) 
     → mayStand p s ≡ inOrder k (judgedAfter rest s)
 in-order fuses p k image rest (says.Count n) g = rw (g .count)
 in-order fuses p k image rest (says.Start x) g = rw (g .count, g .start, g .listed)
-in-order fuses p k image rest (says.List first skip number) g = rw (g .count, g .sum)
+in-order fuses p k image rest (says.List first skip number bits) g = rw (g .count, g .sum)
 in-order fuses p k image rest (says.Sum x) g = rw (g .count, g .sum)
 in-order fuses p k image rest says.Skipped g = refl
 in-order fuses p k image rest says.Bad g = refl
@@ -47,7 +47,7 @@ pub put-fits : (fuses : ℕ) (p : Progress) (at : ℕ) (rest : List ℕ) (s : Fi
     → PutFits fuses rest s (afterField fuses p at s .misplaced)
 put-fits fuses p at rest (says.Count n) f = tt
 put-fits fuses p at rest (says.Start x) f = f
-put-fits fuses p at rest (says.List first skip number) f =
+put-fits fuses p at rest (says.List first skip number bits) f =
     λ m. record { list = f; fits = list-space fuses (p .end) at first number (p .misplaced) m }
 put-fits fuses p at rest (says.Sum x) f = tt
 put-fits fuses p at rest says.Skipped f = tt
@@ -107,8 +107,8 @@ module _ (fuses : ℕ) (p : Progress) (k : Given) (image rest : List ℕ) (at : 
         holds = λ m. rw empty;
       }
 
-  list-after : (first skip number : ℕ) → ListFits rest skip number → After (says.List first skip number)
-  list-after first skip number f =
+  list-after : (first skip number bits : ℕ) → ListFits rest skip number bits → After (says.List first skip number bits)
+  list-after first skip number bits f =
       let l : Listed = record { at = at; first = first; states = statesOf (drop skip rest) } in
       let faulty : optionalNumber (misplacedAfter fuses (p .misplaced) (p .end) at first number)
       ≡ misplaced fuses 0 (k .lists ++ (l ∷ [])) =
@@ -143,7 +143,7 @@ module _ (fuses : ℕ) (p : Progress) (k : Given) (image rest : List ℕ) (at : 
         holds = g .holds;
       }
   given-after (says.Start x) f e = start-after x f e
-  given-after (says.List first skip number) f e = list-after first skip number f
+  given-after (says.List first skip number bits) f e = list-after first skip number bits f
   given-after (says.Sum x) f e =
       record {
         count = g .count;

@@ -137,7 +137,7 @@ module _ (fuses : ℕ) (text : List ℕ) (from : ℕ) (image₀ image : List ℕ
           few : (x : FieldSays) → SaysFits (drop 1 (take (star - start) (drop start text))) x → FewStates x
           few (says.Count n) f = tt
           few (says.Start x) f = tt
-          few (says.List first skip number) f = omega (
+          few (says.List first skip number bits) f = omega (
             arith,
             f .few,
             length-drop 1 (take (star - start) (drop start text)),

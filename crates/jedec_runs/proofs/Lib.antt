@@ -4,3 +4,4 @@ pub mod Words
 pub mod LowestBits
 pub mod StatesWritten
 pub mod StatesTaken
+pub mod BitsJoined

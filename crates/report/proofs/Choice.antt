@@ -42,7 +42,7 @@ reads-other count x e f = sym (rw (ne-eqb count (fuseCount (ofBlocks 4)) (λ g. 
 no-qf : (after : List ℕ) (fs : FieldSays) → OneOf (1 ∷ 2 ∷ 3 ∷ 4 ∷ 5 ∷ []) (tagOf the-type fs) → fuseCountIn (judgedAfter after fs) ≡ none
 no-qf after (says.Count n) h = absurd (miss (1 ∷ 2 ∷ 3 ∷ 4 ∷ 5 ∷ []) 0 tt h)
 no-qf after (says.Start s) h = refl
-no-qf after (says.List first skip many) h = refl
+no-qf after (says.List first skip many bits) h = refl
 no-qf after (says.Sum x) h = refl
 no-qf after says.Skipped h = refl
 no-qf after says.Bad h = refl

@@ -33,21 +33,21 @@ module _ (text : List ℕ) (start : ℕ) (l : start ≤ length text) (n : start 
   stands : ListStands (drop (suc start) text) o
   stands = rw (rest-whole (start + 1) text, add-one start) at g
 
-  module _ (fuse skip number long : ℕ) (w : o ≡ list-field.Good fuse skip number long) where
-    found : ListAt (drop (suc start) text) fuse skip number long
+  module _ (fuse skip number bits long : ℕ) (w : o ≡ list-field.Good fuse skip number bits long) where
+    found : ListAt (drop (suc start) text) fuse skip number bits long
     found = rw w at stands
 
     star-small : length text < 2 ^ 64 → start + 1 + long < 2 ^ 64
     star-small h = omega (arith, found .inside, length-drop (suc start) text)
 
     good-list : (at : ℕ) → start ≡ at + blanksBefore (drop at text) → (getD text start 0 ≡ 3 → ⊥)
-        → Stands text at (Field start (start + 1 + long) (says.List fuse skip number))
+        → Stands text at (Field start (start + 1 + long) (says.List fuse skip number bits))
     unfolding judge holdsMark untilStar
     good-list at e m =
         let inside : start + 1 + long < length text = omega (arith, found .inside, length-drop (suc start) text) in
         let size : start + 1 + long - start ≡ suc long = omega arith in
         let until : start + 1 + long ≡ start + untilStar (drop start text) = rw (first-there, found .until) (omega arith) in
-        a-field text at start e l n m (start + 1 + long) until (omega arith) (λ h. absurd (omega arith)) (says.List fuse skip number)
+        a-field text at start e l n m (start + 1 + long) until (omega arith) (λ h. absurd (omega arith)) (says.List fuse skip number bits)
         (rw (size, first-there, found .unmarked) (found .says))
 
   bad-list : (star : ℕ) → star ≡ start + untilStar (drop start text) → star ≤ length text → (star ≡ length text → ⊥) → o ≡ list-field.Other

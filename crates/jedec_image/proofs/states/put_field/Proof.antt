@@ -5,11 +5,12 @@ use mathlib.Core.List.{List, []}
 use mathlib.Core.Option.Option.{some}
 use Prim.Native.Nat.{ℕ, _+_, _*_, _-_, _/_, _^_, _≤_, _<_}
 use native.Mathlib.Omega.{arith}
-use lib.ListN.{length, take, drop, length-drop}
+use lib.ListN.{length, take, drop, replicate, length-drop}
 use lib.Seq.{drop-drop}
+use Rattle.cells.specs.Cells.{cut}
 use Rattle.jedec.specs.Judge.{statesIn}
 use Rattle.jedec.specs.Rules.{stateGiven, imageWith}
-use Rattle.jedec_judge.specs.Judged.{statesOf}
+use Rattle.jedec_judge.specs.Judged.{statesOf, fewStates}
 use Rattle.jedec_judge.proofs.Slices.{rest-whole}
 use Rattle.jedec_judge.specs.declared.FieldSays.{FieldSays}
 use Rattle.jedec_judge.specs.declared.FieldSays.the-variants as says
@@ -27,14 +28,28 @@ filled : (fuses : ℕ) (rest : List ℕ) (s : FieldSays) (m : OptionalNumber) (x
     → after ≡ imageWith fuses (stateGiven x []) → after ≡ putField fuses rest s m image
 filled fuses rest s m x image after w e = rw w e
 
-module _ (fuses : ℕ) (field : List ℕ) (s : FieldSays) (m : OptionalNumber) (first skip number : ℕ)
-    (w : s ≡ says.List first skip number) where
+module _ (fuses : ℕ) (field : List ℕ) (s : FieldSays) (m : OptionalNumber) (first skip number bits : ℕ)
+    (w : s ≡ says.List first skip number bits) where
   not-listed : (image : List ℕ) (x : ℕ) → m ≡ optional-number.Some x → image ≡ putField fuses (drop 1 field) s m image
   not-listed image x v = rw (w, v)
 
   module _ (v : m ≡ optional-number.None) (h : PutFits fuses (drop 1 field) s m) where
-    goes : ListGoesIn fuses (drop 1 field) first skip number
+    goes : ListGoesIn fuses (drop 1 field) first skip number bits
     goes = (rw w at h) v
+
+    any-there : 0 < number
+    any-there = goes .list .any
+
+    bits-fit : (image : List ℕ) → length image ≡ (fuses + 7) / 8 → first + number ≤ length image * 8
+    bits-fit image e = omega (arith, goes .fits)
+
+    module _ (l : number ≤ fewStates) where
+      bits-small : bits < 2 ^ number
+      bits-small = goes .list .told l .small
+
+      few-listed : (image after : List ℕ) → after ≡ withStates image first (cut (replicate number 1) bits)
+          → after ≡ putField fuses (drop 1 field) s m image
+      few-listed image after e = e ∙ rw (w, v) (ap (withStates image first) (sym (goes .list .told l .are)))
 
     from-there : skip + 1 ≤ length field
     from-there = omega (arith, goes .list .inside, goes .list .few, goes .list .any, length-drop 1 field)
@@ -74,6 +89,21 @@ enum-known-says-2 c = search needs
 enum-told : tie.Need-enum-told
 enum-told c = search needs
 
+cast-put-bits : tie.Need-cast-put-bits
+cast-put-bits c = search needs
+
+cast-put-bits-2 : tie.Need-cast-put-bits-2
+cast-put-bits-2 c = search needs
+
+put-bits-requires : tie.Need-put-bits-requires
+put-bits-requires c κs = (search needs, search (needs, any-there), search (needs, bits-small), search (needs, bits-fit))
+
+same-length : tie.Need-same-length
+same-length c = search needs
+
+returns : tie.Need-returns
+returns c = search (needs, few-listed)
+
 add-from : tie.Need-add-from
 add-from c = record { fits = search (needs, from-small) }
 
@@ -107,23 +137,20 @@ enum-told-5 c = search needs
 enum-told-6 : tie.Need-enum-told-6
 enum-told-6 c = search needs
 
-same-length : tie.Need-same-length
-same-length c = search needs
-
-returns : tie.Need-returns
-returns c = search (needs, filled)
-
 same-length-2 : tie.Need-same-length-2
 same-length-2 c = search needs
 
 returns-2 : tie.Need-returns-2
-returns-2 c = search (needs, listed)
+returns-2 c = search (needs, filled)
+
+same-length-3 : tie.Need-same-length-3
+same-length-3 c = search needs
 
 returns-3 : tie.Need-returns-3
-returns-3 c = search (needs, not-listed)
+returns-3 c = search (needs, listed)
 
 returns-4 : tie.Need-returns-4
-returns-4 c = search needs
+returns-4 c = search (needs, not-listed)
 
 returns-5 : tie.Need-returns-5
 returns-5 c = search needs
@@ -134,6 +161,9 @@ returns-6 c = search needs
 returns-7 : tie.Need-returns-7
 returns-7 c = search needs
 
+returns-8 : tie.Need-returns-8
+returns-8 c = search needs
+
 pub put-field-spec : {M : Type 1} → statement M
 put-field-spec =
     tie.close
@@ -142,6 +172,11 @@ put-field-spec =
     fill-requires
     enum-known-says-2
     enum-told
+    cast-put-bits
+    cast-put-bits-2
+    put-bits-requires
+    same-length
+    returns
     add-from
     sub-put-states
     part-put-states-start
@@ -153,12 +188,12 @@ put-field-spec =
     enum-told-4
     enum-told-5
     enum-told-6
-    same-length
-    returns
     same-length-2
     returns-2
+    same-length-3
     returns-3
     returns-4
     returns-5
     returns-6
-    returns-7)
+    returns-7
+    returns-8)

@@ -11,8 +11,8 @@ use borrow.Author.Needs.{needs}
 use Rattle.jedec_progress.proofs.progress.after_field.Statement.{statement}
 use Rattle.jedec_progress.proofs.progress.after_field.Tie as tie
 
-few-states : (s : FieldSays) (first skip number : ℕ) → s ≡ says.List first skip number → FewStates s → number ≤ longest
-few-states s first skip number w h = rw w at h
+few-states : (s : FieldSays) (first skip number bits : ℕ) → s ≡ says.List first skip number bits → FewStates s → number ≤ longest
+few-states s first skip number bits w h = rw w at h
 
 module _ (fuses : ℕ) (p : Progress) (at : ℕ) (s : FieldSays) (q : Progress) where
   a-count : (n : ℕ) → q ≡ withCount p at n → s ≡ says.Count n → q ≡ afterField fuses p at s
@@ -21,8 +21,9 @@ module _ (fuses : ℕ) (p : Progress) (at : ℕ) (s : FieldSays) (q : Progress) 
   a-start : (x : ℕ) → q ≡ withStart p x → s ≡ says.Start x → q ≡ afterField fuses p at s
   a-start x e w = rw w e
 
-  a-list : (first skip number : ℕ) → q ≡ withList fuses p at first number → s ≡ says.List first skip number → q ≡ afterField fuses p at s
-  a-list first skip number e w = rw w e
+  a-list : (first skip number bits : ℕ) → q ≡ withList fuses p at first number → s ≡ says.List first skip number bits
+      → q ≡ afterField fuses p at s
+  a-list first skip number bits e w = rw w e
 
   a-sum : (x : ℕ) → q ≡ withSum p at x → s ≡ says.Sum x → q ≡ afterField fuses p at s
   a-sum x e w = rw w e

@@ -16,9 +16,9 @@ module _ (p : Progress) (s : FieldSays) (a : Bool) (e : a ≡ has (optionalField
   a-start : (b : Bool) (x : ℕ) → b ≡ has (optionalNumber (p .start)) → s ≡ says.Start x → (a && not b && not (p .listed)) ≡ mayStand p s
   a-start b x f w = rw (w, e, f)
 
-  a-list : (b : Bool) (first skip number : ℕ) → b ≡ has (optionalField (p .sum)) → s ≡ says.List first skip number
+  a-list : (b : Bool) (first skip number bits : ℕ) → b ≡ has (optionalField (p .sum)) → s ≡ says.List first skip number bits
       → (a && not b) ≡ mayStand p s
-  a-list b first skip number f w = rw (w, e, f)
+  a-list b first skip number bits f w = rw (w, e, f)
 
   a-sum : (b : Bool) (x : ℕ) → b ≡ has (optionalField (p .sum)) → s ≡ says.Sum x → (a && not b) ≡ mayStand p s
   a-sum b x f w = rw (w, e, f)
