@@ -81,7 +81,7 @@ fn location_of(d: Device, layout: Layout, s: Setting, bit: u32) -> Location
 }
 
 // Where bits 2k and 2k+1 of USERCODE stand: bits 6 and 7 of a byte of block 0, rows 6 and 7. No
-// device has that byte elsewhere.
+// device has that byte elsewhere. By a test, with which the compiler makes one loop for both layouts.
 fn usercode_location(d: Device, layout: Layout, pair: u32) -> Location
     requires { ⌜ (known d ≡ true) × (hasSetting d (Global Usercode) ≡ true) × (pair < 16) ⌝ }
     ensures { λ r. ⌜ (r .index ≡ byteOf d layout (fuseOf d (Global Usercode) (2 * pair)))
@@ -89,18 +89,16 @@ fn usercode_location(d: Device, layout: Layout, pair: u32) -> Location
 {
     let row = 7 - pair / 8;
     let column = 7 - pair % 8;
-    match layout {
-        Layout::Image => {
-            let fuse = row * MAIN_ROW_FUSES + column * 8 + 6;
-            Location {
-                index: (fuse / 8) as usize,
-                bit: fuse % 8,
-            }
-        }
-        Layout::Readout => Location {
+    if is_readout(layout) {
+        return Location {
             index: (row * MAIN_COLUMNS + column) as usize,
             bit: 6,
-        },
+        };
+    }
+    let fuse = row * MAIN_ROW_FUSES + column * 8 + 6;
+    Location {
+        index: (fuse / 8) as usize,
+        bit: fuse % 8,
     }
 }
 
