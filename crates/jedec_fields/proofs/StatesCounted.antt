@@ -20,7 +20,7 @@ use Rattle.jedec_runs.specs.Runs.{IsBlankAt, StatesAt}
 use Rattle.jedec_runs.proofs.StatesTaken.{StatesTaken, taken-at}
 use Rattle.jedec_runs.proofs.StatesWritten.{states-append, states-none}
 use Rattle.jedec_runs.proofs.BitsJoined.{bits-under, bits-joined}
-use Rattle.jedec_judge.specs.Judged.{orEmpty, statesOf, fewStates, AsBits}
+use Rattle.jedec_judge.specs.Judged.{orEmpty, statesOf, statesInWord, AsBits}
 use Rattle.jedec_fields.specs.Fields.{statesCount, RunStands}
 
 -- Where states are counted, there are so many.
@@ -33,7 +33,7 @@ pub record StatesCounted (bytes : List ℕ) (n bits i : ℕ) : Type 0 where
   pub upto : i ≤ length bytes
   pub few : n ≤ i
   pub so-far : statesCount (statesIn (take i bytes)) ≡ some n
-  pub told : n ≤ fewStates → AsBits (statesOf (take i bytes)) n bits
+  pub told : n ≤ statesInWord → AsBits (statesOf (take i bytes)) n bits
 
 pub counted-start : (bytes : List ℕ) → StatesCounted bytes 0 0 0
 unfolding statesIn statesOf cut
@@ -83,11 +83,11 @@ module _ (bytes : List ℕ) (n bits i : ℕ) (c : StatesCounted bytes n bits i) 
         ap statesCount all ∙ ap some long
 
     -- More states than are told as bits.
-    pub counted-more : fewStates < n → StatesCounted bytes (n + count) bits (i + (count + z))
+    pub counted-more : statesInWord < n → StatesCounted bytes (n + count) bits (i + (count + z))
     counted-more m =
         record { upto = s .inside; few = omega (arith, c .few); so-far = so-far-next; told = λ l. absurd (omega arith) }
 
-    module _ (m : n ≤ fewStates) (x : ℕ) (e : x ≡ join (replicate count 1) (drop i bytes)) where
+    module _ (m : n ≤ statesInWord) (x : ℕ) (e : x ≡ join (replicate count 1) (drop i bytes)) where
       group-small : x < 2 ^ count
       group-small =
           rw e (subst (λ (k : ℕ). join (replicate count 1) (drop i bytes) < 2 ^ k) (total-replicate count 1 ∙ mul-one count)

@@ -12,7 +12,7 @@ use Rattle.jedec.specs.Characters.{star}
 use Rattle.jedec.specs.Cut.{pieces, Cut, fieldsFrom, holdsMark}
 use Rattle.jedec.specs.Judge.{statesIn, listIn, judge}
 use Rattle.jedec.specs.Judge.Judged.{bad}
-use Rattle.jedec_judge.specs.Judged.{statesOf, fewStates, AsBits, Says}
+use Rattle.jedec_judge.specs.Judged.{statesOf, statesInWord, AsBits, Says}
 use Rattle.jedec_judge.specs.declared.FieldSays.the-variants as says
 use Rattle.jedec_fields.specs.declared.lists.StatesRun.{StatesRun}
 use Rattle.jedec_fields.specs.declared.lists.ListField.{ListField}
@@ -32,7 +32,7 @@ pub record RunStands (bytes : List ℕ) (r : StatesRun) : Type 0 where
   pub few : r .count ≤ r .length
   pub writes : statesCount (statesIn (take (r .length) bytes)) ≡ some (r .count)
   pub stops : r .length < length bytes → statesIn (take (suc (r .length)) bytes) ≡ none
-  pub told : r .count ≤ fewStates → AsBits (statesOf (take (r .length) bytes)) (r .count) (r .bits)
+  pub told : r .count ≤ statesInWord → AsBits (statesOf (take (r .length) bytes)) (r .count) (r .bits)
 
 -- How many bytes stand before the first `*`, or all.
 unfoldable pub untilStar : List ℕ → ℕ

@@ -1,7 +1,7 @@
 // L fields by what follows the L: digits, a blank, states and blanks.
 // Each byte of a good one is looked at once.
 ghost use Rattle.jedec_fields.specs.Fields.{RunStands, ListStands};
-use jedec_judge::FEW_STATES;
+use jedec_judge::STATES_IN_WORD;
 use jedec_judge::digits::leading_digits;
 use jedec_runs::states::bits_at;
 use jedec_runs::states::blank_at;
@@ -49,7 +49,7 @@ fn states_run(bytes: &[u8]) -> StatesRun
         let at = i;
         n += count;
         i += taken;
-        if from <= FEW_STATES {
+        if from <= STATES_IN_WORD {
             bits += bits_at(bytes, at, count) << from;
         }
     }

@@ -11,7 +11,7 @@ use mir.Syntax.{w8}
 use mir.Val.{Fits}
 use Rattle.cells.specs.Cells.{cut}
 use Rattle.jedec_runs.proofs.BitsJoined.{bits-under, bits-joined}
-use Rattle.jedec_judge.specs.Judged.{fewStates}
+use Rattle.jedec_judge.specs.Judged.{statesInWord}
 use Rattle.jedec_image.specs.States.{withStates}
 use Rattle.jedec_image.proofs.Pending.{pending, pending-none, pending-own, last-exact, last-fits, put-few, put-stored}
 use Rattle.jedec_image.proofs.StatesPut.{byte-wide, set-octets}
@@ -35,7 +35,7 @@ pub record PutsBits (image₀ : List ℕ) (fuse : ℕ) (bits count : ℕ) (image
   pub octets : (k : ℕ) → Fits w8 (getD image k 0)
   pub so-far : withStates image (index * 8) (cut (replicate left 1) rest) ≡ withStates image₀ fuse (cut (replicate count 1) bits)
 
-module _ (image : List ℕ) (fuse bits count : ℕ) (few : count ≤ fewStates) (small : bits < 2 ^ count)
+module _ (image : List ℕ) (fuse bits count : ℕ) (few : count ≤ statesInWord) (small : bits < 2 ^ count)
     (fits : fuse + count ≤ length image * 8) where
   exact : bits * 2 ^ (fuse % 8) % 2 ^ 64 ≡ bits * 2 ^ (fuse % 8)
   exact = shl-exact count (fuse % 8) 64 small (omega arith)

@@ -8,11 +8,11 @@ ghost use lib.ListN.{length, drop, replicate};
 ghost use Rattle.cells.specs.Cells.{cut};
 ghost use Rattle.jedec.specs.Judge.{statesIn};
 ghost use Rattle.jedec.specs.Rules.{stateGiven, imageWith};
-ghost use Rattle.jedec_judge.specs.Judged.{statesOf, fewStates};
+ghost use Rattle.jedec_judge.specs.Judged.{statesOf, statesInWord};
 ghost use Rattle.jedec_image.specs.States.{withStates, putField, PutFits};
 use cells::words::low_bits;
-use jedec_judge::FEW_STATES;
 use jedec_judge::FieldSays;
+use jedec_judge::STATES_IN_WORD;
 use jedec_progress::progress::OptionalNumber;
 use jedec_runs::states::bits_at;
 use jedec_runs::states::blank_at;
@@ -75,7 +75,7 @@ fn put_states(bytes: &[u8], image: &mut [u8], fuse: usize)
 // A few states, told as bits, put in place from a fuse on. The low bits of the first byte stay, and so do the high bits
 // of the last.
 fn put_bits(bits: u64, count: u32, image: &mut [u8], fuse: usize)
-    requires { ⌜ (count ≤ fewStates) × (0 < count) × (bits < 2 ^ count)
+    requires { ⌜ (count ≤ statesInWord) × (0 < count) × (bits < 2 ^ count)
         × (fuse + count ≤ length (now image) * 8) ⌝ }
     ensures { λ _. ⌜ now (image .exit) ≡ withStates (now (image .entry)) fuse (cut (replicate count 1) bits) ⌝ }
 {
@@ -116,7 +116,7 @@ pub fn put_field(
             bits,
         } => match misplaced {
             OptionalNumber::None => {
-                if count <= FEW_STATES {
+                if count <= STATES_IN_WORD {
                     put_bits(bits, count as u32, image, first as usize);
                     return;
                 }

@@ -1,6 +1,6 @@
 -- What the answers about numbers and judged fields say, in the terms of crate `jedec`.
--- A field is judged without a list of its states: they are read off its bytes.
-use Prim.Native.Nat.{ℕ, _^_, _≤_, _<_}
+-- A field is judged without a list of its states: they are read off its bytes, and few are told as bits.
+use Prim.Native.Nat.{ℕ, _-_, _^_, _≤_, _<_}
 use mathlib.Core.Path.{_≡_}
 use mathlib.Core.Bool.{true}
 use mathlib.Core.List.{List, []}
@@ -52,10 +52,11 @@ judgedAfter after (says.Sum x) = sum x
 judgedAfter after says.Skipped = skipped
 judgedAfter after says.Bad = bad
 
--- So many states, and no more, are told as bits: the first as the lowest.
-abbrev pub fewStates : ℕ
-fewStates = 56
+-- So many states, and no more, are told as bits of a word: "few" below.
+abbrev pub statesInWord : ℕ
+statesInWord = 64 - 8
 
+-- Bits tell states, the first as the lowest.
 pub record AsBits (states : List ℕ) (number bits : ℕ) : Type 0 where
   pub small : bits < 2 ^ number
   pub are : states ≡ cut (replicate number 1) bits
@@ -67,7 +68,7 @@ pub record ListFits (after : List ℕ) (skip number bits : ℕ) : Type 0 where
   pub many : length (statesOf (drop skip after)) ≡ number
   pub few : number ≤ length after
   pub any : 0 < number
-  pub told : number ≤ fewStates → AsBits (statesOf (drop skip after)) number bits
+  pub told : number ≤ statesInWord → AsBits (statesOf (drop skip after)) number bits
 
 -- What an answer speaks of is there: a start state is 0 or 1, and states stand in the field.
 abbrev pub SaysFits : (after : List ℕ) → FieldSays → Type 0

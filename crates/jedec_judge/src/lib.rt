@@ -9,12 +9,12 @@ use jedec::STX;
 pub mod digits;
 pub mod letters;
 
-// So many states of an L field, and no more, are told as bits: below them there is room in a word for the low bits of
-// the byte that the first one goes into.
-pub const FEW_STATES: usize = 56;
+// So many states of an L field, and no more, are told as bits of a word. Eight bits are left: for the last states,
+// which come up to eight at a time, and then for the low bits of the byte that the first state goes into.
+pub const STATES_IN_WORD: usize = 64 - 8;
 
 // What a field says. Of an L field these are the first fuse, how many bytes after the L stand before the states, how
-// many states there are, and the states themselves, the first as the lowest bit, if they are at most `FEW_STATES`.
+// many states there are, and the states themselves, the first as the lowest bit, if they are at most `STATES_IN_WORD`.
 pub enum FieldSays {
     Count(u32),
     Start(u32),

@@ -81,7 +81,7 @@ fn location_of(d: Device, layout: Layout, s: Setting, bit: u32) -> Location
 }
 
 // Where bits 2k and 2k+1 of USERCODE stand: bits 6 and 7 of a byte of block 0, rows 6 and 7. No
-// device has that byte elsewhere. By a test, with which the compiler makes one loop for both layouts.
+// device has that byte elsewhere. The layout is tested and not matched: the compiler then makes one code for both.
 fn usercode_location(d: Device, layout: Layout, pair: u32) -> Location
     requires { ⌜ (known d ≡ true) × (hasSetting d (Global Usercode) ≡ true) × (pair < 16) ⌝ }
     ensures { λ r. ⌜ (r .index ≡ byteOf d layout (fuseOf d (Global Usercode) (2 * pair)))

@@ -10,7 +10,7 @@ use lib.Seq.{drop-drop}
 use Rattle.cells.specs.Cells.{cut}
 use Rattle.jedec.specs.Judge.{statesIn}
 use Rattle.jedec.specs.Rules.{stateGiven, imageWith}
-use Rattle.jedec_judge.specs.Judged.{statesOf, fewStates}
+use Rattle.jedec_judge.specs.Judged.{statesOf, statesInWord}
 use Rattle.jedec_judge.proofs.Slices.{rest-whole}
 use Rattle.jedec_judge.specs.declared.FieldSays.{FieldSays}
 use Rattle.jedec_judge.specs.declared.FieldSays.the-variants as says
@@ -43,7 +43,7 @@ module _ (fuses : ℕ) (field : List ℕ) (s : FieldSays) (m : OptionalNumber) (
     bits-fit : (image : List ℕ) → length image ≡ (fuses + 7) / 8 → first + number ≤ length image * 8
     bits-fit image e = omega (arith, goes .fits)
 
-    module _ (l : number ≤ fewStates) where
+    module _ (l : number ≤ statesInWord) where
       bits-small : bits < 2 ^ number
       bits-small = goes .list .told l .small
 
