@@ -4,3 +4,4 @@ pub mod ByteAddresses
 pub mod Conversions
 pub mod Readouts
 pub mod Laws
+mod Positions

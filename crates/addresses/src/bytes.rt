@@ -2,24 +2,27 @@
 // For the crates above: a function here may require that the device is known and has the byte.
 ghost use mathlib.Core.Path.{_≡_};
 ghost use mathlib.Core.Bool.{true};
-ghost use Prim.Native.Nat.{_+_, _*_, _^_, _<_};
-ghost use Rattle.part.specs.Outcome.Outcome.{accepted};
-ghost use Rattle.part.specs.Device.{known};
-ghost use Rattle.part.specs.Place.{hasByte};
+ghost use Prim.Native.Nat.{_+_, _*_, _/_, _%_, _^_, _<_};
+ghost use Rattle.part.specs.Device.{known, mainRowFuses, mainFuses, wireAndRowFuses, subareaFuses};
+ghost use Rattle.part.specs.Place.{hasByte, columnInRow, bitInRow, placeInBlock};
 ghost use Rattle.addresses.specs.Address.{field, addressOfByte, byteOfAddress, indexOfByte};
-ghost use Rattle.addresses.specs.Answer.{addressOutcome};
-use super::AddressAnswer;
 use super::DeviceAddress;
 use part::BytePlace;
 use part::Device;
-use part::Place;
 use part::geometry::MAIN_BYTES;
 use part::geometry::MAIN_COLUMNS;
+use part::geometry::MAIN_FUSES;
 use part::geometry::SUBAREA_BYTES;
 use part::geometry::WIRE_AND_COLUMNS;
 use part::geometry::in_block;
-use part::quotients::COLUMN_SCALE;
-use part::quotients::quotient;
+use part::places::main_row;
+use part::places::wire_and_row;
+use part::quotients::divided;
+
+// Where the columns 5 and 10 of a main row begin: 40 and 78 bits.
+const COLUMN_5: u32 = 5 * 8;
+
+const COLUMN_10: u32 = 9 * 8 + 6;
 
 // A number with `value` put above its low `from` bits, which are all that it has.
 fn with_field(low: u32, from: u32, value: u32) -> u32
@@ -44,8 +47,8 @@ pub fn address_of_byte(d: Device, byte: BytePlace) -> DeviceAddress
 {
     match byte {
         BytePlace::Main { block, row, column } => {
-            let third = quotient(column, 5, COLUMN_SCALE);
-            let columns = with_field(column - third * 5, 3, third);
+            let third = divided(column, 5, 13, 6);
+            let columns = with_field(third.rest, 3, third.quotient);
             let rows = with_field(columns, 5, row);
             let area = with_field(rows, 12, 0);
             DeviceAddress(with_field(area, 13, block))
@@ -64,13 +67,54 @@ pub fn address_of_byte(d: Device, byte: BytePlace) -> DeviceAddress
     }
 }
 
-// The address and the bit of a place of the device.
-pub fn address_and_bit(d: Device, place: Place) -> AddressAnswer
-    requires { ⌜ (known d ≡ true) × (hasByte d (place .byte) ≡ true) ⌝ }
-    ensures { λ r. ⌜ addressOutcome r ≡ accepted (addressOfByte (place .byte), place .bit) ⌝ }
+// The position of a fuse is the address of its byte times 8, plus its bit: one number, so that a fuse is found without
+// its column. What a main row adds to it, which is cut where five columns after five begin: the first five have 40
+// bits, the next 38, of which 32 are four columns of 8, and the last 30.
+fn position_in_main_row(rest: u32) -> u32
+    requires { ⌜ rest < mainRowFuses ⌝ }
+    ensures { λ r. ⌜ r ≡ (columnInRow 9 6 rest / 5 * 2 ^ 3 + columnInRow 9 6 rest % 5) * 8 + bitInRow 9 6 rest ⌝ }
 {
-    let byte = place.byte;
-    AddressAnswer::At(address_of_byte(d, byte), place.bit)
+    if rest < COLUMN_5 {
+        return rest;
+    }
+    if rest < COLUMN_10 {
+        return 8 * 8 + (rest - COLUMN_5);
+    }
+    let at = divided(rest - COLUMN_10, 6, 43, 8);
+    16 * 8 + at.quotient * 8 + at.rest
+}
+
+// What a wire-AND row adds to the position.
+fn position_in_wire_and_row(rest: u32) -> u32
+    requires { ⌜ rest < wireAndRowFuses ⌝ }
+    ensures { λ r. ⌜ r ≡ columnInRow 1 7 rest * 8 + bitInRow 1 7 rest ⌝ }
+{
+    if rest < 8 {
+        return rest;
+    }
+    let at = divided(rest - 8, 7, 37, 8);
+    8 + at.quotient * 8 + at.rest
+}
+
+// The position of a fuse, by its block and the fuses of the block before it.
+pub fn position_in_block(block: u32, rest: u32) -> u32
+    requires { ⌜ (block < 16) × (rest < mainFuses + 16 * subareaFuses) ⌝ }
+    ensures { λ r. ⌜ r ≡ addressOfByte (placeInBlock block rest .byte) * 8 + placeInBlock block rest .bit ⌝ }
+{
+    if rest < MAIN_FUSES {
+        let at = main_row(rest);
+        let row = with_field(position_in_main_row(at.rest), 8, at.quotient);
+        return with_field(row, 16, block);
+    }
+    // The subarea and the row are one field, 32 times the one plus the other.
+    let at = wire_and_row(rest - MAIN_FUSES);
+    let row = with_field(
+        position_in_wire_and_row(at.rest),
+        6,
+        at.subarea * 32 + at.row,
+    );
+    let area = with_field(row, 15, 1);
+    with_field(area, 16, block)
 }
 
 // The byte that an address names, if any device has it.

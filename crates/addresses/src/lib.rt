@@ -22,23 +22,20 @@ pub enum FuseAnswer {
     Refused(Refusal),
 }
 
-// The address and the bit of a fuse. Refused: 1, 3. The steps of `place_of_fuse` are written out, so
-// that no place goes through memory.
+// The address and the bit of a fuse. Refused: 1, 3.
 pub fn address_of_fuse(d: Device, fuse: FuseNumber) -> AddressAnswer
     ensures { λ r. ⌜ addressOutcome r ≡ addressOfFuse d (fuse .0) ⌝ }
 {
     if !part::is_known(d) {
         return AddressAnswer::Refused(Refusal::UnknownDevice);
     }
-    if part::geometry::fuse_count(d) <= fuse.0 {
+    let block = part::places::block_of_fuse(d, fuse);
+    if part::geometry::blocks_of(d) <= block {
         return AddressAnswer::Refused(Refusal::NoSuchFuse);
     }
-    let at = part::places::block_and_rest(d, fuse);
-    if at.rest < part::geometry::MAIN_FUSES {
-        return bytes::address_and_bit(d, part::places::main_place(at.block, at.rest));
-    }
-    let past = at.rest - part::geometry::MAIN_FUSES;
-    bytes::address_and_bit(d, part::places::wire_and_place(at.block, past))
+    let rest = part::places::rest_in_block(d, fuse, block);
+    let position = bytes::position_in_block(block, rest);
+    AddressAnswer::At(DeviceAddress(position / 8), position % 8)
 }
 
 // The fuse of an address and a bit. Refused: 1, 3.

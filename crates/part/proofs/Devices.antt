@@ -4,7 +4,7 @@ use mathlib.Core.Path.{_≡_, refl, sym, _∙_, subst}
 use mathlib.Core.Bool.{Bool, true, false, cond, not, _||_}
 use Prim.Native.Nat.{ℕ, _+_, _*_, _-_, _/_, _%_, _^_, _≤_, _<_}
 use native.Mathlib.Omega.{arith}
-use native.Mathlib.Nat.{mul-le-mul, mul-le-mul-right, div-add-mod'}
+use native.Mathlib.Nat.{mul-le-mul, mul-le-mul-right, div-add-mod', le-of-lt}
 use lib.Dec.{eqb, ltb}
 use borrow.Author.Tests.{eqb-true, not-true, not-false}
 use Rattle.part.specs.Device.{isBlockCount, isClass, known, inBlock, inDevice, fuseCount, imageBytes, decimalDigits}
@@ -86,34 +86,36 @@ sixteen-blocks d h a b c e f =
     e
     f
 
-pub scaled-for : (d : Device) (k r : ℕ) → d .blocks ≡ k → r ≡ 2 ^ 34 / (7776 + k * 648) + 1 → r ≡ 2 ^ 34 / inBlock d 7776 648 + 1
-scaled-for d k r e f = rw e f
+-- The factor of a block count is that of the device.
+pub factor-for : (d : Device) (k r : ℕ) → d .blocks ≡ k → r ≡ 2 ^ 32 / (7776 + k * 648) + 1 → r ≡ 2 ^ 32 / inBlock d 7776 648 + 1
+factor-for d k r e f = rw e f
 
--- A fuse's block by a product: the divisors are so few that each is computed.
-block-by-product : (f n : ℕ) → isBlockCount n ≡ true → f < n * (7776 + n * 648)
-    → f * (2 ^ 34 / (7776 + n * 648) + 1) / 2 ^ 34 ≡ f / (7776 + n * 648)
-block-by-product f =
-    by-count (λ n. f < n * (7776 + n * 648) → f * (2 ^ 34 / (7776 + n * 648) + 1) / 2 ^ 34 ≡ f / (7776 + n * 648))
-    (λ h. omega arith)
-    (λ h. omega arith)
-    (λ h. omega arith)
-    (λ h. omega arith)
-    (λ h. omega arith)
-    (λ h. omega arith)
+-- A fuse's block by a product: the divisors are so few that each is computed. For numbers from the count on the product
+-- is no quotient, but it is no block either.
+module _ (d : Device) (f r b : ℕ) (h : known d ≡ true) (e : r ≡ 2 ^ 32 / inBlock d 7776 648 + 1) where
+  factor-small : r < 2 ^ 19
+  factor-small =
+      rw e (by-count (λ n. 2 ^ 32 / (7776 + n * 648) + 1 < 2 ^ 19) (omega arith) (omega arith) (omega arith) (omega arith) (omega arith)
+      (omega arith) (d .blocks) (known-count d h))
 
-module _ (d : Device) (f r : ℕ) (h : known d ≡ true) (l : f < fuseCount d) (e : r ≡ 2 ^ 34 / inBlock d 7776 648 + 1) where
-  pub product-small : f * r < 2 ^ 64
+  pub product-small : f < 2 ^ 32 → f * r < 2 ^ 64
+  product-small l = omega (arith, mul-le-mul (le-of-lt l) (le-of-lt factor-small))
+
+  pub block-small : f < 2 ^ 32 → f * r / 2 ^ 32 < 2 ^ 32
+  block-small l = omega (arith, product-small l)
+
+  pub block-of : b ≡ f * r / 2 ^ 32 → f < fuseCount d → b ≡ f / inBlock d 7776 648
   unfolding fuseCount
-  product-small =
-      rw e (by-count (λ n. f < n * (7776 + n * 648) → f * (2 ^ 34 / (7776 + n * 648) + 1) < 2 ^ 64) (λ m. omega arith) (λ m. omega arith)
-      (λ m. omega arith) (λ m. omega arith) (λ m. omega arith) (λ m. omega arith) (d .blocks) (known-count d h) l)
+  block-of g l =
+      g ∙ rw e (by-count (λ n. f < n * (7776 + n * 648) → f * (2 ^ 32 / (7776 + n * 648) + 1) / 2 ^ 32 ≡ f / (7776 + n * 648))
+      (λ m. omega arith) (λ m. omega arith) (λ m. omega arith) (λ m. omega arith) (λ m. omega arith) (λ m. omega arith) (d .blocks)
+      (known-count d h) l)
 
-  pub block-of : f * r / 2 ^ 34 ≡ f / inBlock d 7776 648
+  pub block-below : b ≡ f * r / 2 ^ 32 → b < d .blocks → f < fuseCount d
   unfolding fuseCount
-  block-of = rw e (block-by-product f (d .blocks) (known-count d h) l)
-
-  pub block-small : f * r / 2 ^ 34 < 2 ^ 32
-  block-small = omega (arith, product-small)
+  block-below g l =
+      by-count (λ n. f * (2 ^ 32 / (7776 + n * 648) + 1) / 2 ^ 32 < n → f < n * (7776 + n * 648)) (λ m. omega arith) (λ m. omega arith)
+      (λ m. omega arith) (λ m. omega arith) (λ m. omega arith) (λ m. omega arith) (d .blocks) (known-count d h) (rw (← e, ← g) l)
 
 -- What a quotient leaves, as of a fuse in its block.
 module _ (f b p q : ℕ) (e : b ≡ f / q) (g : p ≡ q) where

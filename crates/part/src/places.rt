@@ -2,9 +2,9 @@
 // For the crates above: a function here may require that the device is known and has the byte or the fuse.
 ghost use mathlib.Core.Path.{_≡_};
 ghost use mathlib.Core.Bool.{true};
-ghost use Prim.Native.Nat.{_+_, _*_, _/_, _%_, _<_, _≤_};
-ghost use Rattle.part.specs.Device.{known, columnWidth, columnStart, mainFuses};
-ghost use Rattle.part.specs.Device.{subareaFuses, blockFuses, fuseCount};
+ghost use Prim.Native.Nat.{_+_, _*_, _-_, _/_, _%_, _^_, _<_, _≤_};
+ghost use Rattle.part.specs.Device.{known, blocksOf, columnWidth, columnStart, mainFuses, mainRowFuses};
+ghost use Rattle.part.specs.Device.{wireAndRowFuses, subareaFuses, blockFuses, fuseCount};
 ghost use Rattle.part.specs.Place.{hasByte, widthOf, columnInRow, bitInRow, firstFuse, placeInMain};
 ghost use Rattle.part.specs.Place.{placeInWireAnd, placeOfFuse};
 use super::BytePlace;
@@ -20,12 +20,10 @@ use super::geometry::WIRE_AND_COLUMNS;
 use super::geometry::WIRE_AND_ROW_FUSES;
 use super::geometry::WIRE_AND_ROWS;
 use super::geometry::in_block;
-use super::quotients::COLUMN_SCALE;
-use super::quotients::MAIN_ROW_SCALE;
-use super::quotients::SUBAREA_SCALE;
-use super::quotients::WIRE_AND_ROW_SCALE;
-use super::quotients::block_of_fuse;
-use super::quotients::quotient;
+use super::quotients::QuotientAndRest;
+use super::quotients::block_factor;
+use super::quotients::by_product;
+use super::quotients::divided;
 
 // Whether the device has the byte.
 pub fn has_byte(d: Device, byte: BytePlace) -> bool
@@ -115,9 +113,11 @@ struct ColumnBit {
     bit: u32,
 }
 
-// The column and the bit of what is left in a row of `wide` columns of 8 bits and then columns of `narrow` bits.
-fn column_and_bit(wide: u32, narrow: u32, rest: u32) -> ColumnBit
-    requires { ⌜ (wide ≤ 9) × (6 ≤ narrow) × (narrow ≤ 8) × (rest < wide * 8 + 36) ⌝ }
+// The column and the bit of what is left in a row of `wide` columns of 8 bits and then columns of `narrow` bits, with
+// the factor that divides by `narrow`.
+fn column_and_bit(wide: u32, narrow: u32, factor: u64, rest: u32) -> ColumnBit
+    requires { ⌜ (wide ≤ 9) × (rest < wide * 8 + 36) × (factor < 2 ^ 32)
+        × ((rest - wide * 8) * factor / 2 ^ 8 ≡ (rest - wide * 8) / narrow) ⌝ }
     ensures { λ r. ⌜ (r .column ≡ columnInRow wide narrow rest) × (r .bit ≡ bitInRow wide narrow rest) ⌝ }
 {
     if rest < wide * 8 {
@@ -126,63 +126,91 @@ fn column_and_bit(wide: u32, narrow: u32, rest: u32) -> ColumnBit
             bit: rest % 8,
         };
     }
-    let past = rest - wide * 8;
-    let columns = quotient(past, narrow, COLUMN_SCALE);
+    let past = divided(rest - wide * 8, narrow, factor, 8);
     ColumnBit {
-        column: wide + columns,
-        bit: past - columns * narrow,
+        column: wide + past.quotient,
+        bit: past.rest,
     }
 }
 
-// The block of a fuse, and the fuses of the block before it.
-pub struct InBlock {
-    pub block: u32,
-    pub rest: u32,
+// The block of a fuse: the first step of the forward routine of document 003. A number that is no fuse of the device
+// gets a block that the device has not, so that one test tells both.
+pub fn block_of_fuse(d: Device, fuse: FuseNumber) -> u32
+    requires { ⌜ known d ≡ true ⌝ }
+    ensures { λ r. ⌜ (fuse .0 < fuseCount d → r ≡ fuse .0 / blockFuses d)
+        × (r < blocksOf d → fuse .0 < fuseCount d) ⌝ }
+{
+    by_product(fuse.0, block_factor(d), 32)
 }
 
-// The block of a fuse and what is left in it: the first step of the forward routine of document 003.
-pub fn block_and_rest(d: Device, fuse: FuseNumber) -> InBlock
-    requires { ⌜ (known d ≡ true) × (fuse .0 < fuseCount d) ⌝ }
-    ensures { λ r. ⌜ (r .block ≡ fuse .0 / blockFuses d) × (r .rest ≡ fuse .0 % blockFuses d) ⌝ }
+// What is left of a fuse in its block.
+pub fn rest_in_block(d: Device, fuse: FuseNumber, block: u32) -> u32
+    requires { ⌜ (known d ≡ true) × (block ≡ fuse .0 / blockFuses d) ⌝ }
+    ensures { λ r. ⌜ r ≡ fuse .0 % blockFuses d ⌝ }
 {
-    let f = fuse.0;
     let per_block = in_block(d, MAIN_FUSES, SUBAREA_FUSES);
-    let block = block_of_fuse(d, f);
-    let rest = f - block * per_block;
-    InBlock { block, rest }
+    fuse.0 - block * per_block
+}
+
+// The row of a fuse in the main area of a block, and what is left in it.
+pub fn main_row(rest: u32) -> QuotientAndRest
+    requires { ⌜ rest < mainFuses ⌝ }
+    ensures { λ r. ⌜ (r .quotient ≡ rest / mainRowFuses) × (r .rest ≡ rest % mainRowFuses) ⌝ }
+{
+    divided(rest, MAIN_ROW_FUSES, 4855, 19)
 }
 
 // The place of a fuse in the main area of a block.
-pub fn main_place(block: u32, rest: u32) -> Place
+fn main_place(block: u32, rest: u32) -> Place
     requires { ⌜ rest < mainFuses ⌝ }
     ensures { λ r. ⌜ r ≡ placeInMain block rest ⌝ }
 {
-    let row = quotient(rest, MAIN_ROW_FUSES, MAIN_ROW_SCALE);
-    let at = column_and_bit(9, 6, rest - row * MAIN_ROW_FUSES);
+    let row = main_row(rest);
+    let at = column_and_bit(9, 6, 43, row.rest);
     Place {
         byte: BytePlace::Main {
             block,
-            row,
+            row: row.quotient,
             column: at.column,
         },
         bit: at.bit,
     }
 }
 
+// Where a fuse lies in the subareas of a block: the subarea, the row in it, and what is left in the row.
+pub struct WireAndRow {
+    pub subarea: u32,
+    pub row: u32,
+    pub rest: u32,
+}
+
+// The subarea and the row of a fuse. The rows of all subareas are counted on, and then divided by those of one.
+pub fn wire_and_row(rest: u32) -> WireAndRow
+    requires { ⌜ rest < 16 * subareaFuses ⌝ }
+    ensures { λ r. ⌜ (r .subarea ≡ rest / subareaFuses) × (r .row ≡ rest % subareaFuses / wireAndRowFuses)
+        × (r .rest ≡ rest % subareaFuses % wireAndRowFuses) ⌝ }
+{
+    let at = divided(rest, WIRE_AND_ROW_FUSES, 58255, 21);
+    let row = divided(at.quotient, WIRE_AND_ROWS, 57, 10);
+    WireAndRow {
+        subarea: row.quotient,
+        row: row.rest,
+        rest: at.rest,
+    }
+}
+
 // The place of a fuse in the subareas of a block.
-pub fn wire_and_place(block: u32, rest: u32) -> Place
+fn wire_and_place(block: u32, rest: u32) -> Place
     requires { ⌜ rest < 16 * subareaFuses ⌝ }
     ensures { λ r. ⌜ r ≡ placeInWireAnd block rest ⌝ }
 {
-    let subarea = quotient(rest, SUBAREA_FUSES, SUBAREA_SCALE);
-    let left = rest - subarea * SUBAREA_FUSES;
-    let row = quotient(left, WIRE_AND_ROW_FUSES, WIRE_AND_ROW_SCALE);
-    let at = column_and_bit(1, 7, left - row * WIRE_AND_ROW_FUSES);
+    let row = wire_and_row(rest);
+    let at = column_and_bit(1, 7, 37, row.rest);
     Place {
         byte: BytePlace::WireAnd {
             block,
-            subarea,
-            row,
+            subarea: row.subarea,
+            row: row.row,
             column: at.column,
         },
         bit: at.bit,
@@ -193,9 +221,10 @@ pub fn place_of_fuse(d: Device, fuse: FuseNumber) -> Place
     requires { ⌜ (known d ≡ true) × (fuse .0 < fuseCount d) ⌝ }
     ensures { λ r. ⌜ r ≡ placeOfFuse d (fuse .0) ⌝ }
 {
-    let at = block_and_rest(d, fuse);
-    if at.rest < MAIN_FUSES {
-        return main_place(at.block, at.rest);
+    let block = block_of_fuse(d, fuse);
+    let rest = rest_in_block(d, fuse, block);
+    if rest < MAIN_FUSES {
+        return main_place(block, rest);
     }
-    wire_and_place(at.block, at.rest - MAIN_FUSES)
+    wire_and_place(block, rest - MAIN_FUSES)
 }

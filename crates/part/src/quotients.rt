@@ -1,69 +1,50 @@
-// Quotients by products that are exact for all that they are asked for, so that nothing is divided at run time.
+// Quotients and remainders by products that are exact for all that they are asked for: nothing is divided here.
 // A function here requires what makes its product exact.
 ghost use mathlib.Core.Path.{_≡_};
 ghost use mathlib.Core.Bool.{true};
-ghost use Prim.Native.Nat.{_+_, _*_, _/_, _^_, _<_, _≤_};
-ghost use Rattle.part.specs.Device.{known, mainFuses};
-ghost use Rattle.part.specs.Device.{subareaFuses, blockFuses, fuseCount};
+ghost use Prim.Native.Nat.{_+_, _*_, _/_, _%_, _^_, _<_};
+ghost use Rattle.part.specs.Device.{known, blockFuses};
 use super::Device;
-use super::geometry::MAIN_FUSES;
-use super::geometry::SUBAREA_FUSES;
 
-const SCALE: u64 = 1 << 34;
-
-// Scales at which a product is the quotient for all that it is asked for.
-pub const MAIN_ROW_SCALE: u32 = 1 << 21;
-
-pub const SUBAREA_SCALE: u32 = 1 << 24;
-
-pub const WIRE_AND_ROW_SCALE: u32 = 1 << 16;
-
-pub const COLUMN_SCALE: u32 = 1 << 8;
-
-// x / d by a product, where that is exact. Called with a number d and a power of two it compiles to a product and a
-// shift; the compiler's own way to divide by a number takes more steps, since it does not know how small x is.
-pub fn quotient(x: u32, d: u32, scale: u32) -> u32
-    requires { ⌜ (0 < d) × (0 < scale) × (scale / d < 65536) × (x * (scale / d + 1) < 2 ^ 32)
-        × (x * (scale / d + 1) / scale ≡ x / d) ⌝ }
-    ensures { λ r. ⌜ r ≡ x / d ⌝ }
-{
-    x * (scale / d + 1) / scale
+// A quotient, and what is left.
+pub struct QuotientAndRest {
+    pub quotient: u32,
+    pub rest: u32,
 }
 
-// 2^34 divided by the fuses of a block of a part of n blocks, and one more: a fuse times this, divided by 2^34, is
-// its block. The divisor is given where it is called, so that the compiler divides: a division at run time takes
-// most of the time of a conversion.
-fn scaled(n: u32) -> u64
-    requires { ⌜ n ≤ 16 ⌝ }
-    ensures { λ r. ⌜ r ≡ 2 ^ 34 / (mainFuses + n * subareaFuses) + 1 ⌝ }
+// A product, shifted: what stands here for a division. `factor` is a little more than 2^shift / d.
+pub fn by_product(x: u32, factor: u64, shift: u32) -> u32
+    requires { ⌜ (shift < 64) × (x * factor < 2 ^ 64) × (x * factor / 2 ^ shift < 2 ^ 32) ⌝ }
+    ensures { λ r. ⌜ r ≡ x * factor / 2 ^ shift ⌝ }
 {
-    SCALE / (MAIN_FUSES + n * SUBAREA_FUSES) as u64 + 1
+    ((x as u64 * factor) >> shift) as u32
 }
 
-fn reciprocal(d: Device) -> u64
-    requires { ⌜ known d ≡ true ⌝ }
-    ensures { λ r. ⌜ r ≡ 2 ^ 34 / blockFuses d + 1 ⌝ }
+// x divided by d, where the product is the quotient: for x that is small enough, which each caller shows. The product
+// is wide, so that one function serves all.
+pub fn divided(x: u32, d: u32, factor: u64, shift: u32) -> QuotientAndRest
+    requires { ⌜ (shift < 64) × (x * factor < 2 ^ 64) × (x * factor / 2 ^ shift ≡ x / d) ⌝ }
+    ensures { λ r. ⌜ (r .quotient ≡ x / d) × (r .rest ≡ x % d) ⌝ }
 {
-    let n = d.blocks;
-    if n == 2 {
-        scaled(2)
-    } else if n == 4 {
-        scaled(4)
-    } else if n == 6 {
-        scaled(6)
-    } else if n == 8 {
-        scaled(8)
-    } else if n == 12 {
-        scaled(12)
-    } else {
-        scaled(16)
+    let quotient = by_product(x, factor, shift);
+    QuotientAndRest {
+        quotient,
+        rest: x - quotient * d,
     }
 }
 
-// The block of a fuse.
-pub fn block_of_fuse(d: Device, f: u32) -> u32
-    requires { ⌜ (known d ≡ true) × (f < fuseCount d) ⌝ }
-    ensures { λ r. ⌜ r ≡ f / blockFuses d ⌝ }
+// The factor that divides the number of a fuse by the fuses of a block, with the shift 32.
+pub fn block_factor(d: Device) -> u64
+    requires { ⌜ known d ≡ true ⌝ }
+    ensures { λ r. ⌜ r ≡ 2 ^ 32 / blockFuses d + 1 ⌝ }
 {
-    ((f as u64 * reciprocal(d)) >> 34) as u32
+    let n = d.blocks;
+    match n {
+        2 => 473432,
+        4 => 414253,
+        6 => 368225,
+        8 => 331402,
+        12 => 276169,
+        _ => 236716,
+    }
 }

@@ -1,23 +1,23 @@
--- `address_of_fuse` meets its contract: the tests are the definition's, and a fuse below the count lies at a byte of the device.
+-- `address_of_fuse` meets its contract: the tests are the definition's, and a position has the address above its lowest three bits.
 -- Assumes nothing.
-use mathlib.Core.Path.{_≡_, _∙_}
+use mathlib.Core.Path.{_≡_, _∙_, ap}
 use mathlib.Core.Bool.{true, false}
-use Prim.Native.Nat.{ℕ, _-_, _/_, _%_, _<_, _≤_}
-use native.Mathlib.Nat.{le-of-lt}
+use Prim.Native.Nat.{ℕ, _+_, _*_, _/_, _%_, _<_, _≤_}
+use native.Mathlib.Nat.{div-lt-iff-lt-mul, mod-lt}
 use native.Mathlib.Omega.{arith}
+use lib.Arith.{digits-div, digits-mod}
 use borrow.Author.Needs.{needs}
 use borrow.Author.Tests.{lt-ltb, le-ltb}
 use Rattle.part.specs.Outcome.{Outcome}
 use Rattle.part.specs.Outcome.Outcome.{accepted, refused}
-use Rattle.part.specs.Device.{known, mainFuses, blockFuses, fuseCount}
-use Rattle.part.specs.Place.{hasPlace, hasByte, placeInMain, placeInWireAnd, placeOfFuse}
+use Rattle.part.specs.Device.{known, mainFuses, subareaFuses, blockFuses, fuseCount}
+use Rattle.part.specs.Place.{placeInBlock, placeOfFuse}
+use Rattle.part.specs.declared.Device.{Device}
+use Rattle.part.proofs.Facts.{compared}
+use Rattle.part.proofs.Devices.{is-known, is-unknown, blocks-small}
 use Rattle.addresses.specs.Address.{addressOfByte}
 use Rattle.addresses.specs.Convert.{addressOfFuse}
-use Rattle.part.specs.declared.Device.{Device}
-use Rattle.part.specs.declared.Place.{Place}
-use Rattle.part.proofs.Facts.{and-iff}
-use Rattle.part.proofs.Devices.{is-known, is-unknown}
-use Rattle.part.proofs.Fuses.{at-fuse, place-in-main, place-in-wire-and, in-subareas}
+use Rattle.addresses.proofs.Positions.{position, bit-small}
 use Rattle.addresses.proofs.address_of_fuse.Statement.{statement}
 use Rattle.addresses.proofs.address_of_fuse.Tie as tie
 
@@ -26,29 +26,47 @@ no-device : (d : Device) (fuse : ℕ) → known d ≡ false → refused 1 0 ≡ 
 unfolding addressOfFuse
 no-device d fuse h = rw h
 
-no-fuse : (d : Device) (fuse count : ℕ) → known d ≡ true → count ≡ fuseCount d → count ≤ fuse → refused 3 0 ≡ addressOfFuse d fuse
+no-fuse : (d : Device) (fuse : ℕ) → known d ≡ true → fuseCount d ≤ fuse → refused 3 0 ≡ addressOfFuse d fuse
 unfolding addressOfFuse
-no-fuse d fuse count k e h = rw (k, le-ltb fuse (fuseCount d) (omega arith))
+no-fuse d fuse k h = rw (k, le-ltb fuse (fuseCount d) h)
 
-below : (d : Device) (fuse count : ℕ) → count ≡ fuseCount d → fuse < count → fuse < fuseCount d
-below d fuse count e h = omega arith
+-- A fuse that the device has lies in a block of it, so a block past the last has none.
+block-inside : (d : Device) (fuse : ℕ) → known d ≡ true → fuse < fuseCount d → fuse / blockFuses d < d .blocks
+unfolding fuseCount
+block-inside d fuse k h = div-lt-iff-lt-mul {k = blockFuses d} {x = fuse} {y = d .blocks} (omega arith) .1 h
 
-its-byte : (d : Device) (fuse : ℕ) (p : Place) → p ≡ placeOfFuse d fuse → fuse < fuseCount d → hasByte d (p .byte) ≡ true
-unfolding hasPlace
-its-byte d fuse p e h = rw e (and-iff _ _ .0 (at-fuse d fuse h .0) .0)
+past-the-last : (d : Device) (fuse block n : ℕ) → known d ≡ true → n ≡ d .blocks → n ≤ block
+    → (fuse < fuseCount d → block ≡ fuse / blockFuses d) → fuseCount d ≤ fuse
+past-the-last d fuse block n k e h found =
+    compared fuse (fuseCount d)
+    (λ l. let outside : d .blocks ≤ fuse / blockFuses d = rw (← found l, ← e) h in absurd (omega (arith, block-inside d fuse k l)))
+    (λ g. g)
 
-module _ (d : Device) (fuse block rest : ℕ) (e : block ≡ fuse / blockFuses d) (g : rest ≡ fuse % blockFuses d) (p : Place)
-    (h : fuse < fuseCount d) where
-  main-byte : p ≡ placeInMain block rest → rest < mainFuses → hasByte d (p .byte) ≡ true
-  main-byte m l = its-byte d fuse p (place-in-main d fuse block rest e g p m l) h
+-- A block of the device has the fuse, and is its block.
+module _ (d : Device) (fuse block n : ℕ) (e : n ≡ d .blocks) (h : block < n) (has : block < d .blocks → fuse < fuseCount d) where
+  has-fuse : fuse < fuseCount d
+  has-fuse = has (omega arith)
 
-  wire-and-byte : p ≡ placeInWireAnd block (rest - mainFuses) → mainFuses ≤ rest → hasByte d (p .byte) ≡ true
-  wire-and-byte m l = its-byte d fuse p (place-in-wire-and d fuse block rest e g p m l) h
+  the-block : (fuse < fuseCount d → block ≡ fuse / blockFuses d) → block ≡ fuse / blockFuses d
+  the-block found = found has-fuse
 
-the-address : (d : Device) (fuse : ℕ) (p : Place) (o : Outcome (ℕ × ℕ)) → known d ≡ true → fuse < fuseCount d → p ≡ placeOfFuse d fuse
-    → o ≡ accepted (addressOfByte (p .byte), p .bit) → o ≡ addressOfFuse d fuse
-unfolding addressOfFuse
-the-address d fuse p o k h e g = g ∙ rw (k, lt-ltb fuse (fuseCount d) h, e)
+-- The block and what is left in it are small.
+block-small : (d : Device) (block n : ℕ) → known d ≡ true → n ≡ d .blocks → block < n → block < 16
+block-small d block n k e h = omega (arith, blocks-small d k)
+
+rest-small : (d : Device) (fuse rest : ℕ) → known d ≡ true → rest ≡ fuse % blockFuses d → rest < mainFuses + 16 * subareaFuses
+rest-small d fuse rest k e =
+    let inside : fuse % blockFuses d < blockFuses d = mod-lt fuse (omega arith) in omega (arith, blocks-small d k)
+
+the-address : (d : Device) (fuse block rest p : ℕ) → known d ≡ true → fuse < fuseCount d → block ≡ fuse / blockFuses d
+    → rest ≡ fuse % blockFuses d → p ≡ position (placeInBlock block rest)
+    → _≡_ {A = Outcome (ℕ × ℕ)} (accepted (p / 8, p % 8)) (addressOfFuse d fuse)
+unfolding addressOfFuse placeOfFuse
+the-address d fuse block rest p k h e g f =
+    let small = bit-small block rest in
+    let address : p / 8 ≡ addressOfByte (placeInBlock block rest .byte) = ap (λ (x : ℕ). x / 8) f ∙ digits-div _ small in
+    let bit : p % 8 ≡ placeInBlock block rest .bit = ap (λ (x : ℕ). x % 8) f ∙ digits-mod _ small in
+    rw (k, lt-ltb fuse (fuseCount d) h, address, bit, e, g)
 
 is-known-requires : tie.Need-is-known-requires
 is-known-requires c κs = search needs
@@ -56,32 +74,23 @@ is-known-requires c κs = search needs
 returns : tie.Need-returns
 returns c = search (needs, is-unknown, no-device)
 
-fuse-count-requires : tie.Need-fuse-count-requires
-fuse-count-requires c κs = search (needs, is-known)
+block-of-fuse-requires : tie.Need-block-of-fuse-requires
+block-of-fuse-requires c κs = search (needs, is-known)
+
+blocks-of-requires : tie.Need-blocks-of-requires
+blocks-of-requires c κs = search needs
 
 returns-2 : tie.Need-returns-2
-returns-2 c = search (needs, is-known, no-fuse, le-of-lt)
+returns-2 c = search (needs, is-known, no-fuse, past-the-last)
 
-block-and-rest-requires : tie.Need-block-and-rest-requires
-block-and-rest-requires c κs = search (needs, is-known, below)
+rest-in-block-requires : tie.Need-rest-in-block-requires
+rest-in-block-requires c κs = search (needs, is-known, the-block)
 
-main-place-requires : tie.Need-main-place-requires
-main-place-requires c κs = search needs
-
-address-and-bit-requires : tie.Need-address-and-bit-requires
-address-and-bit-requires c κs = search (needs, is-known, below, main-byte)
+position-in-block-requires : tie.Need-position-in-block-requires
+position-in-block-requires c κs = search (needs, is-known, block-small, rest-small)
 
 returns-3 : tie.Need-returns-3
-returns-3 c = search (needs, is-known, below, the-address, place-in-main)
-
-wire-and-place-requires : tie.Need-wire-and-place-requires
-wire-and-place-requires c κs = search (needs, is-known, in-subareas)
-
-address-and-bit-requires-2 : tie.Need-address-and-bit-requires-2
-address-and-bit-requires-2 c κs = search (needs, is-known, below, wire-and-byte)
-
-returns-4 : tie.Need-returns-4
-returns-4 c = search (needs, is-known, below, the-address, place-in-wire-and)
+returns-3 c = search (needs, is-known, has-fuse, the-block, the-address)
 
 pub address-of-fuse-spec : {M : Type 1} → statement M
 address-of-fuse-spec =
@@ -89,12 +98,9 @@ address-of-fuse-spec =
     (tie.spec
     is-known-requires
     returns
-    fuse-count-requires
+    block-of-fuse-requires
+    blocks-of-requires
     returns-2
-    block-and-rest-requires
-    main-place-requires
-    address-and-bit-requires
-    returns-3
-    wire-and-place-requires
-    address-and-bit-requires-2
-    returns-4)
+    rest-in-block-requires
+    position-in-block-requires
+    returns-3)

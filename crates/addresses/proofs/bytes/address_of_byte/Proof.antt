@@ -40,14 +40,8 @@ in-wire-and c =
 enum-known-byte : tie.Need-enum-known-byte
 enum-known-byte c = search needs
 
-quotient-requires : tie.Need-quotient-requires
-quotient-requires c κs = omega (arith, in-main (c .before))
-
-mul-with-field : tie.Need-mul-with-field
-mul-with-field c = omega (arith, in-main (c .before .before))
-
-sub-with-field : tie.Need-sub-with-field
-sub-with-field c = omega (arith, in-main (c .before .before))
+divided-requires : tie.Need-divided-requires
+divided-requires c κs = omega (arith, in-main (c .before))
 
 with-field-requires : tie.Need-with-field-requires
 with-field-requires c κs = omega (arith, in-main (c .before .before))
@@ -87,9 +81,7 @@ address-of-byte-spec =
     tie.close
     (tie.spec
     enum-known-byte
-    quotient-requires
-    mul-with-field
-    sub-with-field
+    divided-requires
     with-field-requires
     with-field-requires-2
     with-field-requires-3
