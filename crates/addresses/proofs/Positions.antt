@@ -1,14 +1,15 @@
 -- Positions of fuses: the address of a byte times 8, plus a bit. What the rows add to it, and what fields add up to.
 -- Assumes nothing.
-use mathlib.Core.Path.{_≡_}
+use mathlib.Core.Path.{_≡_, refl}
 use Prim.Native.Nat.{ℕ, _+_, _*_, _-_, _/_, _%_, _^_, _<_, _≤_}
 use native.Mathlib.Omega.{arith}
 use native.Mathlib.Nat.{mod-lt}
 use borrow.Author.Tests.{lt-ltb, le-ltb}
-use Rattle.part.specs.Device.{mainFuses}
+use Rattle.part.specs.Device.{mainFuses, subareaFuses}
 use Rattle.part.specs.Place.{columnInRow, bitInRow, placeInBlock}
 use Rattle.part.specs.declared.Place.{Place}
 use Rattle.part.proofs.Facts.{compared, by-cases}
+use Rattle.part.proofs.Portions.{in-portion, subarea-of}
 use Rattle.addresses.specs.Address.{addressOfByte}
 
 -- The position of a place.
@@ -61,12 +62,18 @@ pub main-composed : (block rest row left low high r : ℕ) → rest < mainFuses 
     → high ≡ row * 2 ^ 8 + low → r ≡ block * 2 ^ 16 + high → r ≡ position (placeInBlock block rest)
 main-composed block rest row left low high r l er el e eh h = rw (lt-ltb rest 7776 l, ← el, ← er) (omega arith)
 
-pub wire-and-composed : (block rest past subarea row left low rows area r : ℕ) → mainFuses ≤ rest → past ≡ rest - mainFuses
-    → subarea ≡ past / 648 → row ≡ past % 648 / 36 → left ≡ past % 648 % 36 → low ≡ inWireAndRow left
-    → rows ≡ (subarea * 32 + row) * 2 ^ 6 + low → area ≡ 1 * 2 ^ 15 + rows → r ≡ block * 2 ^ 16 + area
-    → r ≡ position (placeInBlock block rest)
-wire-and-composed block rest past subarea row left low rows area r g ep es er el e eo ea h =
-    rw (le-ltb rest 7776 g, ← ep, ← el, ← er, ← es) (omega arith)
+pub wire-and-composed : (block f before portion row left low rows numbered area r : ℕ) → mainFuses ≤ f - before * subareaFuses
+    → portion ≡ f / subareaFuses → row ≡ f % subareaFuses / 36 → left ≡ f % subareaFuses % 36 → low ≡ inWireAndRow left
+    → rows ≡ row * 2 ^ 6 + low → numbered ≡ (portion - before - 12) * 2 ^ 11 + rows → area ≡ 1 * 2 ^ 15 + numbered
+    → r ≡ block * 2 ^ 16 + area → r ≡ position (placeInBlock block (f - before * subareaFuses))
+wire-and-composed block f before portion row left low rows numbered area r g ep er el e eo en ea h =
+    rw (
+      le-ltb (f - before * 648) 7776 g,
+      in-portion f before _ g refl,
+      subarea-of f before _ g refl portion ep,
+      ← el,
+      ← er,
+    ) (omega arith)
 
 -- A bit of a byte is below 8.
 row-bit-small : (wide narrow x : ℕ) → 0 < narrow → narrow ≤ 8 → bitInRow wide narrow x < 8

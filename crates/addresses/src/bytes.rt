@@ -2,20 +2,22 @@
 // For the crates above: a function here may require that the device is known and has the byte.
 ghost use mathlib.Core.Path.{_≡_};
 ghost use mathlib.Core.Bool.{true};
-ghost use Prim.Native.Nat.{_+_, _*_, _/_, _%_, _^_, _<_};
+ghost use Prim.Native.Nat.{_+_, _*_, _-_, _/_, _%_, _^_, _<_, _≤_};
 ghost use Rattle.part.specs.Device.{known, mainRowFuses, mainFuses, wireAndRowFuses, subareaFuses};
 ghost use Rattle.part.specs.Place.{hasByte, columnInRow, bitInRow, placeInBlock};
 ghost use Rattle.addresses.specs.Address.{field, addressOfByte, byteOfAddress, indexOfByte};
 use super::DeviceAddress;
 use part::BytePlace;
 use part::Device;
+use part::FuseNumber;
 use part::geometry::MAIN_BYTES;
 use part::geometry::MAIN_COLUMNS;
-use part::geometry::MAIN_FUSES;
+use part::geometry::MAIN_PORTIONS;
 use part::geometry::SUBAREA_BYTES;
 use part::geometry::WIRE_AND_COLUMNS;
 use part::geometry::in_block;
 use part::places::main_row;
+use part::places::portion_of_fuse;
 use part::places::wire_and_row;
 use part::quotients::divided;
 
@@ -47,7 +49,7 @@ pub fn address_of_byte(d: Device, byte: BytePlace) -> DeviceAddress
 {
     match byte {
         BytePlace::Main { block, row, column } => {
-            let third = divided(column, 5, 13, 6);
+            let third = divided(column, 5, 52, 8);
             let columns = with_field(third.rest, 3, third.quotient);
             let rows = with_field(columns, 5, row);
             let area = with_field(rows, 12, 0);
@@ -96,24 +98,24 @@ fn position_in_wire_and_row(rest: u32) -> u32
     8 + at.quotient * 8 + at.rest
 }
 
-// The position of a fuse, by its block and the fuses of the block before it.
-pub fn position_in_block(block: u32, rest: u32) -> u32
-    requires { ⌜ (block < 16) × (rest < mainFuses + 16 * subareaFuses) ⌝ }
-    ensures { λ r. ⌜ r ≡ addressOfByte (placeInBlock block rest .byte) * 8 + placeInBlock block rest .bit ⌝ }
+// The position of a fuse, by its block and the portions before the block.
+pub fn position_of_fuse(block: u32, fuse: FuseNumber, before: u32) -> u32
+    requires { ⌜ (block < 16) × (fuse .0 < 2 ^ 19) × (before * subareaFuses ≤ fuse .0)
+        × (fuse .0 - before * subareaFuses < mainFuses + 16 * subareaFuses) ⌝ }
+    ensures { λ r. ⌜ r ≡ addressOfByte (placeInBlock block (fuse .0 - before * subareaFuses) .byte) * 8
+        + placeInBlock block (fuse .0 - before * subareaFuses) .bit ⌝ }
 {
-    if rest < MAIN_FUSES {
-        let at = main_row(rest);
+    let portion = portion_of_fuse(fuse);
+    let in_block = portion - before;
+    if in_block < MAIN_PORTIONS {
+        let at = main_row(fuse, before);
         let row = with_field(position_in_main_row(at.rest), 8, at.quotient);
         return with_field(row, 16, block);
     }
-    // The subarea and the row are one field, 32 times the one plus the other.
-    let at = wire_and_row(rest - MAIN_FUSES);
-    let row = with_field(
-        position_in_wire_and_row(at.rest),
-        6,
-        at.subarea * 32 + at.row,
-    );
-    let area = with_field(row, 15, 1);
+    let at = wire_and_row(fuse, portion);
+    let row = with_field(position_in_wire_and_row(at.rest), 6, at.quotient);
+    let subarea = with_field(row, 11, in_block - MAIN_PORTIONS);
+    let area = with_field(subarea, 15, 1);
     with_field(area, 16, block)
 }
 

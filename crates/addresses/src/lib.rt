@@ -33,8 +33,8 @@ pub fn address_of_fuse(d: Device, fuse: FuseNumber) -> AddressAnswer
     if part::geometry::blocks_of(d) <= block {
         return AddressAnswer::Refused(Refusal::NoSuchFuse);
     }
-    let rest = part::places::rest_in_block(d, fuse, block);
-    let position = bytes::position_in_block(block, rest);
+    let before = part::places::portions_before(d, block);
+    let position = bytes::position_of_fuse(block, fuse, before);
     AddressAnswer::At(DeviceAddress(position / 8), position % 8)
 }
 

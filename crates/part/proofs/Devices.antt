@@ -118,12 +118,12 @@ module _ (d : Device) (f r b : ℕ) (h : known d ≡ true) (e : r ≡ 2 ^ 32 / i
       (λ m. omega arith) (λ m. omega arith) (λ m. omega arith) (λ m. omega arith) (d .blocks) (known-count d h) (rw (← e, ← g) l)
 
 -- What a quotient leaves, as of a fuse in its block.
-module _ (f b p q : ℕ) (e : b ≡ f / q) (g : p ≡ q) where
-  pub times-fits : b * p ≤ f
-  times-fits = let w : f / q * q + f % q ≡ f = div-add-mod' f q in rw (e, g) (omega arith)
+module _ (f b q : ℕ) (e : b ≡ f / q) where
+  pub times-fits : b * q ≤ f
+  times-fits = let w : f / q * q + f % q ≡ f = div-add-mod' f q in rw e (omega arith)
 
-  pub times-small : f < 2 ^ 32 → b * p < 2 ^ 32
+  pub times-small : f < 2 ^ 32 → b * q < 2 ^ 32
   times-small l = omega (arith, times-fits)
 
-  pub left-over : f - b * p ≡ f % q
-  left-over = let w : f / q * q + f % q ≡ f = div-add-mod' f q in rw (e, g) (omega arith)
+  pub left-over : f - b * q ≡ f % q
+  left-over = let w : f / q * q + f % q ≡ f = div-add-mod' f q in rw e (omega arith)

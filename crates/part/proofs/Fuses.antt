@@ -8,14 +8,13 @@ use native.Mathlib.Nat.{div-lt-iff-lt-mul, div-add-mod', mod-lt}
 use lib.Arith.{digits-div, digits-mod, digits-lt}
 use lib.Dec.{ltb}
 use borrow.Author.Tests.{lt-ltb, le-ltb}
-use Rattle.part.specs.Device.{known, fuseCount, blockFuses, mainFuses, subareaFuses, mainStart, wireAndStart}
+use Rattle.part.specs.Device.{fuseCount, blockFuses, mainFuses, subareaFuses, mainStart, wireAndStart}
 use Rattle.part.specs.Place.{hasPlace, hasByte, widthOf, fuseOfPlace, placeInMain, placeInWireAnd, placeInBlock, placeOfFuse}
 use Rattle.part.specs.declared.Device.{Device}
 use Rattle.part.specs.declared.Place.{Place}
 use Rattle.part.specs.declared.BytePlace.{BytePlace}
 use Rattle.part.specs.declared.BytePlace.the-variants.{Main, WireAnd}
 use Rattle.part.proofs.Facts.{by-cases, tests}
-use Rattle.part.proofs.Devices.{blocks-small}
 use Rattle.part.proofs.Rows.{split-row, in-row, join-row}
 
 -- A fuse below the count lies at a place that the device has, and its number is that place's.
@@ -106,6 +105,3 @@ module _ (d : Device) (f block rest : ℕ) (e : block ≡ f / blockFuses d) (g :
   pub place-in-wire-and : p ≡ placeInWireAnd block (rest - mainFuses) → mainFuses ≤ rest → p ≡ placeOfFuse d f
   unfolding placeOfFuse
   place-in-wire-and h l = h ∙ rw (← e, ← g, le-ltb rest mainFuses l)
-
-pub in-subareas : (d : Device) (f rest : ℕ) → known d ≡ true → rest ≡ f % blockFuses d → rest - mainFuses < 16 * subareaFuses
-in-subareas d f rest k g = let small : f % blockFuses d < blockFuses d = mod-lt f (omega arith) in omega (arith, blocks-small d k)

@@ -6,6 +6,7 @@ pub mod Sums
 pub mod Rows
 pub mod Fuses
 pub mod Devices
+pub mod Portions
 pub mod Checks
 pub mod Targets
 pub mod Laws

@@ -26,6 +26,12 @@ pub const MAIN_FUSES: u32 = MAIN_ROWS * MAIN_ROW_FUSES;
 
 pub const SUBAREA_FUSES: u32 = WIRE_AND_ROWS * WIRE_AND_ROW_FUSES;
 
+// A portion is as many fuses as a subarea has, and six main rows have as many: the main area of a block is twelve
+// portions. So a row of a portion, and what is left in a row, do not depend on the block.
+pub const PORTION_ROWS: u32 = 6;
+
+pub const MAIN_PORTIONS: u32 = 12;
+
 // The bytes of an area in an image, in a readout, and of its lines in a text.
 pub const MAIN_IMAGE_BYTES: u32 = MAIN_FUSES / 8;
 

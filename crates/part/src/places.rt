@@ -13,8 +13,10 @@ use super::FuseNumber;
 use super::Place;
 use super::geometry::MAIN_COLUMNS;
 use super::geometry::MAIN_FUSES;
+use super::geometry::MAIN_PORTIONS;
 use super::geometry::MAIN_ROW_FUSES;
 use super::geometry::MAIN_ROWS;
+use super::geometry::PORTION_ROWS;
 use super::geometry::SUBAREA_FUSES;
 use super::geometry::WIRE_AND_COLUMNS;
 use super::geometry::WIRE_AND_ROW_FUSES;
@@ -143,29 +145,42 @@ pub fn block_of_fuse(d: Device, fuse: FuseNumber) -> u32
     by_product(fuse.0, block_factor(d), 32)
 }
 
-// What is left of a fuse in its block.
-pub fn rest_in_block(d: Device, fuse: FuseNumber, block: u32) -> u32
-    requires { ⌜ (known d ≡ true) × (block ≡ fuse .0 / blockFuses d) ⌝ }
-    ensures { λ r. ⌜ r ≡ fuse .0 % blockFuses d ⌝ }
+// The portions of the blocks before a block.
+pub fn portions_before(d: Device, block: u32) -> u32
+    requires { ⌜ (known d ≡ true) × (block < 16) ⌝ }
+    ensures { λ r. ⌜ r * subareaFuses ≡ block * blockFuses d ⌝ }
 {
-    let per_block = in_block(d, MAIN_FUSES, SUBAREA_FUSES);
-    fuse.0 - block * per_block
+    let per_block = in_block(d, MAIN_PORTIONS, 1);
+    block * per_block
 }
 
-// The row of a fuse in the main area of a block, and what is left in it.
-pub fn main_row(rest: u32) -> QuotientAndRest
-    requires { ⌜ rest < mainFuses ⌝ }
-    ensures { λ r. ⌜ (r .quotient ≡ rest / mainRowFuses) × (r .rest ≡ rest % mainRowFuses) ⌝ }
+// The portion of a fuse, counted from the first of the part.
+pub fn portion_of_fuse(fuse: FuseNumber) -> u32
+    requires { ⌜ fuse .0 < 2 ^ 19 ⌝ }
+    ensures { λ r. ⌜ r ≡ fuse .0 / subareaFuses ⌝ }
 {
-    divided(rest, MAIN_ROW_FUSES, 4855, 19)
+    by_product(fuse.0, 6628036, 32)
+}
+
+// The row of a fuse in the main area of its block, and what is left in it.
+pub fn main_row(fuse: FuseNumber, before: u32) -> QuotientAndRest
+    requires { ⌜ (fuse .0 < 2 ^ 19) × (before * subareaFuses ≤ fuse .0) ⌝ }
+    ensures { λ r. ⌜ (r .quotient ≡ (fuse .0 - before * subareaFuses) / mainRowFuses)
+        × (r .rest ≡ (fuse .0 - before * subareaFuses) % mainRowFuses) ⌝ }
+{
+    let at = divided(fuse.0, MAIN_ROW_FUSES, 39768216, 32);
+    QuotientAndRest {
+        quotient: at.quotient - before * PORTION_ROWS,
+        rest: at.rest,
+    }
 }
 
 // The place of a fuse in the main area of a block.
-fn main_place(block: u32, rest: u32) -> Place
-    requires { ⌜ rest < mainFuses ⌝ }
-    ensures { λ r. ⌜ r ≡ placeInMain block rest ⌝ }
+fn main_place(block: u32, fuse: FuseNumber, before: u32) -> Place
+    requires { ⌜ (fuse .0 < 2 ^ 19) × (before * subareaFuses ≤ fuse .0) ⌝ }
+    ensures { λ r. ⌜ r ≡ placeInMain block (fuse .0 - before * subareaFuses) ⌝ }
 {
-    let row = main_row(rest);
+    let row = main_row(fuse, before);
     let at = column_and_bit(9, 6, 43, row.rest);
     Place {
         byte: BytePlace::Main {
@@ -177,40 +192,32 @@ fn main_place(block: u32, rest: u32) -> Place
     }
 }
 
-// Where a fuse lies in the subareas of a block: the subarea, the row in it, and what is left in the row.
-pub struct WireAndRow {
-    pub subarea: u32,
-    pub row: u32,
-    pub rest: u32,
-}
-
-// The subarea and the row of a fuse. The rows of all subareas are counted on, and then divided by those of one.
-pub fn wire_and_row(rest: u32) -> WireAndRow
-    requires { ⌜ rest < 16 * subareaFuses ⌝ }
-    ensures { λ r. ⌜ (r .subarea ≡ rest / subareaFuses) × (r .row ≡ rest % subareaFuses / wireAndRowFuses)
-        × (r .rest ≡ rest % subareaFuses % wireAndRowFuses) ⌝ }
+// The row of a fuse in its subarea, which is its portion, and what is left in it.
+pub fn wire_and_row(fuse: FuseNumber, portion: u32) -> QuotientAndRest
+    requires { ⌜ (fuse .0 < 2 ^ 19) × (portion ≡ fuse .0 / subareaFuses) ⌝ }
+    ensures { λ r. ⌜ (r .quotient ≡ fuse .0 % subareaFuses / wireAndRowFuses)
+        × (r .rest ≡ fuse .0 % subareaFuses % wireAndRowFuses) ⌝ }
 {
-    let at = divided(rest, WIRE_AND_ROW_FUSES, 58255, 21);
-    let row = divided(at.quotient, WIRE_AND_ROWS, 57, 10);
-    WireAndRow {
-        subarea: row.quotient,
-        row: row.rest,
+    let at = divided(fuse.0, WIRE_AND_ROW_FUSES, 119304648, 32);
+    QuotientAndRest {
+        quotient: at.quotient - portion * WIRE_AND_ROWS,
         rest: at.rest,
     }
 }
 
 // The place of a fuse in the subareas of a block.
-fn wire_and_place(block: u32, rest: u32) -> Place
-    requires { ⌜ rest < 16 * subareaFuses ⌝ }
-    ensures { λ r. ⌜ r ≡ placeInWireAnd block rest ⌝ }
+fn wire_and_place(block: u32, fuse: FuseNumber, before: u32, portion: u32) -> Place
+    requires { ⌜ (fuse .0 < 2 ^ 19) × (portion ≡ fuse .0 / subareaFuses)
+        × (mainFuses ≤ fuse .0 - before * subareaFuses) ⌝ }
+    ensures { λ r. ⌜ r ≡ placeInWireAnd block (fuse .0 - before * subareaFuses - mainFuses) ⌝ }
 {
-    let row = wire_and_row(rest);
+    let row = wire_and_row(fuse, portion);
     let at = column_and_bit(1, 7, 37, row.rest);
     Place {
         byte: BytePlace::WireAnd {
             block,
-            subarea: row.subarea,
-            row: row.row,
+            subarea: portion - before - MAIN_PORTIONS,
+            row: row.quotient,
             column: at.column,
         },
         bit: at.bit,
@@ -222,9 +229,10 @@ pub fn place_of_fuse(d: Device, fuse: FuseNumber) -> Place
     ensures { λ r. ⌜ r ≡ placeOfFuse d (fuse .0) ⌝ }
 {
     let block = block_of_fuse(d, fuse);
-    let rest = rest_in_block(d, fuse, block);
-    if rest < MAIN_FUSES {
-        return main_place(block, rest);
+    let before = portions_before(d, block);
+    let portion = portion_of_fuse(fuse);
+    if portion - before < MAIN_PORTIONS {
+        return main_place(block, fuse, before);
     }
-    wire_and_place(block, rest - MAIN_FUSES)
+    wire_and_place(block, fuse, before, portion)
 }

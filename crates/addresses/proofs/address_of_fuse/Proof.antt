@@ -2,8 +2,8 @@
 -- Assumes nothing.
 use mathlib.Core.Path.{_≡_, _∙_, ap}
 use mathlib.Core.Bool.{true, false}
-use Prim.Native.Nat.{ℕ, _+_, _*_, _/_, _%_, _<_, _≤_}
-use native.Mathlib.Nat.{div-lt-iff-lt-mul, mod-lt}
+use Prim.Native.Nat.{ℕ, _+_, _*_, _-_, _/_, _%_, _<_, _≤_}
+use native.Mathlib.Nat.{mod-lt}
 use native.Mathlib.Omega.{arith}
 use lib.Arith.{digits-div, digits-mod}
 use borrow.Author.Needs.{needs}
@@ -15,6 +15,7 @@ use Rattle.part.specs.Place.{placeInBlock, placeOfFuse}
 use Rattle.part.specs.declared.Device.{Device}
 use Rattle.part.proofs.Facts.{compared}
 use Rattle.part.proofs.Devices.{is-known, is-unknown, blocks-small}
+use Rattle.part.proofs.Portions.{block-inside, block-small, fuse-small, before-fits, left-in-block}
 use Rattle.addresses.specs.Address.{addressOfByte}
 use Rattle.addresses.specs.Convert.{addressOfFuse}
 use Rattle.addresses.proofs.Positions.{position, bit-small}
@@ -31,10 +32,6 @@ unfolding addressOfFuse
 no-fuse d fuse k h = rw (k, le-ltb fuse (fuseCount d) h)
 
 -- A fuse that the device has lies in a block of it, so a block past the last has none.
-block-inside : (d : Device) (fuse : ℕ) → known d ≡ true → fuse < fuseCount d → fuse / blockFuses d < d .blocks
-unfolding fuseCount
-block-inside d fuse k h = div-lt-iff-lt-mul {k = blockFuses d} {x = fuse} {y = d .blocks} (omega arith) .1 h
-
 past-the-last : (d : Device) (fuse block n : ℕ) → known d ≡ true → n ≡ d .blocks → n ≤ block
     → (fuse < fuseCount d → block ≡ fuse / blockFuses d) → fuseCount d ≤ fuse
 past-the-last d fuse block n k e h found =
@@ -50,22 +47,21 @@ module _ (d : Device) (fuse block n : ℕ) (e : n ≡ d .blocks) (h : block < n)
   the-block : (fuse < fuseCount d → block ≡ fuse / blockFuses d) → block ≡ fuse / blockFuses d
   the-block found = found has-fuse
 
--- The block and what is left in it are small.
-block-small : (d : Device) (block n : ℕ) → known d ≡ true → n ≡ d .blocks → block < n → block < 16
-block-small d block n k e h = omega (arith, blocks-small d k)
-
-rest-small : (d : Device) (fuse rest : ℕ) → known d ≡ true → rest ≡ fuse % blockFuses d → rest < mainFuses + 16 * subareaFuses
-rest-small d fuse rest k e =
+-- What is left of the fuse in its block is small.
+rest-small : (d : Device) (fuse before : ℕ) → known d ≡ true → fuse - before * subareaFuses ≡ fuse % blockFuses d
+    → fuse - before * subareaFuses < mainFuses + 16 * subareaFuses
+rest-small d fuse before k e =
     let inside : fuse % blockFuses d < blockFuses d = mod-lt fuse (omega arith) in omega (arith, blocks-small d k)
 
-the-address : (d : Device) (fuse block rest p : ℕ) → known d ≡ true → fuse < fuseCount d → block ≡ fuse / blockFuses d
-    → rest ≡ fuse % blockFuses d → p ≡ position (placeInBlock block rest)
+the-address : (d : Device) (fuse block before p : ℕ) → known d ≡ true → fuse < fuseCount d → block ≡ fuse / blockFuses d
+    → fuse - before * subareaFuses ≡ fuse % blockFuses d → p ≡ position (placeInBlock block (fuse - before * subareaFuses))
     → _≡_ {A = Outcome (ℕ × ℕ)} (accepted (p / 8, p % 8)) (addressOfFuse d fuse)
 unfolding addressOfFuse placeOfFuse
-the-address d fuse block rest p k h e g f =
-    let small = bit-small block rest in
-    let address : p / 8 ≡ addressOfByte (placeInBlock block rest .byte) = ap (λ (x : ℕ). x / 8) f ∙ digits-div _ small in
-    let bit : p % 8 ≡ placeInBlock block rest .bit = ap (λ (x : ℕ). x % 8) f ∙ digits-mod _ small in
+the-address d fuse block before p k h e g f =
+    let small = bit-small block (fuse - before * subareaFuses) in
+    let place = placeInBlock block (fuse - before * subareaFuses) in
+    let address : p / 8 ≡ addressOfByte (place .byte) = ap (λ (x : ℕ). x / 8) f ∙ digits-div _ small in
+    let bit : p % 8 ≡ place .bit = ap (λ (x : ℕ). x % 8) f ∙ digits-mod _ small in
     rw (k, lt-ltb fuse (fuseCount d) h, address, bit, e, g)
 
 is-known-requires : tie.Need-is-known-requires
@@ -83,14 +79,21 @@ blocks-of-requires c κs = search needs
 returns-2 : tie.Need-returns-2
 returns-2 c = search (needs, is-known, no-fuse, past-the-last)
 
-rest-in-block-requires : tie.Need-rest-in-block-requires
-rest-in-block-requires c κs = search (needs, is-known, the-block)
+-- What is known where the block is one of the device: the device, that it has the fuse, and that this is its block.
+found : (c : tie.Else2)
+    → let start = c .before .before .before .before .before .args in
+    (known (start .d) ≡ true) × (start .fuse .0 < fuseCount (start .d))
+    × (c .before .before .block-of-fuse .result ≡ start .fuse .0 / blockFuses (start .d))
+found c = search (needs, is-known, has-fuse, the-block)
 
-position-in-block-requires : tie.Need-position-in-block-requires
-position-in-block-requires c κs = search (needs, is-known, block-small, rest-small)
+portions-before-requires : tie.Need-portions-before-requires
+portions-before-requires c κs = search (needs, found c, block-small)
+
+position-of-fuse-requires : tie.Need-position-of-fuse-requires
+position-of-fuse-requires c κs = search (needs, found (c .before), block-small, fuse-small, before-fits, left-in-block, rest-small)
 
 returns-3 : tie.Need-returns-3
-returns-3 c = search (needs, is-known, has-fuse, the-block, the-address)
+returns-3 c = search (needs, found (c .before .before), left-in-block, the-address)
 
 pub address-of-fuse-spec : {M : Type 1} → statement M
 address-of-fuse-spec =
@@ -101,6 +104,6 @@ address-of-fuse-spec =
     block-of-fuse-requires
     blocks-of-requires
     returns-2
-    rest-in-block-requires
-    position-in-block-requires
+    portions-before-requires
+    position-of-fuse-requires
     returns-3)

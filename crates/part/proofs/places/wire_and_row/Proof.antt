@@ -1,4 +1,4 @@
--- `wire_and_row` meets its contract: both products are quotients, for every fuse of sixteen subareas.
+-- `wire_and_row` meets its contract: the product is the quotient for every fuse, and a portion is eighteen rows.
 -- Assumes nothing.
 use native.Mathlib.Omega.{arith}
 use borrow.Author.Needs.{needs}
@@ -8,11 +8,14 @@ use Rattle.part.proofs.places.wire_and_row.Tie as tie
 divided-requires : tie.Need-divided-requires
 divided-requires c κs = (omega arith, omega arith, omega arith)
 
-divided-requires-2 : tie.Need-divided-requires-2
-divided-requires-2 c κs = (omega arith, omega arith, omega arith)
+mul-t4 : tie.Need-mul-t4
+mul-t4 c = search needs
+
+sub-t5 : tie.Need-sub-t5
+sub-t5 c = search needs
 
 returns : tie.Need-returns
 returns c = search needs
 
 pub wire-and-row-spec : {M : Type 1} → statement M
-wire-and-row-spec = tie.close (tie.spec divided-requires divided-requires-2 returns)
+wire-and-row-spec = tie.close (tie.spec divided-requires mul-t4 sub-t5 returns)

@@ -1,11 +1,18 @@
--- `position_in_block` meets its contract: each part of a place fits its field, so the fields add up.
+-- `position_of_fuse` meets its contract: each part of a place fits its field, so the fields add up.
 -- Assumes nothing.
 use Prim.Native.Nat.{_^_, _<_}
 use native.Mathlib.Omega.{arith}
 use borrow.Author.Needs.{needs}
+use Rattle.part.proofs.Portions.{in-main-area, behind-main-area}
 use Rattle.addresses.proofs.Positions.{main-fits, wire-and-fits, main-composed, wire-and-composed}
-use Rattle.addresses.proofs.bytes.position_in_block.Statement.{statement}
-use Rattle.addresses.proofs.bytes.position_in_block.Tie as tie
+use Rattle.addresses.proofs.bytes.position_of_fuse.Statement.{statement}
+use Rattle.addresses.proofs.bytes.position_of_fuse.Tie as tie
+
+portion-of-fuse-requires : tie.Need-portion-of-fuse-requires
+portion-of-fuse-requires c κs = search needs
+
+sub-in-block : tie.Need-sub-in-block
+sub-in-block c = search needs
 
 main-row-requires : tie.Need-main-row-requires
 main-row-requires c κs = search needs
@@ -23,7 +30,7 @@ with-field-requires-2 : tie.Need-with-field-requires-2
 with-field-requires-2 c κs = omega (arith, low-in-main (c .before))
 
 returns : tie.Need-returns
-returns c = search (needs, main-composed)
+returns c = search (needs, in-main-area, main-composed)
 
 wire-and-row-requires : tie.Need-wire-and-row-requires
 wire-and-row-requires c κs = search needs
@@ -34,28 +41,27 @@ position-in-wire-and-row-requires c κs = search needs
 low-in-wire-and : (c : tie.After-position-in-wire-and-row) → c .position-in-wire-and-row .result < 2 ^ 6
 low-in-wire-and c = wire-and-fits (c .before .wire-and-row .result .rest) _ (omega arith) (c .position-in-wire-and-row .ensures)
 
-mul-with-field : tie.Need-mul-with-field
-mul-with-field c = search needs
-
-add-with-field : tie.Need-add-with-field
-add-with-field c = search needs
-
 with-field-requires-3 : tie.Need-with-field-requires-3
-with-field-requires-3 c κs = omega (arith, low-in-wire-and (c .before .before))
+with-field-requires-3 c κs = omega (arith, low-in-wire-and c)
 
 with-field-requires-4 : tie.Need-with-field-requires-4
-with-field-requires-4 c κs = omega (arith, low-in-wire-and (c .before .before .before))
+with-field-requires-4 c κs = omega (arith, low-in-wire-and (c .before))
 
 with-field-requires-5 : tie.Need-with-field-requires-5
-with-field-requires-5 c κs = omega (arith, low-in-wire-and (c .before .before .before .before))
+with-field-requires-5 c κs = omega (arith, low-in-wire-and (c .before .before))
+
+with-field-requires-6 : tie.Need-with-field-requires-6
+with-field-requires-6 c κs = omega (arith, low-in-wire-and (c .before .before .before))
 
 returns-2 : tie.Need-returns-2
-returns-2 c = search (needs, wire-and-composed)
+returns-2 c = search (needs, behind-main-area, wire-and-composed)
 
-pub position-in-block-spec : {M : Type 1} → statement M
-position-in-block-spec =
+pub position-of-fuse-spec : {M : Type 1} → statement M
+position-of-fuse-spec =
     tie.close
     (tie.spec
+    portion-of-fuse-requires
+    sub-in-block
     main-row-requires
     position-in-main-row-requires
     with-field-requires
@@ -63,9 +69,8 @@ position-in-block-spec =
     returns
     wire-and-row-requires
     position-in-wire-and-row-requires
-    mul-with-field
-    add-with-field
     with-field-requires-3
     with-field-requires-4
     with-field-requires-5
+    with-field-requires-6
     returns-2)
