@@ -3,5 +3,5 @@
 pub mod ByteAddresses
 pub mod Conversions
 pub mod Readouts
-pub mod Laws
 mod Positions
+pub mod Laws

@@ -1,5 +1,5 @@
-// The address of a byte, composed of its fields, the byte that an address names, and the index of a byte in a readout.
-// For the crates above: a function here may require that the device is known and has the byte.
+// The address of a byte, composed of its fields; the byte of an address, the position of a fuse, the index of a byte.
+// For the crates above: a function here may require that the device has the byte, or that its numbers are small.
 ghost use mathlib.Core.Path.{_≡_};
 ghost use mathlib.Core.Bool.{true};
 ghost use Prim.Native.Nat.{_+_, _*_, _-_, _/_, _%_, _^_, _<_, _≤_};
@@ -19,6 +19,8 @@ use part::geometry::in_block;
 use part::places::main_row;
 use part::places::portion_of_fuse;
 use part::places::wire_and_row;
+use part::quotients::MAIN_COLUMN_FACTOR;
+use part::quotients::WIRE_AND_COLUMN_FACTOR;
 use part::quotients::divided;
 
 // Where the columns 5 and 10 of a main row begin: 40 and 78 bits.
@@ -69,9 +71,10 @@ pub fn address_of_byte(d: Device, byte: BytePlace) -> DeviceAddress
     }
 }
 
-// The position of a fuse is the address of its byte times 8, plus its bit: one number, so that a fuse is found without
-// its column. What a main row adds to it, which is cut where five columns after five begin: the first five have 40
-// bits, the next 38, of which 32 are four columns of 8, and the last 30.
+// The position of a fuse is the address of its byte times 8, plus its bit: one number, so that most fuses are found
+// without their column. What a main row adds to it, which is cut where five columns after five begin: the first five
+// have 40 bits, the next 38, of which 32 are four columns of 8, and the last 30. In their row columns 5 and 10 have the
+// addresses 8 and 16.
 fn position_in_main_row(rest: u32) -> u32
     requires { ⌜ rest < mainRowFuses ⌝ }
     ensures { λ r. ⌜ r ≡ (columnInRow 9 6 rest / 5 * 2 ^ 3 + columnInRow 9 6 rest % 5) * 8 + bitInRow 9 6 rest ⌝ }
@@ -82,7 +85,7 @@ fn position_in_main_row(rest: u32) -> u32
     if rest < COLUMN_10 {
         return 8 * 8 + (rest - COLUMN_5);
     }
-    let at = divided(rest - COLUMN_10, 6, 43, 8);
+    let at = divided(rest - COLUMN_10, 6, MAIN_COLUMN_FACTOR, 8);
     16 * 8 + at.quotient * 8 + at.rest
 }
 
@@ -94,7 +97,7 @@ fn position_in_wire_and_row(rest: u32) -> u32
     if rest < 8 {
         return rest;
     }
-    let at = divided(rest - 8, 7, 37, 8);
+    let at = divided(rest - 8, 7, WIRE_AND_COLUMN_FACTOR, 8);
     8 + at.quotient * 8 + at.rest
 }
 
@@ -106,15 +109,15 @@ pub fn position_of_fuse(block: u32, fuse: FuseNumber, before: u32) -> u32
         + placeInBlock block (fuse .0 - before * subareaFuses) .bit ⌝ }
 {
     let portion = portion_of_fuse(fuse);
-    let in_block = portion - before;
-    if in_block < MAIN_PORTIONS {
+    let portion_in_block = portion - before;
+    if portion_in_block < MAIN_PORTIONS {
         let at = main_row(fuse, before);
         let row = with_field(position_in_main_row(at.rest), 8, at.quotient);
         return with_field(row, 16, block);
     }
     let at = wire_and_row(fuse, portion);
     let row = with_field(position_in_wire_and_row(at.rest), 6, at.quotient);
-    let subarea = with_field(row, 11, in_block - MAIN_PORTIONS);
+    let subarea = with_field(row, 11, portion_in_block - MAIN_PORTIONS);
     let area = with_field(subarea, 15, 1);
     with_field(area, 16, block)
 }

@@ -101,8 +101,8 @@ module _ (d : Device) (f r b : ℕ) (h : known d ≡ true) (e : r ≡ 2 ^ 32 / i
   pub product-small : f < 2 ^ 32 → f * r < 2 ^ 64
   product-small l = omega (arith, mul-le-mul (le-of-lt l) (le-of-lt factor-small))
 
-  pub block-small : f < 2 ^ 32 → f * r / 2 ^ 32 < 2 ^ 32
-  block-small l = omega (arith, product-small l)
+  pub quotient-small : f < 2 ^ 32 → f * r / 2 ^ 32 < 2 ^ 32
+  quotient-small l = omega (arith, product-small l)
 
   pub block-of : b ≡ f * r / 2 ^ 32 → f < fuseCount d → b ≡ f / inBlock d 7776 648
   unfolding fuseCount

@@ -8,7 +8,7 @@ use native.Mathlib.Nat.{div-lt-iff-lt-mul, div-add-mod', mod-lt}
 use lib.Arith.{digits-div, digits-mod, digits-lt}
 use lib.Dec.{ltb}
 use borrow.Author.Tests.{lt-ltb, le-ltb}
-use Rattle.part.specs.Device.{fuseCount, blockFuses, mainFuses, subareaFuses, mainStart, wireAndStart}
+use Rattle.part.specs.Device.{fuseCount, blockFuses, mainFuses, mainStart, wireAndStart}
 use Rattle.part.specs.Place.{hasPlace, hasByte, widthOf, fuseOfPlace, placeInMain, placeInWireAnd, placeInBlock, placeOfFuse}
 use Rattle.part.specs.declared.Device.{Device}
 use Rattle.part.specs.declared.Place.{Place}
@@ -17,16 +17,21 @@ use Rattle.part.specs.declared.BytePlace.the-variants.{Main, WireAnd}
 use Rattle.part.proofs.Facts.{by-cases, tests}
 use Rattle.part.proofs.Rows.{split-row, in-row, join-row}
 
+-- A fuse below the count lies in a block that the device has.
+pub block-inside : (d : Device) (f : ℕ) → f < fuseCount d → f / blockFuses d < d .blocks
+unfolding fuseCount
+block-inside d f h = div-lt-iff-lt-mul {k = blockFuses d} {x = f} {y = d .blocks} (omega arith) .1 h
+
 -- A fuse below the count lies at a place that the device has, and its number is that place's.
 abbrev pub Lies : Device → ℕ → Place → Type 0
 Lies d fuse p = (hasPlace d p ≡ true) × (fuseOfPlace d p ≡ fuse)
 
 pub at-fuse : (d : Device) (fuse : ℕ) → fuse < fuseCount d → Lies d fuse (placeOfFuse d fuse)
-unfolding placeOfFuse hasPlace fuseCount
+unfolding placeOfFuse hasPlace
 at-fuse d fuse h =
     let block = fuse / blockFuses d in
     let rest = fuse % blockFuses d in
-    let inside : block < d .blocks = div-lt-iff-lt-mul {k = blockFuses d} {x = fuse} {y = d .blocks} (omega arith) .1 h in
+    let inside : block < d .blocks = block-inside d fuse h in
     let left : rest < blockFuses d = mod-lt fuse (omega arith) in
     let whole : block * blockFuses d + rest ≡ fuse = div-add-mod' fuse (blockFuses d) in
     by-cases (Lies d fuse) rest 7776

@@ -1,12 +1,13 @@
 -- Portions: a block is whole ones, so what is left of a fuse in its block is what the portions before the block leave.
 -- Assumes nothing.
-use mathlib.Core.Path.{_≡_, refl, _∙_, ap}
+use mathlib.Core.Path.{_≡_, _∙_, ap}
 use mathlib.Core.Bool.{true}
-use Prim.Native.Nat.{ℕ, _+_, _*_, _-_, _/_, _%_, _^_, _≤_, _<_}
+use Prim.Native.Nat.{ℕ, _*_, _-_, _/_, _%_, _^_, _≤_, _<_}
 use native.Mathlib.Omega.{arith}
-use native.Mathlib.Nat.{mul-assoc, mul-le-mul, le-of-lt, div-lt-iff-lt-mul}
+use native.Mathlib.Nat.{mul-assoc, mul-le-mul, le-of-lt}
 use Rattle.part.specs.Device.{known, inBlock, blockFuses, mainFuses, subareaFuses, fuseCount}
 use Rattle.part.specs.declared.Device.{Device}
+use Rattle.part.proofs.Fuses.{block-inside}
 use Rattle.part.proofs.Devices.{blocks-small, in-block-small, fuses-small, times-fits, left-over}
 
 -- The portions of the blocks before a block have their fuses, and are few.
@@ -27,13 +28,9 @@ module _ (d : Device) (f block before : ℕ) (e : block ≡ f / blockFuses d) (g
   pub left-in-block : f - before * subareaFuses ≡ f % blockFuses d
   left-in-block = rw g (left-over f block (blockFuses d) e)
 
--- A fuse of the device lies in a block of it, and both are small.
-pub block-inside : (d : Device) (f : ℕ) → known d ≡ true → f < fuseCount d → f / blockFuses d < d .blocks
-unfolding fuseCount
-block-inside d f k l = div-lt-iff-lt-mul {k = blockFuses d} {x = f} {y = d .blocks} (omega arith) .1 l
-
+-- A fuse of the device and its block are small.
 pub block-small : (d : Device) (f block : ℕ) → known d ≡ true → f < fuseCount d → block ≡ f / blockFuses d → block < 16
-block-small d f block k l e = omega (arith, block-inside d f k l, blocks-small d k)
+block-small d f block k l e = omega (arith, block-inside d f l, blocks-small d k)
 
 pub fuse-small : (d : Device) (f : ℕ) → known d ≡ true → f < fuseCount d → f < 2 ^ 19
 fuse-small d f k l = omega (arith, fuses-small d k)

@@ -27,7 +27,8 @@ pub const MAIN_FUSES: u32 = MAIN_ROWS * MAIN_ROW_FUSES;
 pub const SUBAREA_FUSES: u32 = WIRE_AND_ROWS * WIRE_AND_ROW_FUSES;
 
 // A portion is as many fuses as a subarea has, and six main rows have as many: the main area of a block is twelve
-// portions. So a row of a portion, and what is left in a row, do not depend on the block.
+// portions. So a row of a portion, and what is left in a row, do not depend on the block. Both numbers are typed, since
+// a quotient would be a division in fuse to address.
 pub const PORTION_ROWS: u32 = 6;
 
 pub const MAIN_PORTIONS: u32 = 12;

@@ -1,4 +1,4 @@
-// Where each byte and each fuse lies: the width of a byte, its first fuse, and the place of a fuse.
+// Where each byte and each fuse lies: the width and the first fuse of a byte; block, row and place of a fuse.
 // For the crates above: a function here may require that the device is known and has the byte or the fuse.
 ghost use mathlib.Core.Path.{_≡_};
 ghost use mathlib.Core.Bool.{true};
@@ -22,10 +22,12 @@ use super::geometry::WIRE_AND_COLUMNS;
 use super::geometry::WIRE_AND_ROW_FUSES;
 use super::geometry::WIRE_AND_ROWS;
 use super::geometry::in_block;
+use super::quotients::MAIN_COLUMN_FACTOR;
 use super::quotients::QuotientAndRest;
+use super::quotients::WIRE_AND_COLUMN_FACTOR;
 use super::quotients::block_factor;
-use super::quotients::by_product;
 use super::quotients::divided;
+use super::quotients::shifted_product;
 
 // Whether the device has the byte.
 pub fn has_byte(d: Device, byte: BytePlace) -> bool
@@ -136,13 +138,13 @@ fn column_and_bit(wide: u32, narrow: u32, factor: u64, rest: u32) -> ColumnBit
 }
 
 // The block of a fuse: the first step of the forward routine of document 003. A number that is no fuse of the device
-// gets a block that the device has not, so that one test tells both.
+// gets a block that the device has not, so that a test of the block is also the test of refusal 3.
 pub fn block_of_fuse(d: Device, fuse: FuseNumber) -> u32
     requires { ⌜ known d ≡ true ⌝ }
     ensures { λ r. ⌜ (fuse .0 < fuseCount d → r ≡ fuse .0 / blockFuses d)
         × (r < blocksOf d → fuse .0 < fuseCount d) ⌝ }
 {
-    by_product(fuse.0, block_factor(d), 32)
+    shifted_product(fuse.0, block_factor(d), 32)
 }
 
 // The portions of the blocks before a block.
@@ -159,7 +161,7 @@ pub fn portion_of_fuse(fuse: FuseNumber) -> u32
     requires { ⌜ fuse .0 < 2 ^ 19 ⌝ }
     ensures { λ r. ⌜ r ≡ fuse .0 / subareaFuses ⌝ }
 {
-    by_product(fuse.0, 6628036, 32)
+    shifted_product(fuse.0, 6628036, 32)
 }
 
 // The row of a fuse in the main area of its block, and what is left in it.
@@ -181,7 +183,7 @@ fn main_place(block: u32, fuse: FuseNumber, before: u32) -> Place
     ensures { λ r. ⌜ r ≡ placeInMain block (fuse .0 - before * subareaFuses) ⌝ }
 {
     let row = main_row(fuse, before);
-    let at = column_and_bit(9, 6, 43, row.rest);
+    let at = column_and_bit(9, 6, MAIN_COLUMN_FACTOR, row.rest);
     Place {
         byte: BytePlace::Main {
             block,
@@ -212,7 +214,7 @@ fn wire_and_place(block: u32, fuse: FuseNumber, before: u32, portion: u32) -> Pl
     ensures { λ r. ⌜ r ≡ placeInWireAnd block (fuse .0 - before * subareaFuses - mainFuses) ⌝ }
 {
     let row = wire_and_row(fuse, portion);
-    let at = column_and_bit(1, 7, 37, row.rest);
+    let at = column_and_bit(1, 7, WIRE_AND_COLUMN_FACTOR, row.rest);
     Place {
         byte: BytePlace::WireAnd {
             block,

@@ -12,8 +12,9 @@ pub struct QuotientAndRest {
     pub rest: u32,
 }
 
-// A product, shifted: what stands here for a division. `factor` is a little more than 2^shift / d.
-pub fn by_product(x: u32, factor: u64, shift: u32) -> u32
+// A product, shifted: what stands here for a division. For a divisor d the factor is 2^shift / d, rounded up. It is
+// typed, since a constant that divides would be a division in the source; the proofs show that it is the right one.
+pub fn shifted_product(x: u32, factor: u64, shift: u32) -> u32
     requires { ⌜ (shift < 64) × (x * factor < 2 ^ 64) × (x * factor / 2 ^ shift < 2 ^ 32) ⌝ }
     ensures { λ r. ⌜ r ≡ x * factor / 2 ^ shift ⌝ }
 {
@@ -26,12 +27,17 @@ pub fn divided(x: u32, d: u32, factor: u64, shift: u32) -> QuotientAndRest
     requires { ⌜ (shift < 64) × (x * factor < 2 ^ 64) × (x * factor / 2 ^ shift ≡ x / d) ⌝ }
     ensures { λ r. ⌜ (r .quotient ≡ x / d) × (r .rest ≡ x % d) ⌝ }
 {
-    let quotient = by_product(x, factor, shift);
+    let quotient = shifted_product(x, factor, shift);
     QuotientAndRest {
         quotient,
         rest: x - quotient * d,
     }
 }
+
+// The factors that divide by 6 and by 7, the widths of the narrow columns, with the shift 8.
+pub const MAIN_COLUMN_FACTOR: u64 = 43;
+
+pub const WIRE_AND_COLUMN_FACTOR: u64 = 37;
 
 // The factor that divides the number of a fuse by the fuses of a block, with the shift 32.
 pub fn block_factor(d: Device) -> u64

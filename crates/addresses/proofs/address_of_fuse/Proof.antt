@@ -15,7 +15,8 @@ use Rattle.part.specs.Place.{placeInBlock, placeOfFuse}
 use Rattle.part.specs.declared.Device.{Device}
 use Rattle.part.proofs.Facts.{compared}
 use Rattle.part.proofs.Devices.{is-known, is-unknown, blocks-small}
-use Rattle.part.proofs.Portions.{block-inside, block-small, fuse-small, before-fits, left-in-block}
+use Rattle.part.proofs.Fuses.{block-inside}
+use Rattle.part.proofs.Portions.{block-small, fuse-small, before-fits, left-in-block}
 use Rattle.addresses.specs.Address.{addressOfByte}
 use Rattle.addresses.specs.Convert.{addressOfFuse}
 use Rattle.addresses.proofs.Positions.{position, bit-small}
@@ -36,7 +37,7 @@ past-the-last : (d : Device) (fuse block n : ℕ) → known d ≡ true → n ≡
     → (fuse < fuseCount d → block ≡ fuse / blockFuses d) → fuseCount d ≤ fuse
 past-the-last d fuse block n k e h found =
     compared fuse (fuseCount d)
-    (λ l. let outside : d .blocks ≤ fuse / blockFuses d = rw (← found l, ← e) h in absurd (omega (arith, block-inside d fuse k l)))
+    (λ l. let outside : d .blocks ≤ fuse / blockFuses d = rw (← found l, ← e) h in absurd (omega (arith, block-inside d fuse l)))
     (λ g. g)
 
 -- A block of the device has the fuse, and is its block.

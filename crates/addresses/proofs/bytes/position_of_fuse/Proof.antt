@@ -11,8 +11,8 @@ use Rattle.addresses.proofs.bytes.position_of_fuse.Tie as tie
 portion-of-fuse-requires : tie.Need-portion-of-fuse-requires
 portion-of-fuse-requires c κs = search needs
 
-sub-in-block : tie.Need-sub-in-block
-sub-in-block c = search needs
+sub-portion-in-block : tie.Need-sub-portion-in-block
+sub-portion-in-block c = search needs
 
 main-row-requires : tie.Need-main-row-requires
 main-row-requires c κs = search needs
@@ -61,7 +61,7 @@ position-of-fuse-spec =
     tie.close
     (tie.spec
     portion-of-fuse-requires
-    sub-in-block
+    sub-portion-in-block
     main-row-requires
     position-in-main-row-requires
     with-field-requires
