@@ -156,7 +156,8 @@ pub fn portions_before(d: Device, block: u32) -> u32
     block * per_block
 }
 
-// The portion of a fuse, counted from the first of the part.
+// The portion of a fuse, counted from the first of the part. No device has 2^19 fuses, and for all numbers below that
+// the product is the quotient, here as for the rows.
 pub fn portion_of_fuse(fuse: FuseNumber) -> u32
     requires { ⌜ fuse .0 < 2 ^ 19 ⌝ }
     ensures { λ r. ⌜ r ≡ fuse .0 / subareaFuses ⌝ }
