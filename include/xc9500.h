@@ -29,7 +29,7 @@ extern "C" {
      call do not overlap.
    - A call that is refused leaves every byte of the caller's slices as it was. A call that is accepted writes what its
      comment says, and nothing else.
-   - Several faults: the first of 1, 2, 12, 3, 4, 5, 6, then the lowest of 7 to 11.
+   - Several faults: the first of 1, 2, 12, 3, 4, 5, 6, 7, 8, 9, 13, 10, 11.
    - No call allocates memory or keeps anything between calls, so calls on different slices may run at the same time.
      Stack: below 1 KB, but about 40 KB for xc9500_text_to_image, for every device. */
 
@@ -50,7 +50,8 @@ enum xc9500_refusal_number {
     XC9500_MISPLACED_FUSE_LIST = 9,    /* an L overlaps the L before it or runs past the count: its field */
     XC9500_WRONG_FUSE_SUM = 10,        /* C is not the fuse sum: its field */
     XC9500_WRONG_TRANSMISSION_SUM = 11, /* the transmission sum differs and is not 0000: ETX */
-    XC9500_BUFFER_TOO_SHORT = 12       /* the buffer for the text is too short: the bytes needed */
+    XC9500_BUFFER_TOO_SHORT = 12,      /* the buffer for the text is too short: the bytes needed */
+    XC9500_FUSE_NOT_GIVEN = 13         /* no F, and the Ls do not give every fuse: the first fuse not given */
 };
 
 /* The sizes of the largest device, of 16 blocks, and of the longest text that is read. */
@@ -170,11 +171,12 @@ uint64_t xc9500_image_to_text(uint32_t blocks, uint32_t class_, const uint8_t *i
                               size_t text_len);
 
 /* The image that a text describes, put into `image`: 0. Any bytes are taken. Refused: 1; 2 an image that has not the
-   exact length; then the lowest of these at its first place, an offset in the text:
+   exact length; then the first of these in this order, with an offset in the text, but 13 with a fuse:
      7   where: XC9500_LONGEST_TEXT for a longer text, 0 where it does not begin with STX, the start of the first bad
          field, the length of a text that ends early, after ETX the first wrong byte
      8   the QF field, or ETX where there is none
      9   the L field that starts before the end of the one before it or runs past the count
+     13  the first fuse that no L field gives, where the text has no F field; no offset
      10  the C field
      11  ETX
    Refused, `image` stays as it was. docs/REFUSED-TEXTS.md says what to do about each. */

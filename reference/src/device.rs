@@ -35,7 +35,7 @@ pub fn all_devices() -> Vec<Device> {
     devices
 }
 
-/// A refusal: its number (1 to 12) and the value returned with it.
+/// A refusal: its number (1 to 13) and the value returned with it.
 #[derive(Clone, Copy, Debug, PartialEq, Eq, Hash)]
 pub struct Refusal {
     pub number: u32,

@@ -1,5 +1,5 @@
 // The JEDEC text reader, in plain steps: cut into fields, judge each, check the end, then the rules.
-// Refusal 7 comes from the first three steps; 8 to 11 are looked for only in a text of good form.
+// Refusal 7 comes from the first three steps; 8, 9, 13, 10 and 11, in this order, only in a text of good form.
 
 use crate::device::{refuse, Answer, Device};
 use crate::image::low_16_of_sum;
@@ -223,8 +223,8 @@ fn transmission_sum_after(text: &[u8], etx: usize) -> Answer<u16> {
     Ok(sum)
 }
 
-/// The image that a text describes for a device with `fuse_count` fuses.
-fn read(fuse_count: usize, image_bytes: usize, text: &[u8]) -> Answer<Vec<u8>> {
+/// The image that a text describes for a part with `fuse_count` fuses, be there such a device or not.
+pub fn image_of_text(fuse_count: usize, text: &[u8]) -> Answer<Vec<u8>> {
     // Refusal 7: size, STX, design text, fields, ETX, what follows it.
     if text.len() > LONGEST_TEXT {
         return refuse(7, LONGEST_TEXT as u64);
@@ -272,8 +272,30 @@ fn read(fuse_count: usize, image_bytes: usize, text: &[u8]) -> Answer<Vec<u8>> {
         }
     }
 
+    // Refusal 13: without a start state, the first fuse that no list gives.
+    let mut has_start_state = false;
+    let mut given = vec![false; fuse_count];
+    for field in &fields {
+        match &field.content {
+            Content::StartState(_) => has_start_state = true,
+            Content::Fuses { first, states } => {
+                for offset in 0..states.len() {
+                    given[*first as usize + offset] = true;
+                }
+            }
+            _ => {}
+        }
+    }
+    if !has_start_state {
+        for (fuse, is_given) in given.iter().enumerate() {
+            if !is_given {
+                return refuse(13, fuse as u64);
+            }
+        }
+    }
+
     // The image: the start state everywhere, then the listed fuses.
-    let mut image = vec![0; image_bytes];
+    let mut image = vec![0; fuse_count.div_ceil(8)];
     for field in &fields {
         if let Content::StartState(state) = field.content {
             for fuse in 0..fuse_count {
@@ -309,7 +331,7 @@ fn read(fuse_count: usize, image_bytes: usize, text: &[u8]) -> Answer<Vec<u8>> {
 pub fn text_to_image(device: Device, text: &[u8], image: &mut [u8]) -> Answer<()> {
     let layout = Layout::of(device)?;
     layout.check_image(image)?;
-    let finished = read(layout.fuses.len(), layout.image_bytes(), text)?;
+    let finished = image_of_text(layout.fuses.len(), text)?;
     image.copy_from_slice(&finished);
     Ok(())
 }

@@ -36,7 +36,7 @@ pub use image::{
     fuse_count, fuse_sum, image_bytes, image_to_readout, readout_bytes, readout_to_image,
     zero_count,
 };
-pub use jedec_reader::text_to_image;
+pub use jedec_reader::{image_of_text, text_to_image};
 pub use jedec_writer::{image_to_text, text_bytes};
 pub use layout::{Area, Place};
 pub use setting::{

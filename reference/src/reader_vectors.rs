@@ -1,5 +1,5 @@
 // What the vectors program of the reader prints, worked out by the plain reader of texts.
-// A written text is read whole, cut short, and with a byte changed; of the image every byte is taken in.
+// A written text is read whole, cut short, with a byte changed, without its F; of the image every byte is taken in.
 
 use crate::device::{Device, SMALL};
 use crate::image::image_bytes;
@@ -32,6 +32,61 @@ fn place(kind: u32, number: u64, length: usize) -> usize {
         0 => number as usize % 40,
         1 => length - 1 - number as usize % 20,
         _ => number as usize,
+    }
+}
+
+/// The offset of the first such byte at or after `from`; the length of the text if there is none.
+fn first_from(text: &[u8], from: usize, byte: u8) -> usize {
+    let mut at = from;
+    while at < text.len() && text[at] != byte {
+        at += 1;
+    }
+    at
+}
+
+/// Where the search for a byte to change starts: at the start of the text, just before its last line, or anywhere.
+fn search_start(kind: u32, number: u64, length: usize) -> usize {
+    match kind {
+        0 => 0,
+        1 => length - length.min(70),
+        _ => number as usize % length,
+    }
+}
+
+/// Puts a byte in another's place, reads the text, prints a line of it, and puts the other back.
+fn read_changed(lines: &mut String, device: Device, text: &mut [u8], at: usize, byte: u8) {
+    if at < text.len() {
+        let old = std::mem::replace(&mut text[at], byte);
+        let answer = read(device, text, image_bytes(device).unwrap());
+        writeln!(lines, "at {at} byte {byte} image {answer}").unwrap();
+        text[at] = old;
+    }
+}
+
+/// The text with its F field made a comment, then with one line or one state less besides.
+fn without_start_state(lines: &mut String, device: Device, text: &mut [u8]) {
+    // The transmission sum is not given, so that no change makes it wrong.
+    let n = text.len();
+    text[n - 4..].fill(b'0');
+    // The F of QF is at offset 4.
+    let start_state = first_from(text, 5, b'F');
+    text[start_state] = b'N';
+    let answer = read(device, text, image_bytes(device).unwrap());
+    writeln!(lines, "no F image {answer}").unwrap();
+
+    let mut random = 11;
+    for k in 0..12 {
+        random = next(random);
+        let from = search_start(k / 2, random / 16, n);
+        if k % 2 == 0 {
+            // An L field becomes a comment.
+            let at = first_from(text, from, b'L');
+            read_changed(lines, device, text, at, b'N');
+        } else {
+            // The state after a blank becomes a blank.
+            let at = first_from(text, from, b' ') + 1;
+            read_changed(lines, device, text, at, b' ');
+        }
     }
 }
 
@@ -73,13 +128,9 @@ pub(crate) fn reader_vectors() -> String {
             let at = place(k % 3, random / 16, n);
             random = next(random);
             let byte = OTHERS[(random / 65536 % 6) as usize];
-            if at < n {
-                let old = std::mem::replace(&mut text[at], byte);
-                let answer = read(device, &text, bytes);
-                writeln!(lines, "at {at} byte {byte} image {answer}").unwrap();
-                text[at] = old;
-            }
+            read_changed(&mut lines, device, &mut text, at, byte);
         }
+        without_start_state(&mut lines, device, &mut text);
     }
     lines
 }

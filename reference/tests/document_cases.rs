@@ -228,7 +228,7 @@ fn bench_program_output() {
         (b"", b"refused 7 at 0\n"),
         (&too_long, b"refused 7 at 65536\n"),
         (
-            b"\x02*QF41472*L41464 1*\x030000\r\n",
+            b"\x02*QF41472*F0*L41464 1*\x030000\r\n",
             b"blocks 4\nfuses 41472\nzero 41471\nsum 0001\n",
         ),
     ];

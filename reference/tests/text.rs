@@ -89,6 +89,41 @@ impl Draft {
         self.blanks(2);
     }
 
+    /// Lists that give some fuses, each of at most so many.
+    fn some_fuses(&mut self, longest: u64) {
+        let mut next = 0;
+        while !self.chance(8) {
+            let first = next + self.random.below(longest) as usize;
+            if self.chance(2) {
+                next = first;
+            }
+            let first = next;
+            let length = 1 + self.random.below(longest) as usize;
+            if first + length > self.fuses.len() {
+                break;
+            }
+            self.fuse_list(first, length);
+            self.skipped_fields();
+            next = first + length;
+        }
+    }
+
+    /// Lists that give every fuse, each of at most so many.
+    fn every_fuse(&mut self, longest: u64) {
+        // With shorter ones the text of a large part would be over the size limit.
+        let longest = longest.max(20);
+        let mut next = 0;
+        while next < self.fuses.len() {
+            let length = 1 + self.random.below(longest) as usize;
+            let length = length.min(self.fuses.len() - next);
+            self.fuse_list(next, length);
+            if self.chance(40) {
+                self.skipped_fields();
+            }
+            next += length;
+        }
+    }
+
     fn image(&self) -> Vec<u8> {
         let mut image = vec![0; self.fuses.len() / 8];
         for (fuse, state) in self.fuses.iter().enumerate() {
@@ -121,26 +156,14 @@ fn good_text(device: Device, seed: u64) -> (Vec<u8>, Vec<u8>) {
     draft.text.push(b'*');
     draft.blanks(2);
     draft.skipped_fields();
-    let has_start_state = draft.chance(2);
-    if has_start_state {
+    let longest = 1 + draft.random.below(3000);
+    // Without a start state every fuse must be given; such texts are long, so they are few.
+    if draft.chance(8) {
+        draft.every_fuse(longest);
+    } else {
         draft.start_state();
         draft.skipped_fields();
-    }
-    let longest = 1 + draft.random.below(3000);
-    let mut next = 0;
-    while !draft.chance(8) {
-        let first = next + draft.random.below(longest) as usize;
-        if draft.chance(2) {
-            next = first;
-        }
-        let first = next;
-        let length = 1 + draft.random.below(longest) as usize;
-        if first + length > count {
-            break;
-        }
-        draft.fuse_list(first, length);
-        draft.skipped_fields();
-        next = first + length;
+        draft.some_fuses(longest);
     }
     if draft.chance(2) {
         let sum = low_16(&draft.image());
@@ -170,6 +193,60 @@ fn good_texts_give_their_image() {
             let mut image = vec![0x5A; expected.len()];
             assert_eq!(text_to_image(device, &text, &mut image), Ok(()));
             assert!(image == expected, "seed {seed} of {device:?}");
+        }
+    }
+}
+
+/// A written text without its F field; the transmission sum is not given.
+fn without_start_state(text: &[u8]) -> Vec<u8> {
+    let text = std::str::from_utf8(text).unwrap();
+    assert_eq!(text.matches("\nF0*\n").count(), 1);
+    let mut text = text.replace("\nF0*\n", "\n").into_bytes();
+    let sum = text.len() - 4;
+    text[sum..].copy_from_slice(b"0000");
+    text
+}
+
+#[test]
+fn a_written_text_needs_no_start_state_but_every_line() {
+    let mut random = Random::new(24);
+    for device in all_devices() {
+        let image = random.bytes(image_bytes(device).unwrap());
+        let mut text = vec![0; text_bytes(device).unwrap()];
+        image_to_text(device, &image, &mut text).unwrap();
+        let text = without_start_state(&text);
+        let mut back = vec![0x5A; image.len()];
+        assert_eq!(text_to_image(device, &text, &mut back), Ok(()));
+        assert!(back == image);
+
+        // Each line that is left out, or is a comment, leaves its first fuse as the first not given.
+        let lines: Vec<&[u8]> = text.split(|byte| *byte == b'\n').collect();
+        let lists: Vec<usize> = (0..lines.len())
+            .filter(|line| lines[*line].starts_with(b"L"))
+            .collect();
+        let mut left_out = vec![lists[0], lists[1], lists[lists.len() - 1]];
+        left_out.extend((0..5).map(|_| random.pick(&lists)));
+        for line in left_out {
+            let first: u64 = std::str::from_utf8(&lines[line][1..8])
+                .unwrap()
+                .parse()
+                .unwrap();
+            let refused = Err(Refusal {
+                number: 13,
+                value: first,
+            });
+            let mut without = lines.clone();
+            without.remove(line);
+            let mut back = vec![0x5A; image.len()];
+            let answer = text_to_image(device, &without.join(&b'\n'), &mut back);
+            assert_eq!(answer, refused);
+            assert!(back.iter().all(|byte| *byte == 0x5A));
+
+            let comment = [b"N", lines[line]].concat();
+            let mut commented = lines.clone();
+            commented[line] = &comment;
+            let answer = text_to_image(device, &commented.join(&b'\n'), &mut back);
+            assert_eq!(answer, refused);
         }
     }
 }
@@ -360,7 +437,7 @@ fn damaged_texts_are_answered() {
         class: SMALL,
     };
     let odd = b"*\x02\x03 \nQFLCNJXV01289aFfG\xFF\x00";
-    let mut seen = [0; 13];
+    let mut seen = [0; 14];
     for seed in 0..20_000 {
         let (mut text, good_image) = good_text(device, 500_000 + seed % 500);
         let mut random = Random::new(seed);
@@ -388,15 +465,20 @@ fn damaged_texts_are_answered() {
                 }
             }
             Err(refusal) => {
-                assert!((7..=11).contains(&refusal.number));
-                assert!(refusal.value <= text.len() as u64);
+                assert!([7, 8, 9, 10, 11, 13].contains(&refusal.number));
+                // Of 13 the value is a fuse, of the others an offset.
+                if refusal.number == 13 {
+                    assert!(refusal.value < 18144);
+                } else {
+                    assert!(refusal.value <= text.len() as u64);
+                }
                 assert!(image == vec![0x5A; 2268]);
                 seen[refusal.number as usize] += 1;
             }
         }
     }
     // The damage reaches every answer there is.
-    for answer in [0, 1, 7, 8, 9, 10, 11] {
+    for answer in [0, 1, 7, 8, 9, 10, 11, 13] {
         assert!(seen[answer] > 0, "no text was answered {answer}");
     }
 }

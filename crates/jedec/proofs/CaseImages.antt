@@ -70,18 +70,18 @@ all-zeros = only-start 0
 
 -- The L fields of the texts with an image of other bytes.
 abbrev oneFirst : List Listed
-oneFirst = record { at = 10; first = 0; states = 1 ∷ [] } ∷ []
+oneFirst = record { at = 13; first = 0; states = 1 ∷ [] } ∷ []
 
 abbrev threeFirst : List Listed
 threeFirst =
-    record { at = 10; first = 0; states = 1 ∷ [] } ∷ record { at = 15; first = 1; states = 0 ∷ [] }
-    ∷ record { at = 20; first = 5; states = 0 ∷ [] } ∷ []
+    record { at = 13; first = 0; states = 1 ∷ [] } ∷ record { at = 18; first = 1; states = 0 ∷ [] }
+    ∷ record { at = 23; first = 5; states = 0 ∷ [] } ∷ []
 
 abbrev zeroFirst : List Listed
 zeroFirst = record { at = 13; first = 0; states = 0 ∷ [] } ∷ []
 
 abbrev oneLast : List Listed
-oneLast = record { at = 10; first = 18143; states = 1 ∷ [] } ∷ []
+oneLast = record { at = 13; first = 18143; states = 1 ∷ [] } ∷ []
 
 pub only-first : imageWith 18144 (stateGiven 0 oneFirst) ≡ onlyFirst
 unfolding gathered stateGiven

@@ -1,4 +1,5 @@
--- A text is of good form or refused 7, and is accepted exactly if it is in place and its counts and sums are right too.
+-- A text is of good form or refused 7, and is accepted exactly if its count is right, its Ls are in place, every fuse is given and its sums
+-- are right too.
 -- Assumes nothing. `GoodForm` and `Accepted` stand in specs/Form.antt.
 use mathlib.Core.Path.{_≡_, refl, sym, _∙_, ap}
 use mathlib.Core.Logic.{_↔_, _⊎_, inl, inr}
@@ -18,11 +19,12 @@ use Rattle.image.specs.Image.{sum16}
 use Rattle.jedec.specs.Characters.{stx}
 use Rattle.jedec.specs.Cut.{pieces, startsWith, fieldsFrom, holdsMark, Tail, tailFrom}
 use Rattle.jedec.specs.Cut.Tail.{given, wrong}
-use Rattle.jedec.specs.Rules.{At, Given, nothingGiven, Fields, allFields, wrongCount, misplaced, finished}
+use Rattle.jedec.specs.Rules.{At, Given, nothingGiven, Fields, allFields, wrongCount, misplaced, notGiven, finished}
 use Rattle.jedec.specs.Rules.Fields.{allGood, badAt}
 use Rattle.jedec.specs.Meaning.{longest, unless, wrongSum, wrongTransmission, concluded, withTail, withEnd, withFields, ofPieces}
 use Rattle.jedec.specs.Meaning.{meaning}
 use Rattle.jedec.specs.Form.{Counted, Concluded, GoodForm, Accepted}
+use Rattle.jedec.proofs.NotGiven.{all-given-iff}
 
 -- An answer is no refusal of this number; an accepted text is none.
 abbrev pub Not : (number : ℕ) → Outcome (List ℕ) → Type 0
@@ -97,12 +99,14 @@ module _ (fuses : ℕ) (text image : List ℕ) (etx sum : ℕ) (k : Given) where
   conclusion e =
       let eight = no-place 8 (wrongCount fuses etx (k .count)) _ (accepted image) (not-refused 8 image) e in
       let nine = no-place 9 (misplaced fuses 0 (k .lists)) _ (accepted image) (not-refused 9 image) (eight .1) in
-      let ten = no-place 10 (wrongSum (finished fuses k) (k .sum)) _ (accepted image) (not-refused 10 image) (nine .1) in
+      let thirteen = no-place 13 (notGiven fuses (k .start) (k .lists)) _ (accepted image) (not-refused 13 image) (nine .1) in
+      let ten = no-place 10 (wrongSum (finished fuses k) (k .sum)) _ (accepted image) (not-refused 10 image) (thirteen .1) in
       let eleven = no-place 11 (wrongTransmission text etx sum) _ (accepted image) (not-refused 11 image) (ten .1) in
       let same : image ≡ finished fuses k = cc in
       record {
         counted = the-count fuses etx k (eight .0);
         in-place = nine .0;
+        all-given = all-given-iff fuses (k .lists) (k .start) .0 (thirteen .0);
         as-image = same;
         right-sum = λ c f. the-sum (finished fuses k) (k .sum) (ten .0) c f ∙ ap sum16 (sym same);
         right-transmission = the-transmission text etx sum (eleven .0);
@@ -111,9 +115,10 @@ module _ (fuses : ℕ) (text image : List ℕ) (etx sum : ℕ) (k : Given) where
   concluding : Concluded fuses text image etx sum k → concluded fuses text etx sum k ≡ accepted image
   unfolding concluded
   concluding c =
+      let given : notGiven fuses (k .start) (k .lists) ≡ none = all-given-iff fuses (k .lists) (k .start) .1 (c .all-given) in
       let sums : wrongSum (finished fuses k) (k .sum) ≡ none =
       sum-none (finished fuses k) (k .sum) (λ x f. c .right-sum x f ∙ ap sum16 (c .as-image)) in
-      rw (count-none fuses etx k (c .counted), c .in-place, sums, transmission-none text etx sum (c .right-transmission))
+      rw (count-none fuses etx k (c .counted), c .in-place, given, sums, transmission-none text etx sum (c .right-transmission))
       (ap accepted (sym (c .as-image)))
 
 -- A text that is not refused 7 is of good form, and means what its end answers.

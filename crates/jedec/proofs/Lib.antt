@@ -4,6 +4,7 @@ pub mod StatesGiven
 pub mod CaseImages
 pub mod Cases
 pub mod Numbers
+pub mod NotGiven
 pub mod Conditions
 pub mod Misplaced
 pub mod Cutting
@@ -16,4 +17,5 @@ pub mod ReadBack
 pub mod Places
 pub mod StateBits
 pub mod States
+pub mod Refusals
 pub mod Laws

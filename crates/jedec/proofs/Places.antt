@@ -1,4 +1,4 @@
--- Every refusal of a text has a number of 7 to 11, and its value is no larger than the longest text.
+-- Every refusal of a text has a number of 7 to 11 or 13, and its value is no larger than the longest text if the count is not.
 -- Assumes nothing.
 use mathlib.Core.Path.{_≡_, refl, sym, _∙_, ap, subst}
 use mathlib.Core.Bool.{Bool, true, false, cond, _||_, true≢false}
@@ -20,7 +20,7 @@ use Rattle.jedec.specs.Cut.Tail.{given, wrong}
 use Rattle.jedec.specs.Judge.{Judged, judge}
 use Rattle.jedec.specs.Judge.Judged.{count, start, list, sum, skipped, bad}
 use Rattle.jedec.specs.Rules.{At, Listed, Given, nothingGiven, inOrder, after, Fields, allFields, wrongCount, endOf, misplaced}
-use Rattle.jedec.specs.Rules.{finished}
+use Rattle.jedec.specs.Rules.{firstNotGiven, withoutStart, finished}
 use Rattle.jedec.specs.Rules.Fields.{allGood, badAt}
 use Rattle.jedec.specs.Meaning.{longest, unless, wrongSum, concluded, withTail, withEnd, withFields, ofCut, ofPieces, meaning}
 
@@ -29,16 +29,20 @@ pub chosen : {A : Type 0} (P : A → Type 0) (t : Bool) {a b : A} → P a → P 
 chosen P true x y = x
 chosen P false x y = y
 
+-- The refusals that a text has: 7 to 11, and 13.
+abbrev pub OfText : (number : ℕ) → Type 0
+OfText number = (7 ≤ number) × (number ≤ 13) × (number ≡ 12 → ⊥)
+
 data Small : Outcome (List ℕ) → Type 0 where
   described : {image : List ℕ} → Small (accepted image)
-  refusal : {number value : ℕ} → 7 ≤ number → number ≤ 11 → value ≤ longest → Small (refused number value)
+  refusal : {number value : ℕ} → OfText number → value ≤ longest → Small (refused number value)
 
 data PlaceSmall : Option ℕ → Type 0 where
   nowhere : PlaceSmall none
   place : {at : ℕ} → at ≤ longest → PlaceSmall (some at)
 
 seven : (at : ℕ) → at ≤ longest → Small (refused 7 at)
-seven at h = refusal {number = 7} (omega arith) (omega arith) h
+seven at h = refusal {number = 7} (omega arith, omega arith, λ e. omega arith) h
 
 -- The offsets that the fields gave are no larger than the longest text.
 abbrev AtSmall : Option At → Type 0
@@ -82,11 +86,11 @@ fields-small (f ∷ fields) k s h =
     (fields-small fields (after k (f .start) (judge (f .bytes))) (after-small k (f .start) (judge (f .bytes)) s (h .0)) (h .1))
     (h .0)
 
--- The places of refusals 8 to 11 are offsets of fields, or that of ETX.
-unless-small : {number : ℕ} {o : Option ℕ} {answer : Outcome (List ℕ)} → 7 ≤ number → number ≤ 11 → PlaceSmall o → Small answer
+-- The values of refusals 8 to 11 are offsets of fields, or that of ETX; that of 13 is a fuse below the count.
+unless-small : (number : ℕ) {o : Option ℕ} {answer : Outcome (List ℕ)} → OfText number → PlaceSmall o → Small answer
     → Small (unless number o answer)
-unless-small low high nowhere s = s
-unless-small low high (place h) s = refusal low high h
+unless-small number of-text nowhere s = s
+unless-small number of-text (place h) s = refusal of-text h
 
 count-small : (fuses etxOffset : ℕ) (o : Option At) → etxOffset ≤ longest → AtSmall o → PlaceSmall (wrongCount fuses etxOffset o)
 count-small fuses etxOffset none h s = place h
@@ -102,15 +106,20 @@ sum-small : (image : List ℕ) (o : Option At) → AtSmall o → PlaceSmall (wro
 sum-small image none s = nowhere
 sum-small image (some c) s = chosen PlaceSmall (eqb (c .value) (sum16 image)) nowhere (place s)
 
-concluded-small : (fuses : ℕ) (text : List ℕ) (etxOffset x : ℕ) (k : Given) → etxOffset ≤ longest → GivenSmall k
+fuse-small : (fuses : ℕ) (start : Option ℕ) (first : ℕ) → fuses ≤ longest → PlaceSmall (withoutStart fuses start first)
+fuse-small fuses none first few = by-cases PlaceSmall first fuses (λ l. place (omega arith)) (λ g. nowhere)
+fuse-small fuses (some s) first few = nowhere
+
+concluded-small : (fuses : ℕ) (text : List ℕ) (etxOffset x : ℕ) (k : Given) → fuses ≤ longest → etxOffset ≤ longest → GivenSmall k
     → Small (concluded fuses text etxOffset x k)
 unfolding concluded
-concluded-small fuses text etxOffset x k h s =
-    unless-small {number = 8} (omega arith) (omega arith) (count-small fuses etxOffset (k .count) h (s .count))
-    (unless-small {number = 9} (omega arith) (omega arith) (lists-small fuses 0 (k .lists) (s .lists))
-    (unless-small {number = 10} (omega arith) (omega arith) (sum-small (finished fuses k) (k .sum) (s .sum))
-    (unless-small {number = 11} (omega arith) (omega arith)
-    (chosen PlaceSmall (eqb x 0 || eqb x (sum16 (take (etxOffset + 1) text))) nowhere (place h)) described)))
+concluded-small fuses text etxOffset x k few h s =
+    unless-small 8 (omega arith, omega arith, λ e. omega arith) (count-small fuses etxOffset (k .count) h (s .count))
+    (unless-small 9 (omega arith, omega arith, λ e. omega arith) (lists-small fuses 0 (k .lists) (s .lists))
+    (unless-small 13 (omega arith, omega arith, λ e. omega arith) (fuse-small fuses (k .start) (firstNotGiven fuses (k .lists)) few)
+    (unless-small 10 (omega arith, omega arith, λ e. omega arith) (sum-small (finished fuses k) (k .sum) (s .sum))
+    (unless-small 11 (omega arith, omega arith, λ e. omega arith)
+    (chosen PlaceSmall (eqb x 0 || eqb x (sum16 (take (etxOffset + 1) text))) nowhere (place h)) described))))
 
 -- A wrong byte after ETX lies in the text or at its end.
 abbrev TailSmall : Tail → Type 0
@@ -181,7 +190,7 @@ cut-small (p ∷ ps) at rest h =
     let others = cut-small ps (at + length p + 1) rest (omega arith) in
     or-end-small at p _ (omega arith) (record { starts = (omega (arith, blanks-few p), others .starts); end = others .end })
 
-module _ (fuses : ℕ) (text : List ℕ) (h : length text ≤ longest) where
+module _ (fuses : ℕ) (few : fuses ≤ longest) (text : List ℕ) (h : length text ≤ longest) where
   end-small : (k : Given) (o : Option ℕ) → GivenSmall k → EndSmall o → Small (withEnd fuses text k o)
   end-small k none s l = seven (length text) h
   end-small k (some at) s l =
@@ -189,7 +198,7 @@ module _ (fuses : ℕ) (text : List ℕ) (h : length text ≤ longest) where
       go (tailFrom (at + 1) 4 0 rest) (tail-small rest (at + 1) 4 0 (omega (arith, length-drop (at + 1) text)))
     where
       go : (t : Tail) → TailSmall t → Small (withTail fuses text at k t)
-      go (given x) m = concluded-small fuses text at x k (omega arith) s
+      go (given x) m = concluded-small fuses text at x k few (omega arith) s
       go (wrong byte) m = seven byte m
 
   fields-then : (o : Option ℕ) (f : Fields) → FieldsSmall f → EndSmall o → Small (withFields fuses text o f)
@@ -208,16 +217,16 @@ module _ (fuses : ℕ) (text : List ℕ) (h : length text ≤ longest) where
       chosen Small (holdsMark (drop 1 design)) (seven 1 (omega arith))
       (cut-then (fieldsFrom (length design + 1) ended rest) (cut-small ended (length design + 1) rest (omega arith)))
 
-meaning-small : (fuses : ℕ) (text : List ℕ) → Small (meaning fuses text)
+meaning-small : (fuses : ℕ) → fuses ≤ longest → (text : List ℕ) → Small (meaning fuses text)
 unfolding meaning
-meaning-small fuses text =
+meaning-small fuses few text =
     by-cases Small longest (length text) (λ l. seven longest (omega arith)) (λ h.
-    chosen Small (startsWith stx text) (pieces-small fuses text h (pieces text .ended) (pieces text .rest) (pieces-size text))
+    chosen Small (startsWith stx text) (pieces-small fuses few text h (pieces text .ended) (pieces text .rest) (pieces-size text))
     (seven 0 (omega arith)))
 
-pub values-small : (fuses : ℕ) (text : List ℕ) (number value : ℕ) → meaning fuses text ≡ refused number value
-    → (7 ≤ number) × (number ≤ 11) × (value ≤ longest)
-values-small fuses text number value e = go (subst Small e (meaning-small fuses text))
+pub values-small : (fuses : ℕ) → fuses ≤ longest → (text : List ℕ) (number value : ℕ) → meaning fuses text ≡ refused number value
+    → OfText number × (value ≤ longest)
+values-small fuses few text number value e = go (subst Small e (meaning-small fuses few text))
   where
-    go : Small (refused number value) → (7 ≤ number) × (number ≤ 11) × (value ≤ longest)
-    go (refusal low high h) = (low, high, h)
+    go : Small (refused number value) → OfText number × (value ≤ longest)
+    go (refusal of-text h) = (of-text, h)

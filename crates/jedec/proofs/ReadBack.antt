@@ -211,6 +211,7 @@ module _ (fuses : ℕ) (pattern : List (List ℕ)) (image : List ℕ) (few : fus
       record {
         counted = record { count-field = q; has-count = refl; right-count = refl };
         in-place = lines-in-place fuses 0 lines-at image 0 pattern (omega arith) (omega (arith, every-fuse));
+        all-given = λ e. let z : _≡_ {A = ℕ} 0 1 = cc in absurd (omega arith);
         as-image =
             sym
             (image-given fuses image is-image (stateGiven 0 lists)

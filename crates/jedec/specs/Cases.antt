@@ -1,5 +1,5 @@
--- Texts and what they mean for the part of 18144 fuses: document 01's bench section, and points that it leaves open;
--- a written text, byte by byte. The independent program is held to the same texts (reference/tests/stated_texts.rs).
+-- Texts and what they mean for a part of 18144 fuses or of eight: document 01's bench section, points that it leaves
+-- open, K3 of document 02. The independent program is held to them (reference/tests/stated_texts.rs). A written text.
 use mathlib.Core.Path.{_≡_}
 use mathlib.Core.List.{List, [], _∷_, _++_, map}
 use Prim.Native.Nat.{ℕ}
@@ -20,8 +20,8 @@ pub record Case : Type 0 where
 abbrev pub is : List ℕ → Outcome (List ℕ) → Case
 is text answer = record { text = text; answer = answer }
 
-abbrev pub AllHold : List Case → Type 0
-AllHold cases = map (λ (c : Case). meaning 18144 (c .text)) cases ≡ map (λ (c : Case). c .answer) cases
+abbrev pub AllHold : (fuses : ℕ) → List Case → Type 0
+AllHold fuses cases = map (λ (c : Case). meaning fuses (c .text)) cases ≡ map (λ (c : Case). c .answer) cases
 
 -- Design text and fields between STX and ETX, and what stands after ETX.
 abbrev pub file : String → String → List ℕ
@@ -51,23 +51,21 @@ acceptedTexts =
     ∷ is (file "*QF18144*F1*CD324*" "0000") (accepted allOnes)
     -- Hex digits in lower case.
     ∷ is (file "*QF18144*F1*Cd324*" "03fd") (accepted allOnes)
-    -- F after C: the sum is that of the finished image.
+    -- F after C: the sum is that of the finished image, and F is an F there too.
     ∷ is (file "*QF18144*CD324*F1*" "0000") (accepted allOnes)
     -- Skipped fields, anywhere and more than once.
     ∷ is (file "*N*QF18144*J1*QPa*QV*F1*X*CD324*N *" "0000") (accepted allOnes)
     -- An L with blanks of every kind.
-    ∷ is (stx ∷ chars "*QF18144*L0 " ++ 9 ∷ 13 ∷ 10 ∷ chars "1 * " ++ etx ∷ chars "0000 " ++ 10 ∷ [])
+    ∷ is (stx ∷ chars "*QF18144*F0*L0 " ++ 9 ∷ 13 ∷ 10 ∷ chars "1 * " ++ etx ∷ chars "0000 " ++ 10 ∷ [])
     (accepted onlyFirst)
-    -- L fields that touch, and a gap.
-    ∷ is (file "*QF18144*L0 1*L1 0*L5 0*" "0000") (accepted onlyFirst)
+    -- L fields that touch, and fuses that no L gives.
+    ∷ is (file "*QF18144*F0*L0 1*L1 0*L5 0*" "0000") (accepted onlyFirst)
     -- F0.
     ∷ is (file "*QF18144*F0*" "0000") (accepted allZeros)
-    -- No F is as F0.
-    ∷ is (file "*QF18144*" "0000") (accepted allZeros)
     -- An L over F1.
     ∷ is (file "*QF18144*F1*L0 0*" "0000") (accepted allButFirst)
     -- An L of the last fuse.
-    ∷ is (file "*QF18144*L18143 1*" "0000") (accepted onlyLast)
+    ∷ is (file "*QF18144*F0*L18143 1*" "0000") (accepted onlyLast)
     ∷ []
 
 abbrev pub refusedTexts : List Case
@@ -206,6 +204,53 @@ refusedTexts =
     ∷ is (file "*QF18144*F1*CD325*" "0001") (refused 10 13)
     -- The lowest of 8 and 11: no QF.
     ∷ is (file "*" "0001") (refused 8 2)
+    -- Neither F nor L.
+    ∷ is (file "*QF18144*" "0000") (refused 13 0)
+    -- No F, and a C before which no fuse is given.
+    ∷ is (file "*QF18144*C0000*" "0000") (refused 13 0)
+    -- No F, and fuses before the first L.
+    ∷ is (file "*QF18144*L18143 1*" "0000") (refused 13 0)
+    -- No F, and fuses between two L fields.
+    ∷ is (file "*QF18144*L0 11*L3 1*" "0000") (refused 13 2)
+    -- An L that gives one of these, but late.
+    ∷ is (file "*QF18144*L0 11*L3 1*L2 1*" "0000") (refused 9 21)
+    -- No F, and fuses between L fields and behind the last: the first of all.
+    ∷ is (file "*QF18144*L0 1*L1 0*L5 0*" "0000") (refused 13 2)
+    -- No F, and an L with blanks of every kind: a blank gives no fuse.
+    ∷ is (stx ∷ chars "*QF18144*L0 " ++ 9 ∷ 13 ∷ 10 ∷ chars "1 * " ++ etx ∷ chars "0000 " ++ 10 ∷ []) (refused 13 1)
+    -- 13 is before 10 and 11.
+    ∷ is (file "*QF18144*L0 1*C0000*" "0001") (refused 13 1)
+    -- 7, 8 and 9 are before 13.
+    ∷ is (file "*QF18144*L1 1*" "000") (refused 7 19)
+    ∷ is (file "*QF18145*L1 1*" "0000") (refused 8 2)
+    ∷ is (file "*QF18144*L1 1*L1 1*" "0000") (refused 9 15)
+    ∷ []
+
+-- The fuses 1 0 1 0 0 1 0 1.
+abbrev pub eightFuses : List ℕ
+eightFuses = 165 ∷ []
+
+-- Texts for eight fuses, so that an L field can give them all.
+abbrev pub eightFuseTexts : List Case
+eightFuseTexts =
+    -- No F, and every fuse given: by one L, by two, and by eight.
+    is (file "*QF8*L0 10100101*" "0000") (accepted eightFuses)
+    ∷ is (file "*QF8*L0 101*L3 00101*C00A5*" "0000") (accepted eightFuses)
+    ∷ is (file "*QF8*L0 1*L1 0*L2 1*L3 0*L4 0*L5 1*L6 0*L7 1*" "0000") (accepted eightFuses)
+    -- One fuse not given: the first, one in between, the last.
+    ∷ is (file "*QF8*L1 0100101*" "0000") (refused 13 0)
+    ∷ is (file "*QF8*L0 101*L4 0101*" "0000") (refused 13 3)
+    ∷ is (file "*QF8*L0 1010010*" "0000") (refused 13 7)
+    -- The same with an F before the L fields, and after them, where it is a bad field.
+    ∷ is (file "*QF8*F0*L0 101*L4 0101*" "0000") (accepted eightFuses)
+    ∷ is (file "*QF8*L0 101*L4 0101*F0*" "0000") (refused 7 21)
+    -- The sums are of a text that gives every fuse.
+    ∷ is (file "*QF8*L0 10100101*C00A4*" "0000") (refused 10 18)
+    ∷ is (file "*QF8*L0 1010010*C00A4*" "0000") (refused 13 7)
+    ∷ is (file "*QF8*L0 10100101*" "0001") (refused 11 18)
+    ∷ is (file "*QF8*L0 1010010*" "0001") (refused 13 7)
+    -- As many states as fuses, but one fuse twice.
+    ∷ is (file "*QF8*L0 1010*L3 0010*" "0000") (refused 9 14)
     ∷ []
 
 -- What is written of eight fuses, 1 0 1 0 0 1 0 1, in one line of two columns.

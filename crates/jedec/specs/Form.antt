@@ -1,4 +1,4 @@
--- The form of a text, put together from fields and blanks, and the conditions for it to be accepted or refused 9.
+-- The form of a text, put together from fields and blanks, and the conditions for it to be accepted, refused 9 or 13.
 -- The laws about them stand in proofs/Laws.antt: those that end in -iff, `finished-state` and `assembled-accepted`.
 use Prim.Native.Nat.{ℕ, _+_, _/_, _^_, _<_, _≤_}
 use mathlib.Core.Path.{_≡_}
@@ -89,12 +89,26 @@ pub record Counted (fuses : ℕ) (k : Given) : Type 0 where
   pub has-count : k .count ≡ some count-field
   pub right-count : count-field .value ≡ fuses
 
--- What a text of good form needs to be accepted with an image: QF gives the count, no L is out of place, C gives the
--- fuse sum of the image, and the transmission sum is 0000 or the sum of the bytes from STX to ETX; `in-place` and
--- `as-image` in plain terms are `InPlace` and `Described` below.
+-- Something holds of some L.
+abbrev pub Any : (Listed → Type 0) → List Listed → Type 0
+Any P [] = ⊥
+Any P (l ∷ lists) = P l ⊎ Any P lists
+
+-- A fuse is one of those of an L: from its first on, as many as it has states.
+abbrev pub Inside : (fuse : ℕ) → Listed → Type 0
+Inside fuse l = (l .first ≤ fuse) × (fuse < l .first + length (l .states))
+
+-- Every fuse below a number is in some L.
+abbrev pub AllGiven : (fuses : ℕ) → List Listed → Type 0
+AllGiven fuses lists = (fuse : ℕ) → fuse < fuses → Any (Inside fuse) lists
+
+-- What a text of good form needs to be accepted with an image: QF gives the count, no L is out of place, every fuse is
+-- in some L unless there is an F, C gives the fuse sum of the image, and the transmission sum is 0000 or the sum of the
+-- bytes from STX to ETX; `in-place` and `as-image` in plain terms are `InPlace` and `Described` below.
 pub record Concluded (fuses : ℕ) (text image : List ℕ) (etxOffset sum : ℕ) (k : Given) : Type 0 where
   pub counted : Counted fuses k
   pub in-place : misplaced fuses 0 (k .lists) ≡ none
+  pub all-given : k .start ≡ none → AllGiven fuses (k .lists)
   pub as-image : image ≡ finished fuses k
   pub right-sum : (c : At) → k .sum ≡ some c → c .value ≡ sum16 image
   pub right-transmission : (sum ≡ 0) ⊎ (sum ≡ sum16 (take (etxOffset + 1) text))
@@ -185,6 +199,24 @@ Each P (l ∷ lists) = P l × Each P lists
 -- A fuse is before the first or after the last of an L.
 abbrev pub Outside : (fuse : ℕ) → Listed → Type 0
 Outside fuse l = (fuse < l .first) ⊎ (l .first + length (l .states) ≤ fuse)
+
+-- The first fuse that no L gives: it is in none, and every lower one is in some.
+pub record FirstNotGiven (lists : List Listed) (fuse : ℕ) : Type 0 where
+  pub in-none : Each (Outside fuse) lists
+  pub lower-given : AllGiven fuse lists
+
+-- A text that is refused 13, and the refusal's value: it is of good form, QF gives the count, no L is out of place,
+-- there is no F, and the first fuse that no L gives is below the count.
+pub record Refused13 (fuses : ℕ) (text : List ℕ) (fuse : ℕ) : Type 0 where
+  pub gives : Given
+  pub etx-offset : ℕ
+  pub sum : ℕ
+  pub form : GoodForm text gives etx-offset sum
+  pub counted : Counted fuses gives
+  pub in-place : InPlace fuses 0 (gives .lists)
+  pub no-start : gives .start ≡ none
+  pub below : fuse < fuses
+  pub first-not-given : FirstNotGiven (gives .lists) fuse
 
 -- The fuses from the first of an L on have its states, one after the other.
 abbrev pub Gives : (stateOf : ℕ → ℕ) → Listed → Type 0

@@ -1,5 +1,5 @@
--- What a text means for a part of so many fuses: its image, or the lowest of the refusals 7 to 11 at its first place,
--- with the value that document 01's table gives.
+-- What a text means for a part of so many fuses: its image, or the first of the refusals 7, 8, 9, 13, 10, 11 at its
+-- first place, with the value that the tables of documents 01 and 02 give.
 use Prim.Native.Nat.{ℕ, _+_}
 use mathlib.Core.Bool.{cond, _||_}
 use mathlib.Core.List.{List, [], _∷_}
@@ -13,7 +13,8 @@ use Rattle.image.specs.Image.{sum16}
 use Rattle.jedec.specs.Characters.{stx}
 use Rattle.jedec.specs.Cut.{pieces, Cut, startsWith, fieldsFrom, holdsMark, Tail, tailFrom}
 use Rattle.jedec.specs.Cut.Tail.{given, wrong}
-use Rattle.jedec.specs.Rules.{At, Given, nothingGiven, Fields, allFields, wrongCount, misplaced, finished}
+use Rattle.jedec.specs.Rules.{At, Given, nothingGiven, Fields, allFields, wrongCount, misplaced, notGiven}
+use Rattle.jedec.specs.Rules.{finished}
 use Rattle.jedec.specs.Rules.Fields.{allGood, badAt}
 
 -- "text over 1,048,576 bytes".
@@ -34,13 +35,14 @@ wrongSum image (some c) = cond (eqb (c .value) (sum16 image)) none (some (c .at)
 abbrev pub wrongTransmission : (text : List ℕ) → (etx sum : ℕ) → Option ℕ
 wrongTransmission text etx sum = cond (eqb sum 0 || eqb sum (sum16 (take (etx + 1) text))) none (some etx)
 
--- A text of good form, by what its fields gave: 8, 9, 10, 11, or its image.
+-- A text of good form, by what its fields gave: 8, 9, 13, 10, 11, or its image. "13, after 9 and before 10".
 unfoldable pub concluded : (fuses : ℕ) → (text : List ℕ) → (etx sum : ℕ) → Given → Outcome (List ℕ)
 concluded fuses text etx sum k =
     unless 8 (wrongCount fuses etx (k .count))
     (unless 9 (misplaced fuses 0 (k .lists))
+    (unless 13 (notGiven fuses (k .start) (k .lists))
     (unless 10 (wrongSum (finished fuses k) (k .sum))
-    (unless 11 (wrongTransmission text etx sum) (accepted (finished fuses k)))))
+    (unless 11 (wrongTransmission text etx sum) (accepted (finished fuses k))))))
 
 -- 7: after ETX the first wrong byte; for a text that ends early its length; the offset at which the first bad field
 -- starts.

@@ -7,6 +7,7 @@ use mathlib.Core.Option.{Option}
 use mathlib.Core.Option.Option.{none, some}
 use lib.Dec.{eqb, ltb, leb}
 use lib.ListN.{length, getD}
+use Rattle.part.specs.Lowest.{lowest}
 use Rattle.image.specs.Bits.{gathered, tabulate}
 use Rattle.jedec.specs.Cut.{Field}
 use Rattle.jedec.specs.Judge.{Judged, judge}
@@ -92,7 +93,28 @@ misplaced fuses end [] = none
 misplaced fuses end (l ∷ lists) =
     cond (ltb (l .first) end || ltb fuses (endOf l)) (some (l .at)) (misplaced fuses (endOf l) lists)
 
--- "the start state of all fuses; without it they start at 0".
+-- Whether an L gives a fuse its state: it gives one state to each fuse from its first on.
+abbrev pub inside : (fuse : ℕ) → Listed → Bool
+inside fuse l = leb (l .first) fuse && ltb fuse (endOf l)
+
+-- Whether some L gives a fuse its state.
+unfoldable pub isGiven : List Listed → (fuse : ℕ) → Bool
+isGiven [] fuse = false
+isGiven (l ∷ lists) fuse = inside fuse l || isGiven lists fuse
+
+-- The first fuse below the count that no L gives its state, or the count.
+abbrev pub firstNotGiven : (fuses : ℕ) → List Listed → ℕ
+firstNotGiven fuses lists = lowest (λ fuse. not (isGiven lists fuse)) fuses
+
+-- 13, K3 of document 02: "a text without F must give every fuse by L fields"; it "returns the first fuse not given".
+abbrev pub withoutStart : (fuses : ℕ) → (state : Option ℕ) → (first : ℕ) → Option ℕ
+withoutStart fuses none first = cond (ltb first fuses) (some first) none
+withoutStart fuses (some s) first = none
+
+abbrev pub notGiven : (fuses : ℕ) → (state : Option ℕ) → List Listed → Option ℕ
+notGiven fuses state lists = withoutStart fuses state (firstNotGiven fuses lists)
+
+-- "the start state of all fuses; without it they start at 0": since K3 every fuse is then in an L.
 abbrev pub startState : Option ℕ → ℕ
 startState none = 0
 startState (some s) = s
@@ -101,7 +123,7 @@ startState (some s) = s
 unfoldable pub stateGiven : (from : ℕ) → List Listed → ℕ → ℕ
 stateGiven from [] fuse = from
 stateGiven from (l ∷ lists) fuse =
-    cond (leb (l .first) fuse && ltb fuse (endOf l)) (getD (l .states) (fuse - l .first) 0) (stateGiven from lists fuse)
+    cond (inside fuse l) (getD (l .states) (fuse - l .first) 0) (stateGiven from lists fuse)
 
 -- The image of so many fuses: one bit a fuse, fuse f is bit f mod 8 of byte f div 8, bits past the last fuse 0.
 abbrev pub within : (fuses : ℕ) → (ℕ → ℕ) → ℕ → ℕ

@@ -1,4 +1,4 @@
--- The end of a text: what the reader answers, a refusal of 8 to 11 or the image, is what the text means.
+-- The end of a text: what the reader answers, a refusal of 8, 9, 13, 10 or 11 or the image, is what the text means.
 -- A law is named by its refusal, and `nothing-wrong` says that the image is the text's.
 use mathlib.Core.Path.{_≡_, sym, _∙_, ap}
 use mathlib.Core.List.{List}
@@ -7,8 +7,9 @@ use Prim.Native.Nat.{ℕ}
 use native.Mathlib.Omega.{arith}
 use Rattle.part.specs.Outcome.{Outcome}
 use Rattle.part.specs.Outcome.Outcome.{accepted, refused}
-use Rattle.jedec.specs.Rules.{Given, wrongCount, misplaced, finished}
+use Rattle.jedec.specs.Rules.{Given, wrongCount, misplaced, withoutStart, notGiven, finished}
 use Rattle.jedec.specs.Meaning.{wrongSum, wrongTransmission, concluded}
+use Rattle.jedec.proofs.NotGiven.{rule-13}
 use Rattle.jedec_progress.specs.Progress.{optionalField, optionalNumber}
 use Rattle.jedec_progress.specs.Progress.{ProgressKnows}
 use Rattle.jedec_end.specs.End.{TextRead}
@@ -46,22 +47,33 @@ module _ (fuses : ℕ) (text : List ℕ) (etx sum : ℕ) (p : Progress) (image :
         in-place : (k : Given) → ProgressKnows fuses p k image → misplaced fuses 0 (k .lists) ≡ none
         in-place k g = sym (g .faulty) ∙ ap optionalNumber v
 
-        module _ (b : OptionalNumber) (h : optionalNumber b ≡ wrongSum image (optionalField (p .sum))) where
-          sum-there : (k : Given) → ProgressKnows fuses p k image → wrongSum (finished fuses k) (k .sum) ≡ optionalNumber b
-          sum-there k g = rw (← g .holds (in-place k g), ← g .sum) (sym h)
+        module _ (d : OptionalNumber) (j : optionalNumber d ≡ withoutStart fuses (optionalNumber (p .start)) (p .missing)) where
+          given-there : (k : Given) → ProgressKnows fuses p k image → notGiven fuses (k .start) (k .lists) ≡ optionalNumber d
+          given-there k g =
+              rule-13 fuses (k .start) (k .lists) (p .missing) (g .below (in-place k g) .first) ∙ rw (← g .start) (sym j)
 
-          pub ten : (at : ℕ) → b ≡ optional-number.Some at → Concludes (refused 10 at)
+          pub thirteen : (fuse : ℕ) → d ≡ optional-number.Some fuse → Concludes (refused 13 fuse)
           unfolding concluded
-          ten at u k g = refused-reads _ 10 at image (rw (right-count k g, in-place k g, sum-there k g, u))
+          thirteen fuse t k g = refused-reads _ 13 fuse image (rw (right-count k g, in-place k g, given-there k g, t))
 
-          module _ (u : b ≡ optional-number.None) (c : OptionalNumber) (m : optionalNumber c ≡ wrongTransmission text etx sum) where
-            pub eleven : (at : ℕ) → c ≡ optional-number.Some at → Concludes (refused 11 at)
-            unfolding concluded
-            eleven at q k g = refused-reads _ 11 at image (rw (right-count k g, in-place k g, sum-there k g, u, ← m, q))
+          module _ (t : d ≡ optional-number.None) (b : OptionalNumber) (h : optionalNumber b ≡ wrongSum image (optionalField (p .sum)))
+            where
+              sum-there : (k : Given) → ProgressKnows fuses p k image → wrongSum (finished fuses k) (k .sum) ≡ optionalNumber b
+              sum-there k g = rw (← g .holds (in-place k g), ← g .sum) (sym h)
 
-            pub nothing-wrong : c ≡ optional-number.None → Concludes (accepted tt)
-            unfolding concluded
-            nothing-wrong q k g =
-                let whole : concluded fuses text etx sum k ≡ accepted (finished fuses k) =
-                rw (right-count k g, in-place k g, sum-there k g, u, ← m, q) in
-                record { answers = rw whole; holds = λ h. g .holds (in-place k g) ∙ rw whole }
+              pub ten : (at : ℕ) → b ≡ optional-number.Some at → Concludes (refused 10 at)
+              unfolding concluded
+              ten at u k g = refused-reads _ 10 at image (rw (right-count k g, in-place k g, given-there k g, t, sum-there k g, u))
+
+              module _ (u : b ≡ optional-number.None) (c : OptionalNumber) (m : optionalNumber c ≡ wrongTransmission text etx sum) where
+                pub eleven : (at : ℕ) → c ≡ optional-number.Some at → Concludes (refused 11 at)
+                unfolding concluded
+                eleven at q k g =
+                    refused-reads _ 11 at image (rw (right-count k g, in-place k g, given-there k g, t, sum-there k g, u, ← m, q))
+
+                pub nothing-wrong : c ≡ optional-number.None → Concludes (accepted tt)
+                unfolding concluded
+                nothing-wrong q k g =
+                    let whole : concluded fuses text etx sum k ≡ accepted (finished fuses k) =
+                    rw (right-count k g, in-place k g, given-there k g, t, sum-there k g, u, ← m, q) in
+                    record { answers = rw whole; holds = λ h. g .holds (in-place k g) ∙ rw whole }

@@ -1,11 +1,11 @@
-// The refusals 8 to 11, and the answer to a text whose fields are read.
+// The refusals 8, 9, 13, 10 and 11, and the answer to a text whose fields are read.
 // A function here may require that a text is not too long and that ETX is in it.
 ghost use mathlib.Core.Path.{_≡_};
 ghost use mathlib.Core.Option.Option.{some};
 ghost use Prim.Native.Nat.{_<_, _≤_};
 ghost use lib.ListN.{length};
 ghost use Rattle.part.specs.Answer.{doneOutcome};
-ghost use Rattle.jedec.specs.Rules.{Given, wrongCount};
+ghost use Rattle.jedec.specs.Rules.{Given, wrongCount, withoutStart};
 ghost use Rattle.jedec.specs.Meaning.{longest, wrongSum, wrongTransmission, concluded, withEnd};
 ghost use Rattle.jedec_progress.specs.Progress.{optionalField, optionalNumber, ProgressKnows};
 ghost use Rattle.jedec_end.specs.End.{TextRead};
@@ -28,6 +28,23 @@ fn wrong_count(fuses: u32, etx: u32, count: OptionalField) -> OptionalNumber
                 return OptionalNumber::None;
             }
             OptionalNumber::Some(at)
+        }
+    }
+}
+
+// Refusal 13: no F, and the first fuse that no L gives is below the count.
+fn without_start(fuses: u32, start: OptionalNumber, first: usize) -> OptionalNumber
+    ensures { λ r. ⌜ optionalNumber r ≡ withoutStart fuses (optionalNumber start) first ⌝ }
+{
+    match start {
+        OptionalNumber::Some(_) => OptionalNumber::None,
+        OptionalNumber::None => {
+            let count = fuses as usize;
+            if first < count {
+                let fuse = first as u32;
+                return OptionalNumber::Some(fuse);
+            }
+            OptionalNumber::None
         }
     }
 }
@@ -60,7 +77,7 @@ fn wrong_transmission(text: &[u8], etx: usize, given: u32) -> OptionalNumber
     OptionalNumber::Some(etx as u32)
 }
 
-// A text of good form is refused by the lowest of 8, 9, 10 and 11, or else the image is the text's.
+// A text of good form is refused by the first of 8, 9, 13, 10 and 11, or else the image is the text's.
 fn conclude(
     fuses: u32,
     text: &[u8],
@@ -81,6 +98,11 @@ fn conclude(
     let nine = p.misplaced;
     if let OptionalNumber::Some(at) = nine {
         return DoneAnswer::Refused(Refusal::MisplacedFuseList(at));
+    }
+    let start = p.start;
+    let thirteen = without_start(fuses, start, p.missing);
+    if let OptionalNumber::Some(fuse) = thirteen {
+        return DoneAnswer::Refused(Refusal::FuseNotGiven(fuse));
     }
     let sum = p.sum;
     let ten = wrong_sum(image, sum);

@@ -50,7 +50,15 @@ module _ (fuses : ℕ) (l : Listed) where
       go true ih h = let z : _≡_ {A = ℕ} 0 1 = cc in absurd (omega arith)
       go false ih h = ih h
 
-ends-rise : (fuses end : ℕ) (lists : List Listed) → misplaced fuses end lists ≡ none → end ≤ lastEnd end lists
+  -- Where it is in place too, it starts at or after the end of the last one before it.
+  pub last-placed : (end : ℕ) (lists : List Listed) → misplaced fuses end lists ≡ none → misplaced fuses end (lists ++ (l ∷ [])) ≡ none
+      → (lastEnd end lists ≤ l .first) × (endOf l ≤ fuses)
+  unfolding misplaced
+  last-placed end lists e f =
+      let p = placed fuses (lastEnd end lists) l [] (sym (now-misplaced end lists e) ∙ f) in
+      (p .0, p .1)
+
+pub ends-rise : (fuses end : ℕ) (lists : List Listed) → misplaced fuses end lists ≡ none → end ≤ lastEnd end lists
 unfolding lastEnd
 ends-rise fuses end [] e = omega arith
 ends-rise fuses end (a ∷ lists) e =
@@ -93,21 +101,13 @@ pub put-listed : (fuses from : ℕ) (lists : List Listed) (l : Listed) (image : 
     → misplaced fuses 0 (lists ++ (l ∷ [])) ≡ none → misplaced fuses 0 lists ≡ none
     → Holds fuses from (lists ++ (l ∷ [])) (withStates image (l .first) (l .states))
 put-listed fuses from lists l image h bits e f =
-    let rule : misplaced fuses 0 (lists ++ (l ∷ [])) ≡ cond (ltb (l .first) (lastEnd 0 lists) || ltb fuses (endOf l)) (some (l .at)) none =
-    now-misplaced fuses l 0 lists f in
-    compared (l .first) (lastEnd 0 lists)
-    (λ m. let bad : none ≡ some (l .at) = sym e ∙ rule ∙ rw (lt-ltb (l .first) (lastEnd 0 lists) m) in
-    let z : _≡_ {A = ℕ} 0 1 = cc in absurd (omega arith))
-    (λ g. compared fuses (endOf l)
-    (λ m. let bad : none ≡ some (l .at) = sym e ∙ rule ∙ rw (le-ltb (l .first) (lastEnd 0 lists) g, lt-ltb fuses (endOf l) m) in
-    let z : _≡_ {A = ℕ} 0 1 = cc in absurd (omega arith))
-    (λ m.
+    let p = last-placed fuses l 0 lists f e in
     let same : (k : ℕ) → over (stateGiven from lists) (l .first) (l .states) k ≡ stateGiven from (lists ++ (l ∷ [])) k =
-    given-more fuses from 0 l lists f g in
+    given-more fuses from 0 l lists f (p .0) in
     record {
       is =
           ap (λ (x : List ℕ). withStates x (l .first) (l .states)) (h .is)
-          ∙ put-states fuses (l .states) (stateGiven from lists) (l .first) (h .bits) bits m
+          ∙ put-states fuses (l .states) (stateGiven from lists) (l .first) (h .bits) bits (p .1)
           ∙ image-same fuses _ _ (λ k p. same k);
       bits = λ k. rw (← same k) (over-small (stateGiven from lists) (l .first) (l .states) (h .bits) bits k);
-    }))
+    }

@@ -6,9 +6,9 @@ use mathlib.Core.Bool.{Bool, true, false, cond, not, _&&_, _||_}
 use mathlib.Core.List.{List}
 use mathlib.Core.Option.{Option}
 use mathlib.Core.Option.Option.{none, some}
-use lib.Dec.{ltb}
-use Rattle.jedec.specs.Form.{lastEnd}
-use Rattle.jedec.specs.Rules.{At, Given, has, hasAny, misplaced, startState, stateGiven, imageWith}
+use lib.Dec.{eqb, ltb}
+use Rattle.jedec.specs.Form.{lastEnd, FirstNotGiven}
+use Rattle.jedec.specs.Rules.{At, Listed, Given, has, hasAny, misplaced, startState, stateGiven, imageWith}
 use Rattle.jedec.specs.Meaning.{longest}
 use Rattle.jedec_judge.specs.declared.FieldSays.{FieldSays}
 use Rattle.jedec_judge.specs.declared.FieldSays.the-variants as says
@@ -35,6 +35,7 @@ noProgress = record {
   listed = false;
   end = 0;
   misplaced = optional-number.None;
+  missing = 0;
   sum = optional-field.None;
 }
 
@@ -53,6 +54,10 @@ misplacedAfter fuses (optional-number.Some x) end at first number = optional-num
 misplacedAfter fuses optional-number.None end at first number =
     cond (ltb first end || ltb fuses (first + number)) (optional-number.Some at) optional-number.None
 
+-- The first fuse that no L gives, after one L more.
+abbrev pub missingAfter : (before first number : ℕ) → ℕ
+missingAfter before first number = cond (eqb first before) (first + number) before
+
 -- What is known after each of QF, F, L and C, and after any field.
 abbrev pub withCount : Progress → (at n : ℕ) → Progress
 withCount p at n = record {
@@ -61,6 +66,7 @@ withCount p at n = record {
   listed = p .listed;
   end = p .end;
   misplaced = p .misplaced;
+  missing = p .missing;
   sum = p .sum;
 }
 
@@ -71,6 +77,7 @@ withStart p s = record {
   listed = p .listed;
   end = p .end;
   misplaced = p .misplaced;
+  missing = p .missing;
   sum = p .sum;
 }
 
@@ -82,6 +89,7 @@ withList fuses p at first number =
       listed = true;
       end = first + number;
       misplaced = misplacedAfter fuses (p .misplaced) (p .end) at first number;
+      missing = missingAfter (p .missing) first number;
       sum = p .sum;
     }
 
@@ -92,6 +100,7 @@ withSum p at x = record {
   listed = p .listed;
   end = p .end;
   misplaced = p .misplaced;
+  missing = p .missing;
   sum = optional-field.Some at x;
 }
 
@@ -112,6 +121,11 @@ FewStates (says.Sum x) = Unit {0}
 FewStates says.Skipped = Unit {0}
 FewStates says.Bad = Unit {0}
 
+-- Unless an L is misplaced, the first fuse that no L gives is known, and it does not lie behind the end of the last L.
+pub record GivenBelow (fuse : ℕ) (lists : List Listed) : Type 0 where
+  pub first : FirstNotGiven lists fuse
+  pub at-most : fuse ≤ lastEnd 0 lists
+
 -- What the reader knows is what the fields gave, and an image holds it unless an L is misplaced.
 pub record ProgressKnows (fuses : ℕ) (p : Progress) (k : Given) (image : List ℕ) : Type 0 where
   pub count : optionalField (p .count) ≡ k .count
@@ -119,6 +133,7 @@ pub record ProgressKnows (fuses : ℕ) (p : Progress) (k : Given) (image : List 
   pub listed : p .listed ≡ hasAny (k .lists)
   pub end : p .end ≡ lastEnd 0 (k .lists)
   pub faulty : optionalNumber (p .misplaced) ≡ misplaced fuses 0 (k .lists)
+  pub below : misplaced fuses 0 (k .lists) ≡ none → GivenBelow (p .missing) (k .lists)
   pub sum : optionalField (p .sum) ≡ k .sum
   pub bits : misplaced fuses 0 (k .lists) ≡ none → (fuse : ℕ) → stateGiven (startState (k .start)) (k .lists) fuse < 2
   pub holds : misplaced fuses 0 (k .lists) ≡ none

@@ -5,8 +5,8 @@ ghost use Prim.Native.Nat.{_+_, _<_, _≤_};
 ghost use Rattle.jedec.specs.Rules.{has};
 ghost use Rattle.jedec.specs.Meaning.{longest};
 ghost use Rattle.jedec_progress.specs.Progress.{optionalField, optionalNumber, noProgress, mayStand};
-ghost use Rattle.jedec_progress.specs.Progress.{misplacedAfter, withCount, withStart, withList, withSum};
-ghost use Rattle.jedec_progress.specs.Progress.{FewStates, afterField};
+ghost use Rattle.jedec_progress.specs.Progress.{misplacedAfter, missingAfter, withCount, withStart, withList};
+ghost use Rattle.jedec_progress.specs.Progress.{withSum, FewStates, afterField};
 use jedec_judge::FieldSays;
 
 // A number that a field gave, and where the field starts.
@@ -22,13 +22,14 @@ pub enum OptionalNumber {
 }
 
 // What the fields so far gave: QF, the start state, whether there was an L, where the last one ended, where the first
-// misplaced one starts, and C.
+// misplaced one starts, the first fuse that no L gave (unless one is misplaced), and C.
 pub struct Progress {
     pub count: OptionalField,
     pub start: OptionalNumber,
     pub listed: bool,
     pub end: usize,
     pub misplaced: OptionalNumber,
+    pub missing: usize,
     pub sum: OptionalField,
 }
 
@@ -42,6 +43,7 @@ pub fn no_progress() -> Progress
         listed: false,
         end: 0,
         misplaced: OptionalNumber::None,
+        missing: 0,
         sum: OptionalField::None,
     }
 }
@@ -114,6 +116,19 @@ fn misplaced_after(
     }
 }
 
+// The first fuse that no L gives: the end of an L that starts at the one so far, else that one still.
+fn missing_after(before: usize, first: u32, count: usize) -> usize
+    requires { ⌜ count ≤ longest ⌝ }
+    ensures { λ r. ⌜ r ≡ missingAfter before first count ⌝ }
+{
+    let from = first as usize;
+    let end = from + count;
+    if from == before {
+        return end;
+    }
+    before
+}
+
 // What is known after each of QF, F, L and C.
 fn with_count(p: Progress, at: u32, n: u32) -> Progress
     ensures { λ r. ⌜ r ≡ withCount p at n ⌝ }
@@ -127,6 +142,7 @@ fn with_count(p: Progress, at: u32, n: u32) -> Progress
         listed: p.listed,
         end: p.end,
         misplaced,
+        missing: p.missing,
         sum,
     }
 }
@@ -143,6 +159,7 @@ fn with_start(p: Progress, s: u32) -> Progress
         listed: p.listed,
         end: p.end,
         misplaced,
+        missing: p.missing,
         sum,
     }
 }
@@ -156,12 +173,15 @@ fn with_list(fuses: u32, p: Progress, at: u32, first: u32, n: usize) -> Progress
     let before = p.misplaced;
     let sum = p.sum;
     let misplaced = misplaced_after(fuses, before, p.end, at, first, n);
+    let missing = missing_after(p.missing, first, n);
+    let end = first as usize + n;
     Progress {
         count,
         start,
         listed: true,
-        end: first as usize + n,
+        end,
         misplaced,
+        missing,
         sum,
     }
 }
@@ -178,6 +198,7 @@ fn with_sum(p: Progress, at: u32, x: u32) -> Progress
         listed: p.listed,
         end: p.end,
         misplaced,
+        missing: p.missing,
         sum: OptionalField::Some { at, value: x },
     }
 }

@@ -1,4 +1,5 @@
 -- The laws about the reader.
 -- Assumes nothing.
+pub mod GivenMore
 pub mod Steps
 pub mod Walks

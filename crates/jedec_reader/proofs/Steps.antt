@@ -18,12 +18,13 @@ use Rattle.jedec_judge.specs.declared.FieldSays.the-variants as says
 use Rattle.jedec.specs.Form.{lastEnd}
 use Rattle.jedec_image.specs.States.{withStates, putField, PutFits}
 use Rattle.jedec_image.proofs.WrittenStates.{written-bits}
-use Rattle.jedec_image.proofs.ListedImages.{Holds, start-holds, put-listed, last-more, still-misplaced, now-misplaced}
+use Rattle.jedec_image.proofs.ListedImages.{Holds, start-holds, put-listed, last-more, last-placed, still-misplaced, now-misplaced}
 use Rattle.jedec_progress.specs.Progress.{optionalNumber, mayStand, misplacedAfter, afterField}
 use Rattle.jedec_progress.specs.Progress.{ProgressKnows}
 use Rattle.jedec_progress.specs.declared.progress.OptionalNumber.{OptionalNumber}
 use Rattle.jedec_progress.specs.declared.progress.OptionalNumber.the-variants as optional-number
 use Rattle.jedec_progress.specs.declared.progress.Progress.{Progress}
+use Rattle.jedec_reader.proofs.GivenMore.{given-below}
 
 pub in-order : (fuses : ℕ) (p : Progress) (k : Given) (image rest : List ℕ) (s : FieldSays) → ProgressKnows fuses p k image
     → mayStand p s ≡ inOrder k (judgedAfter rest s)
@@ -102,6 +103,7 @@ module _ (fuses : ℕ) (p : Progress) (k : Given) (image rest : List ℕ) (at : 
         listed = g .listed;
         end = g .end;
         faulty = g .faulty;
+        below = g .below;
         sum = g .sum;
         bits = λ m. rw empty (start-holds fuses x f .bits);
         holds = λ m. rw empty;
@@ -125,6 +127,10 @@ module _ (fuses : ℕ) (p : Progress) (k : Given) (image rest : List ℕ) (at : 
         listed = any-listed (k .lists) l;
         end = rw (← f .many) (sym (last-more fuses l 0 (k .lists)));
         faulty = faulty;
+        below = λ m.
+            let before : misplaced fuses 0 (k .lists) ≡ none = none-before fuses (k .lists) l m in
+            rw (← f .many)
+            (given-below fuses (k .lists) l before (last-placed fuses l 0 (k .lists) before m .0) (p .missing) (g .below before));
         sum = g .sum;
         bits = λ m. held m .bits;
         holds = λ m. rw (no-number (misplacedAfter fuses (p .misplaced) (p .end) at first number) (faulty ∙ m)) (held m .is);
@@ -138,6 +144,7 @@ module _ (fuses : ℕ) (p : Progress) (k : Given) (image rest : List ℕ) (at : 
         listed = g .listed;
         end = g .end;
         faulty = g .faulty;
+        below = g .below;
         sum = g .sum;
         bits = g .bits;
         holds = g .holds;
@@ -151,6 +158,7 @@ module _ (fuses : ℕ) (p : Progress) (k : Given) (image rest : List ℕ) (at : 
         listed = g .listed;
         end = g .end;
         faulty = g .faulty;
+        below = g .below;
         sum = refl;
         bits = g .bits;
         holds = g .holds;

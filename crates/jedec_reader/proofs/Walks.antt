@@ -57,6 +57,8 @@ starts fuses text from image p none l e =
         listed = refl;
         end = refl;
         faulty = refl;
+        below = λ m.
+            record { first = record { in-none = tt; lower-given = λ fuse h. absurd (omega arith) }; at-most = omega arith };
         sum = refl;
         bits = λ m. start-holds fuses 0 (omega arith) .bits;
         holds = λ m. e;

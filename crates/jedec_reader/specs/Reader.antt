@@ -1,4 +1,4 @@
--- Text to image: what a call answers, refusals 1, 2 and 7 to 11 in this order, and the image that it puts in place.
+-- Text to image: what a call answers, refusals 1, 2, 7, 8, 9, 13, 10 and 11 in this order, and the image put in place.
 -- What a text means is defined in crate `jedec`.
 use Prim.Native.Nat.{ℕ}
 use mathlib.Core.List.{List}

@@ -9,8 +9,8 @@ use part::Refusal;
 
 mod walk;
 
-// Puts the image that a text describes into `image`; refusals are 1, 2 and 7 to 11. The image is made beside the
-// caller's, since a refusal changes no byte of that.
+// Puts the image that a text describes into `image`; refusals are 1, 2, 7, 8, 9, 13, 10 and 11, in this order. The
+// image is made beside the caller's, since a refusal changes no byte of that.
 pub fn text_to_image(d: Device, text: &[u8], image: &mut [u8]) -> DoneAnswer
     ensures { λ r. ⌜ Written (toImageFromText d (now (text .entry)) (now (image .entry))) (doneOutcome r)
         (imageIn d (now (text .entry))) (now (image .entry)) (now (image .exit)) ⌝ }

@@ -1,6 +1,7 @@
 -- The laws of `part` that belong to no one function.
 -- Assumes nothing.
 pub mod Facts
+pub mod Lowest
 pub mod Tables
 pub mod Sums
 pub mod Rows

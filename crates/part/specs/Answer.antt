@@ -1,4 +1,4 @@
--- What each answer of the code says: document 01's number and value for every refusal, and the result.
+-- What each answer of the code says: number and value of every refusal, as the papers give them, and the result.
 -- A contract that cites these determines the answer (`refusal-determined` in proofs/Laws.antt).
 use Prim.Native.Nat.{ℕ}
 use Rattle.part.specs.Outcome.{Outcome}
@@ -7,7 +7,7 @@ use Rattle.part.specs.declared.Refusal.{Refusal}
 use Rattle.part.specs.declared.Refusal.the-variants.{UnknownDevice, WrongLength, NoSuchFuse, NoSuchSetting}
 use Rattle.part.specs.declared.Refusal.the-variants.{NoSuchValue, BitAboveWidth, BadForm, WrongFuseCount}
 use Rattle.part.specs.declared.Refusal.the-variants.{MisplacedFuseList, WrongFuseSum, WrongTransmissionSum}
-use Rattle.part.specs.declared.Refusal.the-variants.{BufferTooShort}
+use Rattle.part.specs.declared.Refusal.the-variants.{BufferTooShort, FuseNotGiven}
 use Rattle.part.specs.declared.Sizes.{Sizes}
 use Rattle.part.specs.declared.SizesAnswer.{SizesAnswer}
 use Rattle.part.specs.declared.SizesAnswer.the-variants as sizes
@@ -30,6 +30,7 @@ refusalNumber (MisplacedFuseList at) = 9
 refusalNumber (WrongFuseSum at) = 10
 refusalNumber (WrongTransmissionSum at) = 11
 refusalNumber (BufferTooShort needed) = 12
+refusalNumber (FuseNotGiven fuse) = 13
 
 -- "returns besides".
 abbrev pub refusalValue : Refusal → ℕ
@@ -45,6 +46,7 @@ refusalValue (MisplacedFuseList at) = at
 refusalValue (WrongFuseSum at) = at
 refusalValue (WrongTransmissionSum at) = at
 refusalValue (BufferTooShort needed) = needed
+refusalValue (FuseNotGiven fuse) = fuse
 
 abbrev pub sizesOutcome : SizesAnswer → Outcome Sizes
 sizesOutcome (sizes.Of x) = accepted x

@@ -3,6 +3,7 @@
 pub mod Outcome
 pub mod Device
 pub mod Answer
+pub mod Lowest
 pub mod Place
 pub mod Sizes
 pub mod Cases

@@ -72,6 +72,8 @@ pub enum Refusal {
     WrongTransmissionSum(u32),
     // 12: the buffer for the text is too short: the bytes needed
     BufferTooShort(u32),
+    // 13: the text has no F, and its Ls do not give every fuse: the first fuse not given
+    FuseNotGiven(u32),
 }
 
 // How many fuses a device has, and how many bytes an image, a readout and a JEDEC text of it.
@@ -116,6 +118,7 @@ pub fn refusal_number(r: Refusal) -> u32
         Refusal::WrongFuseSum(_) => 10,
         Refusal::WrongTransmissionSum(_) => 11,
         Refusal::BufferTooShort(_) => 12,
+        Refusal::FuseNotGiven(_) => 13,
     }
 }
 
@@ -136,6 +139,7 @@ pub fn refusal_value(r: Refusal) -> u32
         Refusal::WrongFuseSum(at) => at,
         Refusal::WrongTransmissionSum(at) => at,
         Refusal::BufferTooShort(needed) => needed,
+        Refusal::FuseNotGiven(fuse) => fuse,
     }
 }
 

@@ -1,5 +1,5 @@
-// Prints what the reader of texts answers for each device: a written text whole, cut short, and with a byte changed.
-// The file stdout beside src/ is what the independent program prints.
+// Prints what the reader of texts answers for each device: a written text whole, cut short, with a byte changed, and
+// without F. The file stdout beside src/ is what the independent program prints.
 ghost use mathlib.Core.Path.{_≡_};
 ghost use lib.ListN.{length};
 use part::Device;
@@ -94,6 +94,73 @@ fn damaged(d: Device, text: &mut [u8], image: &mut [u8]) {
     }
 }
 
+// The offset of the first byte of a kind from an offset on, or the length.
+fn next_byte(text: &[u8], from: usize, byte: u8) -> usize {
+    let mut at = from;
+    while at < text.len() {
+        if text[at] == byte {
+            return at;
+        }
+        at += 1;
+    }
+    text.len()
+}
+
+// Reads the text with the next line made a comment, or with the next state after a blank made a blank.
+fn left_out(d: Device, text: &mut [u8], image: &mut [u8], from: usize, line: bool) {
+    if line {
+        let at = next_byte(&text[..], from, b'L');
+        changed(d, text, image, at, b'N');
+        return;
+    }
+    let blank = next_byte(&text[..], from, b' ');
+    if blank < text.len() {
+        changed(d, text, image, blank + 1, b' ');
+    }
+}
+
+// From where on something is left out: from the start, from just before the last line, or from anywhere.
+fn from_place(kind: u32, word: u64, length: usize) -> usize {
+    if kind == 0 {
+        return 0;
+    }
+    if length == 0 {
+        return 0;
+    }
+    if kind == 1 {
+        return length - at_most(70, length);
+    }
+    word as usize % length
+}
+
+// Makes the transmission sum one that is not given, and the F field a comment.
+fn take_start(text: &mut [u8]) {
+    let mut at = text.len() - at_most(4, text.len());
+    while at < text.len() {
+        text[at] = b'0';
+        at += 1;
+    }
+    let start = next_byte(&text[..], 5, b'F');
+    if start < text.len() {
+        text[start] = b'N';
+    }
+}
+
+// Reads the text without its F: whole, and twelve times with a line or a state left out.
+fn without_start(d: Device, text: &mut [u8], image: &mut [u8]) {
+    take_start(text);
+    read(b"no F image", d, &text[..], image);
+    vectors::end_line();
+    let mut word: u64 = 11;
+    let mut k: u32 = 0;
+    while k < 12 {
+        word = vectors::next(word);
+        let from = from_place(k / 2, word / 16, text.len());
+        left_out(d, text, image, from, k % 2 == 0);
+        k += 1;
+    }
+}
+
 // A device, or the smallest where there is none.
 fn known(d: Device) -> Device {
     if part::is_known(d) {
@@ -111,6 +178,7 @@ fn on_text(d: Device, text: &mut [u8], image: &mut [u8]) {
     lengths(d, &text[..], image);
     if part::is_known(d) {
         damaged(d, text, image);
+        without_start(d, text, image);
     }
 }
 

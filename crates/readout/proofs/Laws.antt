@@ -28,6 +28,7 @@ use Rattle.addresses.specs.Convert.{addressOfFuse, fuseOfAddress}
 use Rattle.part.specs.declared.Device.{Device}
 use Rattle.part.specs.declared.BytePlace.{BytePlace}
 use Rattle.part.proofs.Facts.{and-iff, compared}
+use Rattle.part.proofs.Lowest.{lowest-iff}
 use Rattle.part.proofs.Fuses.{at-fuse}
 use Rattle.addresses.proofs.Readouts.{at-index, of-byte}
 use Rattle.addresses.proofs.ByteAddresses.{address-inverse}
@@ -41,7 +42,6 @@ use Rattle.image.proofs.Counts.{state-bit}
 use Rattle.readout.specs.Readout.{widthAt, fuseAt, readoutFrom, readoutOf, indexInReadout, bitInReadout, stateIn, imageOf, aboveAt}
 use Rattle.readout.specs.Readout.{firstAbove, toImage}
 use Rattle.readout.proofs.States.{readout-from, readout-within, same-readout, readout-own}
-use Rattle.readout.proofs.FirstAbove.{lowest-is, none-below}
 pub use Rattle.readout.proofs.States.{lying, from-length, readout-state}
 pub use Rattle.readout.proofs.Change.{change-agrees}
 
@@ -107,10 +107,18 @@ readout-inverse d readout k e small =
 pub no-above-iff : (d : Device) (readout : List ℕ) → (readoutBytes d ≤ firstAbove d readout) ↔ Within d readout
 unfolding aboveAt
 no-above-iff d readout = (
-  λ h index below. leb-false (2 ^ widthAt d index) (getD readout index 0) (none-below (aboveAt d readout) (readoutBytes d) h index below),
+  λ h index below.
+      let l = lowest-iff (aboveAt d readout) (readoutBytes d) (firstAbove d readout) .0 refl in
+      leb-false (2 ^ widthAt d index) (getD readout index 0) (l .lower-fail index (omega arith)),
   λ h.
-      le-of-eq (sym (lowest-is (aboveAt d readout) (readoutBytes d) (readoutBytes d) (omega arith)
-      (λ index below. lt-leb (2 ^ widthAt d index) (getD readout index 0) (h index below)) (λ bad. absurd (omega arith)))),
+      le-of-eq
+      (sym
+      (lowest-iff (aboveAt d readout) (readoutBytes d) (readoutBytes d) .1
+      (record {
+        at-most = omega arith;
+        lower-fail = λ index below. lt-leb (2 ^ widthAt d index) (getD readout index 0) (h index below);
+        passes = λ bad. absurd (omega arith);
+      }))),
 )
 
 -- No byte of an image's readout has a bit above its width.

@@ -1,6 +1,6 @@
 -- Readout: one byte for each valid address, in ascending order, value in the low bits, bits above the byte's width 0.
 -- The two conversions between image and readout, refusals and target bytes included. Document 01, "Three pictures".
-use Prim.Native.Nat.{ℕ, zero, suc, _^_}
+use Prim.Native.Nat.{ℕ, _^_}
 use mathlib.Core.Bool.{Bool, cond}
 use mathlib.Core.List.{List}
 use lib.Dec.{ltb, leb}
@@ -11,6 +11,7 @@ use Rattle.part.specs.Device.{imageBytes, readoutBytes}
 use Rattle.part.specs.Place.{widthOf, fuseOfPlace, placeOfFuse}
 use Rattle.addresses.specs.Address.{indexOfByte, byteOfIndex}
 use Rattle.part.specs.Sizes.{ifKnown, ifLength}
+use Rattle.part.specs.Lowest.{lowest}
 use Rattle.part.specs.declared.Device.{Device}
 use Rattle.image.specs.Bits.{bitAt, gathered, tabulate}
 use Rattle.image.specs.Image.{state, imageFrom}
@@ -51,11 +52,6 @@ imageOf d readout = imageFrom d (stateIn d readout)
 -- Whether the byte at an index has a bit above its width.
 unfoldable pub aboveAt : Device → List ℕ → ℕ → Bool
 aboveAt d readout index = leb (2 ^ widthAt d index) (getD readout index 0)
-
--- The lowest number below n that passes a test, or n.
-unfoldable pub lowest : (ℕ → Bool) → ℕ → ℕ
-lowest test zero = zero
-lowest test (suc n) = cond (ltb (lowest test n) n) (lowest test n) (cond (test n) n (suc n))
 
 -- The lowest index of such a byte, or the number of bytes.
 abbrev pub firstAbove : Device → List ℕ → ℕ

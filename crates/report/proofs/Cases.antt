@@ -3,6 +3,7 @@
 use mathlib.Core.Path.{_≡_, refl}
 use mathlib.Core.Option.{orElse}
 use Rattle.part.specs.Device.{fuseCount}
+use Rattle.part.specs.Lowest.{lowestFrom}
 use Prim.Native.Nat.{_+_, _*_}
 use native.Mathlib.Omega.{arith}
 use lib.Count.{ones}
@@ -14,12 +15,12 @@ use Rattle.image.specs.Image.{byteSum, sum16, state, zerosBelow}
 use Rattle.jedec.specs.Characters.{digitsRead, numberIn, sumIn, digitsOf}
 use Rattle.jedec.specs.Cut.{pieces, blanksBefore, fieldsFrom, holdsMark, tailFrom}
 use Rattle.jedec.specs.Judge.{unbroken, statesIn, listIn, judge}
-use Rattle.jedec.specs.Rules.{allFields, misplaced}
+use Rattle.jedec.specs.Rules.{allFields, misplaced, isGiven}
 use Rattle.jedec.specs.Meaning.{meaning, concluded}
 use Rattle.jedec.proofs.CaseImages.{all-ones}
 use Rattle.report_lines.specs.ReportLines.{countLines, refusalLine}
 use Rattle.report.specs.Report.{firstCount, blocksFor, outcomeOf, reportOf}
-use Rattle.report.specs.Cases.{BenchText, EmptyText, FourBlocks, TwoBlocks}
+use Rattle.report.specs.Cases.{BenchText, EmptyText, FourBlocks, TwoBlocks, NotGiven}
 
 pub empty-text : EmptyText
 unfolding reportOf outcomeOf blocksFor firstCount countLines refusalLine fuseCount meaning concluded pieces blanksBefore fieldsFrom
@@ -38,6 +39,12 @@ unfolding reportOf outcomeOf blocksFor firstCount countLines refusalLine fuseCou
     holdsMark tailFrom unbroken statesIn listIn judge allFields misplaced digitsRead numberIn sumIn byteSum sum16 digitsOf
     zerosBelow state bitAt orElse
 two-blocks = refl
+
+pub not-given : NotGiven
+unfolding reportOf outcomeOf blocksFor firstCount countLines refusalLine fuseCount meaning concluded pieces blanksBefore fieldsFrom
+    holdsMark tailFrom unbroken statesIn listIn judge allFields misplaced isGiven lowestFrom digitsRead numberIn sumIn byteSum sum16
+    digitsOf zerosBelow state bitAt orElse
+not-given = refl
 
 all-ones-in : onesIn allOnes ≡ 18144
 unfolding onesIn ones

@@ -1,7 +1,7 @@
 -- What holds of reports:
 --   report-short                   a report has at most 64 bytes, so a buffer of 64 bytes is never refused
 --   counts-whole, refusal-whole    every number of a report is printed whole: its digits are read as that number
---   bench-text, empty-text, four-blocks, two-blocks   what is written for four texts (specs/Cases.antt)
+--   bench-text, empty-text, four-blocks, two-blocks, not-given   what is written for five texts (specs/Cases.antt)
 use mathlib.Core.Path.{_≡_}
 use mathlib.Core.Bool.{Bool, true, false, cond}
 use mathlib.Core.List.{List}
@@ -14,12 +14,12 @@ use Rattle.part.specs.Outcome.Outcome.{refused}
 use Rattle.part.specs.Device.{fuseCount}
 use Rattle.image.specs.Image.{zerosBelow}
 use Rattle.jedec.specs.Characters.{numberIn, countDigits}
-use Rattle.jedec.specs.Meaning.{meaning}
+use Rattle.jedec.specs.Meaning.{longest, meaning}
 use Rattle.jedec.proofs.Laws.{count-back, values-small}
 use Rattle.report.specs.Report.{most, ofBlocks, blocksFor, outcomeOf}
 use Rattle.report.proofs.Answers.{by-device}
 pub use Rattle.report.proofs.Answers.{report-short}
-pub use Rattle.report.proofs.Cases.{bench-text, empty-text, four-blocks, two-blocks}
+pub use Rattle.report.proofs.Cases.{bench-text, empty-text, four-blocks, two-blocks, not-given}
 
 abbrev pub Whole : ℕ → Type 0
 Whole x = numberIn (countDigits x) ≡ some x
@@ -29,9 +29,9 @@ unfolding zerosBelow
 zeros-few image zero = omega arith
 zeros-few image (suc fuse) = omega (arith, zeros-few image fuse)
 
-fuses-few : (text : List ℕ) → fuseCount (ofBlocks (blocksFor text)) < 10 ^ 7
+fuses-few : (text : List ℕ) → fuseCount (ofBlocks (blocksFor text)) ≤ longest
 unfolding fuseCount
-fuses-few text = by-device (λ n. fuseCount (ofBlocks n) < 10 ^ 7) (omega arith) (omega arith) text
+fuses-few text = by-device (λ n. fuseCount (ofBlocks n) ≤ longest) (omega arith) (omega arith) text
 
 pub counts-whole : (text image : List ℕ)
     → Whole (blocksFor text) × Whole (fuseCount (ofBlocks (blocksFor text)))
@@ -39,7 +39,7 @@ pub counts-whole : (text image : List ℕ)
 counts-whole text image =
     let fuses = fuseCount (ofBlocks (blocksFor text)) in (
       count-back (blocksFor text) (by-device (λ n. n < 10 ^ 7) (omega arith) (omega arith) text),
-      count-back fuses (fuses-few text),
+      count-back fuses (omega (arith, fuses-few text)),
       count-back (zerosBelow image fuses) (omega (arith, zeros-few image fuses, fuses-few text)),
     )
 
@@ -54,5 +54,5 @@ refusal-whole text number value e = go (ltb most (length text)) e
         let v : most ≡ value = cc in
         (count-back number (omega arith), count-back value (omega arith))
     go false f =
-        let s = values-small (fuseCount (ofBlocks (blocksFor text))) text number value f in
-        (count-back number (omega (arith, s .1)), count-back value (omega (arith, s .2)))
+        let s = values-small (fuseCount (ofBlocks (blocksFor text))) (fuses-few text) text number value f in
+        (count-back number (omega (arith, s .0 .1)), count-back value (omega (arith, s .1)))

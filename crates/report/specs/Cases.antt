@@ -1,5 +1,5 @@
--- Document 01's text and what the bench program writes for it; the empty text; texts for four blocks and for two.
--- Assumes nothing.
+-- Document 01's text and what the bench program writes for it; the empty text; texts for four blocks and for two; one
+-- that does not give every fuse. Assumes nothing.
 use mathlib.Core.Path.{_≡_}
 use mathlib.Core.List.{List, [], _∷_, _++_}
 use Prim.Native.Nat.{ℕ}
@@ -27,3 +27,7 @@ FourBlocks = reportOf (file "*QF41472*L41471 11*" "0000") ≡ line "refused 9 at
 
 abbrev pub TwoBlocks : Type 0
 TwoBlocks = reportOf (file "*QF41473*" "0000") ≡ line "refused 8 at 2"
+
+-- 13 is printed as the others are, though its value is a fuse and no offset.
+abbrev pub NotGiven : Type 0
+NotGiven = reportOf (file "*QF41472*L0 11*L3 1*" "0000") ≡ line "refused 13 at 2"

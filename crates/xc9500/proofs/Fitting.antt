@@ -152,17 +152,17 @@ module _ (d : Device) where
       (λ k. chosen (WordFits itself) (eqb (length image) (imageBytes d)) (omega arith, omega arith)
       (λ e. by-cases (WordFits itself) buffer (textBytes d) (λ l. (omega arith, text-small k)) (λ g. text-small k)))
 
-  of-meaning : (text : List ℕ) (o : Outcome (List ℕ)) → meaning (fuseCount d) text ≡ o → WordFits noResult (verdict o)
-  of-meaning text (accepted image) e = omega arith
-  of-meaning text (refused number value) e =
-      let its = values-small (fuseCount d) text number value e in
-      (omega (arith, its .0), omega (arith, its .2))
+  of-meaning : known d ≡ true → (text : List ℕ) (o : Outcome (List ℕ)) → meaning (fuseCount d) text ≡ o → WordFits noResult (verdict o)
+  of-meaning k text (accepted image) e = omega arith
+  of-meaning k text (refused number value) e =
+      let its = values-small (fuseCount d) (omega (arith, fuses-small d k)) text number value e in
+      (omega (arith, its .0 .0), omega (arith, its .1))
 
   text-to-image : (text target : List ℕ) → WordFits noResult (toImageFromText d text target)
   unfolding toImageFromText
   text-to-image text target =
       chosen (WordFits noResult) (known d) (omega arith, omega arith) (λ k. chosen (WordFits noResult) (eqb (length target) (imageBytes d))
-      (omega arith, omega arith) (λ e. of-meaning text (meaning (fuseCount d) text) refl))
+      (omega arith, omega arith) (λ e. of-meaning k text (meaning (fuseCount d) text) refl))
 
   setting-count : WordFits itself (countOfSettings d)
   unfolding countOfSettings

@@ -5,6 +5,7 @@
 
 pub mod comparison;
 pub mod edits;
+pub mod fuses_given;
 pub mod inputs;
 pub mod library;
 pub mod optimised;

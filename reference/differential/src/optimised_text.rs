@@ -235,6 +235,8 @@ struct Draft {
     has_list: bool,
     /// The fuse after the last list.
     end: usize,
+    /// The first fuse that no list gives, as far as the lists are in order.
+    not_given: usize,
     /// The sum of a C field, with where the field is.
     checksum: Option<(u16, usize)>,
     wrong_count: Option<usize>,
@@ -250,6 +252,7 @@ impl Draft {
             has_start_state: false,
             has_list: false,
             end: 0,
+            not_given: 0,
             checksum: None,
             wrong_count: None,
             wrong_list: None,
@@ -312,12 +315,16 @@ impl Draft {
         if (first < self.end || end > self.fuses) && self.wrong_list.is_none() {
             self.wrong_list = Some(field);
         }
+        // Where a list starts further on, so do all after it, and this fuse stays not given.
+        if first == self.not_given {
+            self.not_given = end;
+        }
         self.end = end;
         self.has_list = true;
         Some(after)
     }
 
-    /// Refusals 8 to 11, for a text of good form.
+    /// Refusals 8, 9, 13, 10 and 11, in this order, for a text of good form.
     fn check(&self, text: &[u8], etx: usize, given_sum: u16) -> Answer<()> {
         if !self.has_count {
             return refuse(8, etx as u64);
@@ -327,6 +334,9 @@ impl Draft {
         }
         if let Some(field) = self.wrong_list {
             return refuse(9, field as u64);
+        }
+        if !self.has_start_state && self.not_given < self.fuses {
+            return refuse(13, self.not_given as u64);
         }
         if let Some((sum, field)) = self.checksum {
             if sum != sum_of_bytes(&self.image[..self.fuses / 8]) {

@@ -2,7 +2,9 @@
 // Of every call the answer and every byte of the lent image, which was filled with a pattern first.
 
 use crate::comparison::{Comparison, Function, IMAGE, TEXT};
+use crate::fuses_given::KINDS;
 use crate::inputs::{images, odd_devices, wrong_lengths};
+use crate::tally::KindTally;
 use crate::text_examples::{bytes, EXAMPLES};
 use crate::texts::{
     damaged, good_text, good_text_of, pieces_of_written, put_right_sum, Field, Pieces, ODD_BYTES,
@@ -11,7 +13,7 @@ use crate::texts::{
 use xc9500_reference::random::Random;
 use xc9500_reference::{
     all_devices, fuse_count, image_to_text, text_bytes, text_to_image, Device, Refusal,
-    BLOCK_COUNTS, SMALL,
+    BLOCK_COUNTS, LARGE, SMALL,
 };
 
 /// Damaged texts of short fields, and damaged texts of the writer.
@@ -20,6 +22,11 @@ const DAMAGED_WRITTEN: u32 = 400;
 
 /// How often each outcome occurs at least among these.
 const OFTEN: u64 = 1000;
+
+/// Texts of each kind without F. Most are of two blocks, as large parts take long; every so many are of another device,
+/// so that each kind is made for all of them.
+const OF_EACH_KIND: usize = 110;
+const OTHER_DEVICE: usize = 9;
 
 const LONGEST_TEXT: usize = 1_048_576;
 
@@ -42,10 +49,11 @@ pub fn compare_reader(name: &'static str, reader: Function, random: &mut Random)
     each_list(&mut comparison, random);
     each_sum(&mut comparison, random);
     several_faults(&mut comparison, reader);
+    fuses_given(&mut comparison, name, reader, random);
     size_limit(&mut comparison);
     wrong_images(&mut comparison, random);
     unknown_devices(&mut comparison, random);
-    let outcomes = [0, 7, 8, 9, 10, 11];
+    let outcomes = [0, 7, 8, 9, 10, 11, 13];
     let before = outcomes.map(|number| comparison.seen(number));
     damaged_texts(&mut comparison, random);
     for (number, before) in outcomes.iter().zip(before) {
@@ -53,7 +61,7 @@ pub fn compare_reader(name: &'static str, reader: Function, random: &mut Random)
         println!("{name}: outcome {number} of {seen} damaged texts");
         assert!(seen >= OFTEN, "{name}: outcome {number} is too rare");
     }
-    comparison.assert_refusals(&[1, 2, 7, 8, 9, 10, 11]);
+    comparison.assert_refusals(&[1, 2, 7, 8, 9, 10, 11, 13]);
 }
 
 /// Compares one call with an image of the right length.
@@ -91,6 +99,23 @@ fn written(comparison: &mut Comparison, random: &mut Random) {
         for (name, image) in images(device, random).into_iter().take(3) {
             let mut text = written_text(device, &image);
             call(comparison, device, &name, &text);
+            // Without its F it still gives every fuse; without one of its lines as well it does not.
+            let mut pieces = pieces_of_written(device, &text);
+            let start_state = pieces.one_of("F", random).expect("a written text has F0");
+            pieces.fields.remove(start_state);
+            pieces.put_right_sum();
+            call(comparison, device, "written, no F", &pieces.bytes());
+            let line = pieces
+                .one_of("L", random)
+                .expect("a written text has lines");
+            pieces.fields[line].body.insert(0, b'N');
+            pieces.put_right_sum();
+            call(
+                comparison,
+                device,
+                "written, no F, a line less",
+                &pieces.bytes(),
+            );
             let sum = text.len() - 4;
             text[sum..].make_ascii_lowercase();
             text.extend(b" \t\r\n");
@@ -105,7 +130,7 @@ fn written(comparison: &mut Comparison, random: &mut Random) {
     }
 }
 
-/// A short text with a field of each kind, and one with STX and ETX where they end it early.
+/// A short text with a field of each kind, with its transmission sum and without; and the shortest with F and without.
 fn short_texts() -> Vec<Pieces> {
     let fields = [
         "Nn",
@@ -124,9 +149,14 @@ fn short_texts() -> Vec<Pieces> {
     whole.put_right_checksum(&mut Random::new(0));
     whole.put_right_sum();
     whole.end.extend(b"\r\n");
-    let mut not_given = whole.clone();
-    not_given.end = b"0000".to_vec();
-    vec![whole, not_given, Pieces::new(SMALLEST, &["QF18144"])]
+    let mut no_sum = whole.clone();
+    no_sum.end = b"0000".to_vec();
+    vec![
+        whole,
+        no_sum,
+        Pieces::new(SMALLEST, &["QF18144", "F0"]),
+        Pieces::new(SMALLEST, &["QF18144"]),
+    ]
 }
 
 /// Short texts cut off at each place; each of their bytes changed, left out, preceded by another.
@@ -215,6 +245,9 @@ fn each_count(comparison: &mut Comparison) {
                 let field = Field::new(format!("QF{count}"));
                 with_count.fields.insert(comments / 2, field);
                 with_count.put_right_sum();
+                call(comparison, device, "count, no F", &with_count.bytes());
+                with_count.fields.push(Field::new("F1"));
+                with_count.put_right_sum();
                 call(comparison, device, "count", &with_count.bytes());
             }
         }
@@ -233,6 +266,7 @@ fn each_list(comparison: &mut Comparison, random: &mut Random) {
                 let list = format!("L{first} {}", states(length, random));
                 let mut pieces = Pieces::new(SMALLEST, &["QF18144", start, &list, "C0000"]);
                 pieces.put_right_checksum(random);
+                pieces.put_right_sum();
                 call(comparison, SMALLEST, "list", &pieces.bytes());
             }
         }
@@ -240,12 +274,15 @@ fn each_list(comparison: &mut Comparison, random: &mut Random) {
     for device in all_devices() {
         let count = fuse_count(device).unwrap() as usize;
         let fuse_count_field = format!("QF{count}");
-        // The whole part as one list, one fuse less, and one more.
+        // The whole part as one list, one fuse less, and one more; with F and without.
         for length in [count - 1, count, count + 1] {
-            let list = format!("L0 {}", states(length, random));
-            let mut pieces = Pieces::new(device, &[&fuse_count_field, "F1", &list, "C0000"]);
-            pieces.put_right_checksum(random);
-            call(comparison, device, "whole part", &pieces.bytes());
+            for start in ["F1", "N1"] {
+                let list = format!("L0 {}", states(length, random));
+                let mut pieces = Pieces::new(device, &[&fuse_count_field, start, &list, "C0000"]);
+                pieces.put_right_checksum(random);
+                pieces.put_right_sum();
+                call(comparison, device, "whole part", &pieces.bytes());
+            }
         }
         for place in 0..5usize {
             // Five lists of nine fuses, with gaps of one; the one at `place` starts elsewhere.
@@ -272,6 +309,9 @@ fn each_list(comparison: &mut Comparison, random: &mut Random) {
                     pieces.fields.push(Field::new(body));
                 }
                 pieces.put_right_sum();
+                call(comparison, device, "lists, no F", &pieces.bytes());
+                pieces.fields.insert(1, Field::new("F0"));
+                pieces.put_right_sum();
                 call(comparison, device, "lists", &pieces.bytes());
             }
         }
@@ -286,7 +326,15 @@ fn each_sum(comparison: &mut Comparison, random: &mut Random) {
         // With no list after it the C field may stand anywhere after the count.
         for fields in [
             &[&fuse_count_field, "F1", "N"][..],
-            &[&fuse_count_field, "N", "L3 101101110", "N", "X", "L100 1"],
+            &[
+                &fuse_count_field,
+                "F0",
+                "N",
+                "L3 101101110",
+                "N",
+                "X",
+                "L100 1",
+            ],
         ] {
             let first_place = 1 + fields
                 .iter()
@@ -328,15 +376,19 @@ fn near(sum: u16) -> Vec<u16> {
     sums
 }
 
-/// Every mixture of faults, of which the lowest is the answer, at its place.
+/// Every mixture of faults, of which the first in the order 7, 8, 9, 13, 10, 11 is the answer, with its value.
 fn several_faults(comparison: &mut Comparison, reader: Function) {
     // A bad field at each place, a byte after the sum, or none of these.
     for bad_form in [None, Some(0), Some(1), Some(2), Some(3), Some(4), Some(5)] {
-        for mixture in 0..16 {
+        for mixture in 0..64 {
             let has = |number: u32| mixture >> (number - 8) & 1 == 1;
+            if has(12) {
+                // No text is refused 12.
+                continue;
+            }
             let fields = [
                 if has(8) { "QF18145" } else { "QF18144" },
-                "F1",
+                if has(13) { "N1" } else { "F1" },
                 if has(9) { "L18143 11" } else { "L18143 1" },
                 if has(10) { "CD323" } else { "CD324" },
             ];
@@ -366,6 +418,7 @@ fn several_faults(comparison: &mut Comparison, reader: Function) {
                 Some(place) => refused(7, pieces.offset(place)),
                 None if has(8) => refused(8, pieces.offset(0)),
                 None if has(9) => refused(9, pieces.offset(2)),
+                None if has(13) => refused(13, 0),
                 None if has(10) => refused(10, pieces.offset(3)),
                 None if has(11) => refused(11, pieces.offset(fields)),
                 None => Ok(0),
@@ -378,18 +431,52 @@ fn several_faults(comparison: &mut Comparison, reader: Function) {
     }
 }
 
+/// Texts of each kind without F, with the answers that they must get.
+fn fuses_given(
+    comparison: &mut Comparison,
+    name: &'static str,
+    reader: Function,
+    random: &mut Random,
+) {
+    let kinds: Vec<&str> = KINDS.iter().map(|(kind, _)| *kind).collect();
+    let mut tally = KindTally::new(name, &kinds);
+    let devices = all_devices();
+    for (kind, make) in KINDS {
+        for number in 0..OF_EACH_KIND {
+            let device = if number % OTHER_DEVICE == 0 {
+                devices[number / OTHER_DEVICE % devices.len()]
+            } else {
+                let class = random.pick(&[SMALL, LARGE]);
+                Device { blocks: 2, class }
+            };
+            let made = make(device, random);
+            let text = made.pieces.bytes();
+            let mut image = vec![0xA5; IMAGE(device.blocks as usize)];
+            tally.compare(kind, reader(device, &text, &mut image), made.answer);
+            call(comparison, device, kind, &text);
+        }
+    }
+    tally.assert_enough();
+}
+
 /// Texts of the longest length and of one byte more, the length made up in several places.
 fn size_limit(comparison: &mut Comparison) {
+    let all_but_one = format!("H L0␣{}", "1".repeat(18_143));
     for length in [LONGEST_TEXT - 1, LONGEST_TEXT, LONGEST_TEXT + 1] {
         // In a comment, the design text, a list, between fields, after the sum; and in bad texts.
         for (start, filling, end) in [
-            ("H N", b'x', "* T"),
-            ("<2>", 0xFF, "*QF18144* T"),
-            ("H L0␣", b' ', "1* T"),
+            ("H F0* N", b'x', "* T"),
+            ("<2>", 0xFF, "*QF18144*F0* T"),
+            ("H F0* L0␣", b' ', "1* T"),
             ("H L0␣", b'1', "* T"),
-            ("H", b'\n', "T"),
-            ("H T", b'\r', ""),
-            ("H T", b'0', ""),
+            ("H F0*", b'\n', "T"),
+            ("H F0* T", b'\r', ""),
+            ("H F0* T", b'0', ""),
+            // Without F: no fuse given, the first alone, all but the last, and all.
+            ("H N", b'x', "* T"),
+            ("H L0␣", b' ', "1* T"),
+            (&all_but_one, b' ', "* T"),
+            (&all_but_one, b' ', "1* T"),
             ("H ", b'*', "T"),
             ("N", b'x', "* T"),
             ("", b'x', ""),
@@ -434,8 +521,8 @@ fn unknown_devices(comparison: &mut Comparison, random: &mut Random) {
         for blocks in [device.blocks, known] {
             if blocks <= 40 {
                 let count = 8 * IMAGE(blocks as usize);
-                let fields = [format!("QF{count}")];
-                let own = Pieces::new(device, &[&fields[0]]).bytes();
+                let count_field = format!("QF{count}");
+                let own = Pieces::new(device, &[&count_field, "F0"]).bytes();
                 for text in [&own, &text] {
                     comparison.call(device, "good", text, IMAGE(blocks as usize));
                 }

@@ -1,10 +1,10 @@
-// The comparison of one function's answers with the reference's, with a count of each outcome.
+// The comparison of one function's answers with the reference's, with counts of each outcome and kind of input.
 // A test that never saw some refusal has not tested it, so the counts are asserted at the end.
 
 use std::fmt::Debug;
 use xc9500_reference::Answer;
 
-/// The least count of each outcome that a function can have.
+/// The least count of each outcome that a function can have, and of each kind of input.
 pub const ENOUGH: u64 = 100;
 
 /// What one function answered so far, by refusal number; 0 is acceptance.
@@ -69,6 +69,45 @@ impl Tally {
                     self.function
                 );
             }
+        }
+    }
+}
+
+/// How many inputs of each kind a function was given and answered as they must be answered.
+pub struct KindTally {
+    function: &'static str,
+    seen: Vec<(&'static str, u64)>,
+}
+
+impl KindTally {
+    /// The kinds are named beforehand, so that one of which there is no input is missed too.
+    pub fn new(function: &'static str, kinds: &[&'static str]) -> KindTally {
+        KindTally {
+            function,
+            seen: kinds.iter().map(|kind| (*kind, 0)).collect(),
+        }
+    }
+
+    /// Counts an input of a kind and panics unless its answer is the one that it must get.
+    pub fn compare(&mut self, kind: &str, answer: Answer<u64>, expected: Answer<u64>) {
+        assert_eq!(
+            answer, expected,
+            "{}, {kind}: its answer left, the one that it must get right",
+            self.function
+        );
+        let place = self.seen.iter().position(|(name, _)| *name == kind);
+        self.seen[place.expect("the kind is known")].1 += 1;
+    }
+
+    /// Panics unless there were enough inputs of each kind.
+    pub fn assert_enough(&self) {
+        for (kind, seen) in &self.seen {
+            println!("{}: {kind}: {seen} times", self.function);
+            assert!(
+                *seen >= ENOUGH,
+                "{}: {kind}: only {seen} times",
+                self.function
+            );
         }
     }
 }

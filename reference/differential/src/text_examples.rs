@@ -1,4 +1,4 @@
-// Texts of two blocks with the answers that document 01 and the settled readings give for them.
+// Texts of two blocks with the answers that documents 01 and 02 and the settled readings give for them.
 // In an example <2> is STX, <3> ETX, ␣ a space; H is <2>*QF18144*, T is <3>0000; spaces part pieces.
 
 use xc9500_reference::{Answer, Refusal};
@@ -65,7 +65,7 @@ pub const EXAMPLES: &[(&str, Expected)] = &[
     ("H <2>* T", Refused(7, 10)),
     ("H * T", Refused(7, 10)),
     ("H ␣* T", Refused(7, 11)),
-    ("H T", ZerosBut(&[])),
+    ("H F0* T", ZerosBut(&[])),
     // The design text is no field, and nothing precedes STX.
     ("<2>QF18144*T", Refused(8, 9)),
     ("␣ H T", Refused(7, 0)),
@@ -92,23 +92,23 @@ pub const EXAMPLES: &[(&str, Expected)] = &[
     ("H F1␣*T", Refused(7, 10)),
     ("H C0000␣*T", Refused(7, 10)),
     // Lists.
-    ("H L0␣1␣* T", ZerosBut(&[0])),
-    ("H L0\n1* T", ZerosBut(&[0])),
-    ("H L8␣␣\n1␣0\t1\r\n01␣* T", ZerosBut(&[8, 10, 12])),
+    ("H F0* L0␣1␣* T", ZerosBut(&[0])),
+    ("H F0* L0\n1* T", ZerosBut(&[0])),
+    ("H F0* L8␣␣\n1␣0\t1\r\n01␣* T", ZerosBut(&[8, 10, 12])),
     ("H L␣0␣1* T", Refused(7, 10)),
     ("H L0␣* T", Refused(7, 10)),
     ("H L9999999␣* T", Refused(7, 10)),
     ("H L18144␣␣* T", Refused(7, 10)),
     ("H L01* T", Refused(7, 10)),
     // Numbers.
-    ("<2>*QF0018144*T", ZerosBut(&[])),
+    ("<2>*QF0018144*F0*T", ZerosBut(&[])),
     ("<2>*QF00018144*T", Refused(7, 2)),
     ("<2>*QF0*T", Refused(8, 2)),
     ("<2>*QF*T", Refused(7, 2)),
-    ("H L0000003␣1* T", ZerosBut(&[3])),
+    ("H F0* L0000003␣1* T", ZerosBut(&[3])),
     ("H L00000003␣1* T", Refused(7, 10)),
     // Skipped fields, letters, hex.
-    ("<2>*N*J*QF18144*X*X*QPany*QV␣\n*T", ZerosBut(&[])),
+    ("<2>*N*J*QF18144*X*F0*X*QPany*QV␣\n*T", ZerosBut(&[])),
     ("H n* T", Refused(7, 10)),
     ("H V1␣0* T", Refused(7, 10)),
     ("H G0* T", Refused(7, 10)),
@@ -125,7 +125,7 @@ pub const EXAMPLES: &[(&str, Expected)] = &[
     ("H T 0", Refused(7, 15)),
     ("H T ␣\n x ␣ y", Refused(7, 17)),
     ("H ␣␣", Refused(7, 12)),
-    // Any 7 beats 8 to 11.
+    // Any 7 beats the others.
     ("<2>*QF1*T x", Refused(7, 11)),
     ("<2>*QF1*ZZ*T", Refused(7, 6)),
     ("H F1*CD324*<3>03DCx", Refused(7, 24)),
@@ -135,14 +135,33 @@ pub const EXAMPLES: &[(&str, Expected)] = &[
     ("<2>*QF18143*L18144␣1*C1234*<3>1234", Refused(8, 2)),
     ("H L0␣11* L1␣1* T", Refused(9, 16)),
     ("H L4␣11* L0␣1* T", Refused(9, 16)),
-    ("H L0␣11* L2␣1* T", ZerosBut(&[0, 1, 2])),
-    ("H L0␣11* L7␣1* T", ZerosBut(&[0, 1, 7])),
-    ("H L18143␣1* T", ZerosBut(&[18143])),
+    ("H F0* L0␣11* L2␣1* T", ZerosBut(&[0, 1, 2])),
+    ("H F0* L0␣11* L7␣1* T", ZerosBut(&[0, 1, 7])),
+    ("H F0* L18143␣1* T", ZerosBut(&[18143])),
     ("H L18143␣11* T", Refused(9, 10)),
     ("H L18144␣1* T", Refused(9, 10)),
     ("H F1*C0000*T", Refused(10, 13)),
-    ("H C0000*T", ZerosBut(&[])),
-    ("H C0001*<3>1234", Refused(10, 10)),
-    ("H C0000*<3>1234", Refused(11, 16)),
-    ("H <3>0001", Refused(11, 10)),
+    ("H F0*C0000*T", ZerosBut(&[])),
+    ("H F0*C0001*<3>1234", Refused(10, 13)),
+    ("H F0*C0000*<3>1234", Refused(11, 19)),
+    ("H F0*<3>0001", Refused(11, 13)),
+    // Without F: not given before the first L, between two, behind the last, or none at all.
+    ("H L0␣11* L3␣1* T", Refused(13, 2)),
+    ("H L0␣11* L3␣1* L2␣1* T", Refused(9, 21)),
+    ("H L18143␣1* T", Refused(13, 0)),
+    ("H L0␣1* T", Refused(13, 1)),
+    ("H T", Refused(13, 0)),
+    ("H NF0* T", Refused(13, 0)),
+    ("<2>F0*QF18144*T", Refused(13, 0)),
+    ("H F1* L0␣11* L3␣1* T", Ones),
+    ("H C0000*F0*T", ZerosBut(&[])),
+    ("H L0␣1*C0001*F0*T", Refused(7, 21)),
+    // 7, 8 and 9 come before 13; 10 and 11 after it.
+    ("H L1␣1*<3>000", Refused(7, 19)),
+    ("<2>*QF18145*L1␣1*T", Refused(8, 2)),
+    ("H L1␣1*L1␣1*T", Refused(9, 15)),
+    ("H L0␣1*C1234*T", Refused(13, 1)),
+    ("H L0␣1*<3>1234", Refused(13, 1)),
+    ("H C0000*T", Refused(13, 0)),
+    ("H <3>0001", Refused(13, 0)),
 ];

@@ -2,6 +2,7 @@
 // A text is kept in pieces while fields are changed, so that its two sums can be made right again.
 
 use crate::comparison::IMAGE;
+use std::ops::Range;
 use xc9500_reference::random::Random;
 use xc9500_reference::{fuse_count, fuse_sum, image_bytes, text_to_image, Device, BLOCK_COUNTS};
 
@@ -82,7 +83,7 @@ pub const ODD_FIELDS: &[&[u8]] = &[
 ];
 
 /// A sum in four digits, in either case or in both.
-fn hex(sum: u16, random: &mut Random) -> Vec<u8> {
+pub fn hex(sum: u16, random: &mut Random) -> Vec<u8> {
     let lower = random.below(2) == 0;
     let mixed = random.below(4) == 0;
     let mut digits = format!("{sum:04X}").into_bytes();
@@ -114,7 +115,7 @@ impl Field {
         }
     }
 
-    fn is(&self, letters: &str) -> bool {
+    pub fn is(&self, letters: &str) -> bool {
         self.body.starts_with(letters.as_bytes())
     }
 }
@@ -202,14 +203,14 @@ impl Pieces {
     }
 
     /// One of the fields that start with these letters.
-    fn one_of(&self, letters: &str, random: &mut Random) -> Option<usize> {
+    pub fn one_of(&self, letters: &str, random: &mut Random) -> Option<usize> {
         let numbers = 0..self.fields.len();
         let those: Vec<usize> = numbers.filter(|i| self.fields[*i].is(letters)).collect();
         (!those.is_empty()).then(|| random.pick(&those))
     }
 
     /// A place between two fields, or before or after all.
-    fn gap(&self, random: &mut Random) -> usize {
+    pub fn gap(&self, random: &mut Random) -> usize {
         random.below(self.fields.len() as u64 + 1) as usize
     }
 }
@@ -234,7 +235,7 @@ fn number(number: usize, random: &mut Random) -> String {
 }
 
 /// An L field with random states, and blanks now and then.
-fn list(first: usize, length: usize, random: &mut Random) -> Vec<u8> {
+pub fn list(first: usize, length: usize, random: &mut Random) -> Vec<u8> {
     let mut body = format!("L{}", number(first, random)).into_bytes();
     body.push(random.pick(&BLANKS));
     let blank_one_in = random.pick(&[3, 9, 1000]);
@@ -261,16 +262,24 @@ pub fn good_text(random: &mut Random) -> Pieces {
     good_text_of(Device { blocks, class }, random)
 }
 
-/// A random text of good form of a device, with right sums.
-pub fn good_text_of(device: Device, random: &mut Random) -> Pieces {
-    let count = fuse_count(device).unwrap() as usize;
-    let mut bodies = vec![format!("QF{}", number(count, random)).into_bytes()];
-    if random.below(3) == 0 {
-        bodies.push(random.pick(&[b"F0", b"F1"]).to_vec());
+/// All fuses of a part, cut at random into L fields of at most so many fuses each.
+pub fn cuts(count: usize, longest: usize, random: &mut Random) -> Vec<Range<usize>> {
+    let mut lists = Vec::new();
+    let mut first = 0;
+    while first < count {
+        let end = count.min(first + 1 + random.below(longest as u64) as usize);
+        lists.push(first..end);
+        first = end;
     }
+    lists
+}
+
+/// A few short L fields, near the start or the end of a part.
+fn few_lists(count: usize, random: &mut Random) -> Vec<Range<usize>> {
     let near_the_start = random.below(100) as usize;
     let mut next = random.pick(&[0, near_the_start, count - 200]);
     let longest = random.pick(&[9, 40, 120]);
+    let mut lists = Vec::new();
     for _ in 0..random.below(6) {
         let gap = random.below(30) as usize;
         let first = next + random.pick(&[0, 0, gap]);
@@ -278,12 +287,43 @@ pub fn good_text_of(device: Device, random: &mut Random) -> Pieces {
         if first + length > count {
             break;
         }
-        bodies.push(list(first, length, random));
+        lists.push(first..first + length);
         next = first + length;
+    }
+    lists
+}
+
+/// A random text of good form of a device, with right sums; a few have no F and some fuse not given.
+pub fn good_text_of(device: Device, random: &mut Random) -> Pieces {
+    let count = fuse_count(device).unwrap() as usize;
+    let mut bodies = vec![format!("QF{}", number(count, random)).into_bytes()];
+    // L fields for every fuse make a long text, so there are few such texts.
+    let lists = match random.below(60) {
+        0 => {
+            let longest = random.pick(&[40, 300, count]);
+            cuts(count, longest, random)
+        }
+        1..=3 => few_lists(count, random),
+        _ => {
+            bodies.push(random.pick(&[b"F0", b"F1"]).to_vec());
+            few_lists(count, random)
+        }
+    };
+    for fuses in lists {
+        bodies.push(list(fuses.start, fuses.len(), random));
     }
     if random.below(3) > 0 {
         bodies.push(b"C0000".to_vec());
     }
+    let mut pieces = pieces_of(device, bodies, random);
+    pieces.put_right_checksum(random);
+    pieces.put_right_sum();
+    pieces.end.extend(blanks(2, random));
+    pieces
+}
+
+/// A text of these fields, with design text, comments and blanks; it has its right transmission sum.
+pub fn pieces_of(device: Device, mut bodies: Vec<Vec<u8>>, random: &mut Random) -> Pieces {
     // A comment or another skipped field may stand anywhere.
     while random.below(3) == 0 {
         let letters = random.pick(&["N", "J", "X", "QP", "QV"]);
@@ -302,9 +342,7 @@ pub fn good_text_of(device: Device, random: &mut Random) -> Pieces {
         before_etx: blanks(2, random),
         end: Vec::new(),
     };
-    pieces.put_right_checksum(random);
     pieces.put_right_sum();
-    pieces.end.extend(blanks(2, random));
     pieces
 }
 
@@ -359,7 +397,7 @@ pub fn put_right_sum(text: &mut [u8], random: &mut Random) -> bool {
 fn damage_field(pieces: &mut Pieces, random: &mut Random) {
     let count = fuse_count(pieces.device).unwrap() as usize;
     let any = pieces.one_of("", random);
-    match random.below(19) {
+    match random.below(21) {
         // Swapped, doubled, left out, put in.
         0 => {
             if let (Some(a), Some(b)) = (any, pieces.one_of("", random)) {
@@ -426,8 +464,14 @@ fn damage_field(pieces: &mut Pieces, random: &mut Random) {
                 pieces.fields.insert(gap, Field::new("F1"));
             }
         },
+        // No start state.
+        18 => {
+            if let Some(field) = pieces.one_of("F", random) {
+                pieces.fields.remove(field);
+            }
+        }
         // The checksum.
-        10 | 11 | 17 => {
+        10 | 11 | 17 | 19 => {
             let any_sum = random.next_u64() as u16;
             let sum = random.pick(&[0, 0xFFFF, any_sum]);
             let body = [b"C", &hex(sum, random)[..]].concat();

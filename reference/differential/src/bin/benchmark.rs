@@ -60,6 +60,10 @@ fn rows() -> Vec<Row> {
     rows.extend(of_two_and_sixteen(set_usercode_in_readout));
     rows.extend(of_two_and_sixteen(image_to_text));
     rows.extend(of_two_and_sixteen(text_to_image));
+    rows.push(text_without_start_state_to_image(Device {
+        blocks: 16,
+        class: LARGE,
+    }));
     rows
 }
 
@@ -144,10 +148,25 @@ fn image_to_text(device: Device) -> Row {
 }
 
 fn text_to_image(device: Device) -> Row {
+    reading("text to image", device, random_text(device))
+}
+
+/// A text without F, so that each fuse must be given by the L fields.
+fn text_without_start_state_to_image(device: Device) -> Row {
+    let mut text = random_text(device);
+    // The F field becomes a comment, and the transmission sum is not given.
+    let start_state = text.windows(4).position(|bytes| bytes == b"\nF0*");
+    text[start_state.expect("a written text has F0") + 1] = b'N';
+    let sum = text.len() - 4;
+    text[sum..].fill(b'0');
+    reading("text to image, no F", device, text)
+}
+
+fn reading(operation: &'static str, device: Device, text: Vec<u8>) -> Row {
     whole_part(
-        "text to image",
+        operation,
         device,
-        random_text(device),
+        text,
         random_image(device).len(),
         library::xc9500_text_to_image,
         |device, text, image| reference::text_to_image(device, text, image).map(|()| 0),
