@@ -55,8 +55,8 @@ misplacedAfter fuses optional-number.None end at first number =
     cond (ltb first end || ltb fuses (first + number)) (optional-number.Some at) optional-number.None
 
 -- The first fuse that no L gives, after one L more.
-abbrev pub missingAfter : (before first number : ℕ) → ℕ
-missingAfter before first number = cond (eqb first before) (first + number) before
+abbrev pub missingAfter : (before from end : ℕ) → ℕ
+missingAfter before from end = cond (eqb from before) end before
 
 -- What is known after each of QF, F, L and C, and after any field.
 abbrev pub withCount : Progress → (at n : ℕ) → Progress
@@ -89,7 +89,7 @@ withList fuses p at first number =
       listed = true;
       end = first + number;
       misplaced = misplacedAfter fuses (p .misplaced) (p .end) at first number;
-      missing = missingAfter (p .missing) first number;
+      missing = missingAfter (p .missing) first (first + number);
       sum = p .sum;
     }
 

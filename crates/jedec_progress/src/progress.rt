@@ -117,12 +117,9 @@ fn misplaced_after(
 }
 
 // The first fuse that no L gives: the end of an L that starts at the one so far, else that one still.
-fn missing_after(before: usize, first: u32, count: usize) -> usize
-    requires { ⌜ count ≤ longest ⌝ }
-    ensures { λ r. ⌜ r ≡ missingAfter before first count ⌝ }
+fn missing_after(before: usize, from: usize, end: usize) -> usize
+    ensures { λ r. ⌜ r ≡ missingAfter before from end ⌝ }
 {
-    let from = first as usize;
-    let end = from + count;
     if from == before {
         return end;
     }
@@ -173,8 +170,9 @@ fn with_list(fuses: u32, p: Progress, at: u32, first: u32, n: usize) -> Progress
     let before = p.misplaced;
     let sum = p.sum;
     let misplaced = misplaced_after(fuses, before, p.end, at, first, n);
-    let missing = missing_after(p.missing, first, n);
-    let end = first as usize + n;
+    let from = first as usize;
+    let end = from + n;
+    let missing = missing_after(p.missing, from, end);
     Progress {
         count,
         start,

@@ -8,7 +8,6 @@ use mathlib.Core.Option.Option.{none}
 use Prim.Native.Nat.{ℕ, _≤_, _<_}
 use native.Mathlib.Omega.{arith}
 use lib.Dec.{eqb}
-use lib.ListN.{length}
 use borrow.Author.Tests.{eqb-true, eqb-false}
 use Rattle.part.proofs.Facts.{compared}
 use Rattle.jedec.specs.Rules.{Listed, endOf, misplaced}
@@ -72,7 +71,7 @@ module _ (fuses : ℕ) (lists : List Listed) (l : Listed) (in-place : misplaced 
         at-most = omega (arith, ends, b .at-most);
       }
 
-  pub given-below : GivenBelow (missingAfter before (l .first) (length (l .states))) (lists ++ (l ∷ []))
+  pub given-below : GivenBelow (missingAfter before (l .first) (endOf l)) (lists ++ (l ∷ []))
   given-below = go (eqb (l .first) before) refl
     where
       go : (t : Bool) → eqb (l .first) before ≡ t → GivenBelow (cond t (endOf l) before) (lists ++ (l ∷ []))
