@@ -2,7 +2,7 @@
 // A written text is read whole, cut short, with a byte changed, without its F; of the image every byte is taken in.
 
 use crate::device::{Device, SMALL};
-use crate::image::image_bytes;
+use crate::image::{fuse_count, image_bytes};
 use crate::jedec_reader::text_to_image;
 use crate::jedec_writer::{image_to_text, text_bytes};
 use crate::vectors::{devices_and_others, fill, halves, next, word, Digest};
@@ -90,6 +90,42 @@ fn without_start_state(lines: &mut String, device: Device, text: &mut [u8]) {
     }
 }
 
+/// The text without F and without its first line, with another fault besides: of the form, of the fuse count, of the
+/// last line's number, of the transmission sum. Its C is that of other fuses already.
+fn two_faults(lines: &mut String, device: Device, text: &mut [u8]) {
+    let n = text.len();
+    let first_line = first_from(text, 0, b'L');
+    text[first_line] = b'N';
+    let last_line = first_from(text, search_start(1, 0, n), b'L');
+    for (at, byte) in [
+        (n - 1, b'x'),
+        (5, b'9'),
+        (last_line + 1, b'9'),
+        (n - 1, b'1'),
+    ] {
+        read_changed(lines, device, text, at, byte);
+    }
+}
+
+/// Texts with other fields behind the QF: one L of every fuse, one of all but the last, and an F behind a C.
+fn other_fields(lines: &mut String, device: Device, text: &[u8]) {
+    let fuses = fuse_count(device).unwrap() as usize;
+    let start = first_from(text, 5, b'N');
+    let list = |count| {
+        let states = (0..count).map(|fuse| if fuse % 3 == 0 { b'1' } else { b'0' });
+        b"L0 ".iter().copied().chain(states).collect()
+    };
+    for (name, fields) in [
+        ("one L", list(fuses)),
+        ("one state less", list(fuses - 1)),
+        ("F behind C", b"C0000*F0".to_vec()),
+    ] {
+        let text = [&text[..start], &fields, b"*\x030000"].concat();
+        let answer = read(device, &text, image_bytes(device).unwrap());
+        writeln!(lines, "{name} image {answer}").unwrap();
+    }
+}
+
 /// Texts of each device, and of two blocks where there is no such device.
 pub(crate) fn reader_vectors() -> String {
     let smallest = Device {
@@ -131,6 +167,8 @@ pub(crate) fn reader_vectors() -> String {
             read_changed(&mut lines, device, &mut text, at, byte);
         }
         without_start_state(&mut lines, device, &mut text);
+        two_faults(&mut lines, device, &mut text);
+        other_fields(&mut lines, device, &text);
     }
     lines
 }

@@ -8,6 +8,7 @@ const DEVICE: Device = Device {
     blocks: 2,
     class: SMALL,
 };
+/// The fuses of that device.
 const FUSES: usize = 18144;
 const IMAGE_BYTES: usize = 2268;
 
@@ -118,6 +119,7 @@ fn cases_of(list: &List) -> Vec<(String, String)> {
 
 #[test]
 fn each_text_is_answered_as_stated() {
+    assert_eq!(fuse_count(DEVICE), Ok(FUSES as u32));
     let mut texts = 0;
     for list in LISTS {
         let (mut accepted, mut refused) = (0, 0);

@@ -1,5 +1,5 @@
--- A text is of good form or refused 7, and is accepted exactly if its count is right, its Ls are in place, every fuse is given and its sums
--- are right too.
+-- A text is of good form or refused 7, and is accepted exactly if its count is right, its Ls are in place, every fuse is given by an F or
+-- an L, and its sums are right too.
 -- Assumes nothing. `GoodForm` and `Accepted` stand in specs/Form.antt.
 use mathlib.Core.Path.{_≡_, refl, sym, _∙_, ap}
 use mathlib.Core.Logic.{_↔_, _⊎_, inl, inr}

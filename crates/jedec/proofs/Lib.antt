@@ -4,6 +4,7 @@ pub mod StatesGiven
 pub mod CaseImages
 pub mod Cases
 pub mod Numbers
+pub mod Lists
 pub mod NotGiven
 pub mod Conditions
 pub mod Misplaced

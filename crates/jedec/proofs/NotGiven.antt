@@ -2,21 +2,21 @@
 -- Assumes nothing. `AllGiven` and `FirstNotGiven` stand in specs/Form.antt.
 use mathlib.Core.Path.{_≡_, refl, sym, _∙_}
 use mathlib.Core.Logic.{_↔_, inl, inr}
-use mathlib.Core.Bool.{Bool, true, false, cond, not, _||_, or-true, true≢false}
+use mathlib.Core.Bool.{Bool, true, false, not, _||_, or-true, true≢false}
 use mathlib.Core.List.{List, [], _∷_}
 use mathlib.Core.Option.{Option}
 use mathlib.Core.Option.Option.{none, some}
 use Prim.Native.Nat.{ℕ, _≤_, _<_}
 use native.Mathlib.Omega.{arith}
 use lib.Dec.{ltb, leb}
-use borrow.Author.Tests.{ltb-true, ltb-false, lt-ltb, le-ltb, leb-true, lt-leb, le-leb, not-false, not-true}
+use borrow.Author.Tests.{ltb-true, lt-ltb, le-ltb, leb-true, le-leb, not-false, not-true}
 use Rattle.part.specs.Lowest.{IsLowest}
 use Rattle.part.proofs.Facts.{and-iff, compared, either}
 use Rattle.part.proofs.Lowest.{lowest-iff}
 use Rattle.jedec.specs.Rules.{Listed, endOf, inside, isGiven, firstNotGiven, withoutStart, notGiven}
 use Rattle.jedec.specs.Form.{Any, Inside, AllGiven, Each, Outside, FirstNotGiven}
 
--- A fuse is in an L or outside it, and so is each test.
+-- A fuse is in an L exactly if the test says so, and else outside it.
 module _ (fuse : ℕ) where
   in-one : (l : Listed) → inside fuse l ≡ true → Inside fuse l
   in-one l e =
@@ -78,7 +78,7 @@ module _ (fuses : ℕ) (lists : List Listed) where
   found : IsLowest (λ f. not (isGiven lists f)) fuses (firstNotGiven fuses lists)
   found = lowest-iff (λ f. not (isGiven lists f)) fuses (firstNotGiven fuses lists) .0 refl
 
-  -- And back.
+  -- A fuse of which that holds is the one that is found.
   is-first : (fuse : ℕ) → fuse ≤ fuses → AllGiven fuse lists → (fuse < fuses → Each (Outside fuse) lists) → firstNotGiven fuses lists ≡ fuse
   is-first fuse h given out =
       lowest-iff (λ f. not (isGiven lists f)) fuses fuse .1
@@ -120,10 +120,10 @@ module _ (fuses : ℕ) (lists : List Listed) where
   )
 
 -- The rule by the first fuse that no L gives, however it was found, and however large it is.
-pub rule-13 : (fuses : ℕ) (start : Option ℕ) (lists : List Listed) (fuse : ℕ) → FirstNotGiven lists fuse
+pub by-first : (fuses : ℕ) (start : Option ℕ) (lists : List Listed) (fuse : ℕ) → FirstNotGiven lists fuse
     → notGiven fuses start lists ≡ withoutStart fuses start fuse
-rule-13 fuses (some s) lists fuse f = refl
-rule-13 fuses none lists fuse f =
+by-first fuses (some s) lists fuse f = refl
+by-first fuses none lists fuse f =
     compared fuse fuses
     (λ l. not-given-iff fuses lists none fuse .1 (refl, l, f) ∙ rw (lt-ltb fuse fuses l))
     (λ g. all-given-iff fuses lists none .1 (λ e given h. f .lower-given given (omega arith)) ∙ rw (le-ltb fuse fuses g))

@@ -2,7 +2,7 @@
 -- Assumes nothing.
 use mathlib.Core.Path.{_≡_, refl, sym, _∙_, ap, subst}
 use mathlib.Core.Bool.{Bool, true, false, cond, _||_, true≢false}
-use mathlib.Core.List.{List, [], _∷_, _++_}
+use mathlib.Core.List.{List, [], _∷_}
 use mathlib.Core.Option.{Option}
 use mathlib.Core.Option.Option.{none, some}
 use Prim.Native.Nat.{ℕ, zero, suc, _+_, _*_, _≤_, _<_}
@@ -22,6 +22,8 @@ use Rattle.jedec.specs.Judge.Judged.{count, start, list, sum, skipped, b
 use Rattle.jedec.specs.Rules.{At, Listed, Given, nothingGiven, inOrder, after, Fields, allFields, wrongCount, endOf, misplaced}
 use Rattle.jedec.specs.Rules.{firstNotGiven, withoutStart, finished}
 use Rattle.jedec.specs.Rules.Fields.{allGood, badAt}
+use Rattle.jedec.specs.Form.{Each}
+use Rattle.jedec.proofs.Lists.{each-more}
 use Rattle.jedec.specs.Meaning.{longest, unless, wrongSum, concluded, withTail, withEnd, withFields, ofCut, ofPieces, meaning}
 
 -- What holds of both holds of the choice.
@@ -49,23 +51,18 @@ abbrev AtSmall : Option At → Type 0
 AtSmall none = Unit {0}
 AtSmall (some a) = a .at ≤ longest
 
-abbrev ListsSmall : List Listed → Type 0
-ListsSmall [] = Unit {0}
-ListsSmall (l ∷ lists) = (l .at ≤ longest) × ListsSmall lists
+abbrev ListSmall : Listed → Type 0
+ListSmall l = l .at ≤ longest
 
 record GivenSmall (k : Given) : Type 0 where
   count : AtSmall (k .count)
-  lists : ListsSmall (k .lists)
+  lists : Each ListSmall (k .lists)
   sum : AtSmall (k .sum)
-
-one-more : (lists : List Listed) (l : Listed) → ListsSmall lists → l .at ≤ longest → ListsSmall (lists ++ (l ∷ []))
-one-more [] l s h = (h, tt)
-one-more (m ∷ lists) l s h = (s .0, one-more lists l (s .1) h)
 
 after-small : (k : Given) (at : ℕ) (j : Judged) → GivenSmall k → at ≤ longest → GivenSmall (after k at j)
 after-small k at (count n) s h = record { count = h; lists = s .lists; sum = s .sum }
 after-small k at (start x) s h = record { count = s .count; lists = s .lists; sum = s .sum }
-after-small k at (list first states) s h = record { count = s .count; lists = one-more (k .lists) _ (s .lists) h; sum = s .sum }
+after-small k at (list first states) s h = record { count = s .count; lists = each-more ListSmall _ (k .lists) (s .lists) h; sum = s .sum }
 after-small k at (sum x) s h = record { count = s .count; lists = s .lists; sum = h }
 after-small k at skipped s h = s
 after-small k at bad s h = s
@@ -96,7 +93,7 @@ count-small : (fuses etxOffset : ℕ) (o : Option At) → etxOffset ≤ longest 
 count-small fuses etxOffset none h s = place h
 count-small fuses etxOffset (some q) h s = chosen PlaceSmall (eqb (q .value) fuses) nowhere (place s)
 
-lists-small : (fuses end : ℕ) (lists : List Listed) → ListsSmall lists → PlaceSmall (misplaced fuses end lists)
+lists-small : (fuses end : ℕ) (lists : List Listed) → Each ListSmall lists → PlaceSmall (misplaced fuses end lists)
 unfolding misplaced
 lists-small fuses end [] s = nowhere
 lists-small fuses end (l ∷ lists) s =

@@ -2,10 +2,10 @@
 -- Assumes nothing.
 use mathlib.Core.Path.{_≡_, refl}
 use mathlib.Core.Bool.{Bool, true, false, cond, _||_}
-use mathlib.Core.List.{List, [], _∷_, _++_}
+use mathlib.Core.List.{List, [], _∷_}
 use mathlib.Core.Option.{Option}
 use mathlib.Core.Option.Option.{none, some}
-use Prim.Native.Nat.{ℕ, zero, suc, _+_, _-_, _<_}
+use Prim.Native.Nat.{ℕ, zero, suc, _-_, _<_}
 use native.Mathlib.Omega.{arith}
 use lib.Dec.{eqb}
 use lib.ListN.{getD, take, drop}
@@ -16,9 +16,10 @@ use Rattle.jedec.specs.Characters.{letterV, letterX}
 use Rattle.jedec.specs.Cut.{Field, holdsMark}
 use Rattle.jedec.specs.Judge.{Judged, orBad, startIn, unbroken, withFirst, statesIn, statesFrom, listIn, afterQ, byLetters, judge}
 use Rattle.jedec.specs.Judge.Judged.{count, start, list, sum, skipped, bad}
-use Rattle.jedec.specs.Rules.{Listed, Given, inOrder, after, Fields, allFields, startState}
+use Rattle.jedec.specs.Rules.{Given, inOrder, after, Fields, allFields, startState}
 use Rattle.jedec.specs.Rules.Fields.{allGood, badAt}
 use Rattle.jedec.specs.Form.{Each}
+use Rattle.jedec.proofs.Lists.{each-more}
 use Rattle.jedec.proofs.Places.{chosen}
 
 abbrev pub Bits : List ℕ → Type 0
@@ -98,15 +99,11 @@ abbrev pub FieldsBits : Fields → Type 0
 FieldsBits (allGood k) = GivenBits k
 FieldsBits (badAt at) = Unit {0}
 
-one-more : (lists : List Listed) (l : Listed) → Each (λ m. Bits (m .states)) lists → Bits (l .states)
-    → Each (λ m. Bits (m .states)) (lists ++ (l ∷ []))
-one-more [] l bits h = (h, tt)
-one-more (m ∷ lists) l bits h = (bits .0, one-more lists l (bits .1) h)
-
 after-bits : (k : Given) (at : ℕ) (j : Judged) → GivenBits k → JudgedBits j → GivenBits (after k at j)
 after-bits k at (count n) bits h = record { start = bits .start; lists = bits .lists }
 after-bits k at (start s) bits h = record { start = h; lists = bits .lists }
-after-bits k at (list first states) bits h = record { start = bits .start; lists = one-more (k .lists) _ (bits .lists) h }
+after-bits k at (list first states) bits h =
+    record { start = bits .start; lists = each-more (λ l. Bits (l .states)) _ (k .lists) (bits .lists) h }
 after-bits k at (sum x) bits h = record { start = bits .start; lists = bits .lists }
 after-bits k at skipped bits h = bits
 after-bits k at bad bits h = bits

@@ -2,12 +2,11 @@
 -- Assumes nothing. `InPlace` and `Described` stand in specs/Form.antt.
 use mathlib.Core.Path.{_≡_, refl, sym, _∙_, ap, subst}
 use mathlib.Core.Logic.{_↔_}
-use mathlib.Core.Bool.{_&&_}
 use mathlib.Core.List.{List, [], _∷_}
 use mathlib.Core.Option.Option.{none, some}
 use Prim.Native.Nat.{ℕ, _+_, _*_, _-_, _/_, _%_, _<_, _≤_}
 use native.Mathlib.Omega.{arith}
-use lib.Dec.{ltb, leb}
+use lib.Dec.{ltb}
 use lib.ListN.{getD, List·getD-eq-default}
 use borrow.Author.Tests.{lt-ltb, le-ltb}
 use Rattle.part.proofs.Facts.{compared}
@@ -17,7 +16,7 @@ use Rattle.image.proofs.Bits.{bit-above, gathered-bit, gathered-small}
 use Rattle.jedec.specs.Cut.{Field}
 use Rattle.jedec.specs.Judge.Judged.{start, bad}
 use Rattle.jedec.specs.Rules.{Listed, Given, nothingGiven, allFields, endOf, misplaced, startState}
-use Rattle.jedec.specs.Rules.{stateGiven, within, imageWith, finished}
+use Rattle.jedec.specs.Rules.{inside, stateGiven, within, imageWith, finished}
 use Rattle.jedec.specs.Rules.Fields.{allGood}
 use Rattle.jedec.specs.Form.{InPlace, Each, Image, Described}
 use Rattle.jedec.proofs.Places.{chosen}
@@ -59,7 +58,7 @@ module _ (from : ℕ) where
   unfolding stateGiven
   given-bit [] h bits fuse = h
   given-bit (l ∷ lists) h bits fuse =
-      chosen (λ x. x < 2) (leb (l .first) fuse && ltb fuse (endOf l)) (bits .0 (fuse - l .first)) (given-bit lists h (bits .1) fuse)
+      chosen (λ x. x < 2) (inside fuse l) (bits .0 (fuse - l .first)) (given-bit lists h (bits .1) fuse)
 
 module _ (fuses : ℕ) (states : ℕ → ℕ) where
   pub within-small : ((fuse : ℕ) → states fuse < 2) → (fuse : ℕ) → within fuses states fuse < 2

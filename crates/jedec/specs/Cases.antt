@@ -206,7 +206,7 @@ refusedTexts =
     ∷ is (file "*" "0001") (refused 8 2)
     -- Neither F nor L.
     ∷ is (file "*QF18144*" "0000") (refused 13 0)
-    -- No F, and a C before which no fuse is given.
+    -- The same with the fuse sum that zeros would have.
     ∷ is (file "*QF18144*C0000*" "0000") (refused 13 0)
     -- No F, and fuses before the first L.
     ∷ is (file "*QF18144*L18143 1*" "0000") (refused 13 0)
@@ -244,7 +244,7 @@ eightFuseTexts =
     -- The same with an F before the L fields, and after them, where it is a bad field.
     ∷ is (file "*QF8*F0*L0 101*L4 0101*" "0000") (accepted eightFuses)
     ∷ is (file "*QF8*L0 101*L4 0101*F0*" "0000") (refused 7 21)
-    -- The sums are of a text that gives every fuse.
+    -- The sums are asked only of a text that gives every fuse.
     ∷ is (file "*QF8*L0 10100101*C00A4*" "0000") (refused 10 18)
     ∷ is (file "*QF8*L0 1010010*C00A4*" "0000") (refused 13 7)
     ∷ is (file "*QF8*L0 10100101*" "0001") (refused 11 18)

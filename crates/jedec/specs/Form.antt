@@ -127,7 +127,7 @@ pub record GoodForm (text : List ℕ) (gives : Given) (etxOffset sum : ℕ) : Ty
   pub has-etx : fieldsFrom (length design + 1) ended (pieces text .rest) .end ≡ some etxOffset
   pub good-tail : tailFrom (etxOffset + 1) 4 0 (drop (etxOffset + 1) text) ≡ given sum
 
--- A text that is accepted, and its image: it is of good form, and its counts and sums are right.
+-- A text that is accepted, and its image: it is of good form, and meets the conditions above.
 pub record Accepted (fuses : ℕ) (text image : List ℕ) : Type 0 where
   pub gives : Given
   pub etx-offset : ℕ
@@ -181,15 +181,19 @@ pub record FirstMisplaced (fuses end : ℕ) (lists : List Listed) (at : ℕ) : T
   pub out-of-place : OutOfPlace fuses (lastEnd end before) found
   pub found-start : found .at ≡ at
 
--- A text that is refused 9, and the refusal's value: it is of good form, QF gives the count, and the first L
--- that is out of place starts there.
-pub record Refused9 (fuses : ℕ) (text : List ℕ) (at : ℕ) : Type 0 where
+-- A text of good form whose QF gives the count, and what holds of its fields.
+pub record CountedText (fuses : ℕ) (text : List ℕ) (Holds : Given → Type 0) : Type 0 where
   pub gives : Given
   pub etx-offset : ℕ
   pub sum : ℕ
   pub form : GoodForm text gives etx-offset sum
   pub counted : Counted fuses gives
-  pub first-misplaced : FirstMisplaced fuses 0 (gives .lists) at
+  pub holds : Holds gives
+
+-- A text that is refused 9, and the refusal's value: it is of good form, QF gives the count, and the first L
+-- that is out of place starts there.
+abbrev pub Refused9 : (fuses : ℕ) → (text : List ℕ) → (at : ℕ) → Type 0
+Refused9 fuses text at = CountedText fuses text (λ k. FirstMisplaced fuses 0 (k .lists) at)
 
 -- Something holds of each L.
 abbrev pub Each : (Listed → Type 0) → List Listed → Type 0
@@ -205,18 +209,17 @@ pub record FirstNotGiven (lists : List Listed) (fuse : ℕ) : Type 0 where
   pub in-none : Each (Outside fuse) lists
   pub lower-given : AllGiven fuse lists
 
+-- What the fields of such a text lack: a fuse that neither an F nor an L gives.
+pub record LacksFuse (fuses fuse : ℕ) (k : Given) : Type 0 where
+  pub in-place : InPlace fuses 0 (k .lists)
+  pub no-start : k .start ≡ none
+  pub below : fuse < fuses
+  pub first-not-given : FirstNotGiven (k .lists) fuse
+
 -- A text that is refused 13, and the refusal's value: it is of good form, QF gives the count, no L is out of place,
 -- there is no F, and the first fuse that no L gives is below the count.
-pub record Refused13 (fuses : ℕ) (text : List ℕ) (fuse : ℕ) : Type 0 where
-  pub gives : Given
-  pub etx-offset : ℕ
-  pub sum : ℕ
-  pub form : GoodForm text gives etx-offset sum
-  pub counted : Counted fuses gives
-  pub in-place : InPlace fuses 0 (gives .lists)
-  pub no-start : gives .start ≡ none
-  pub below : fuse < fuses
-  pub first-not-given : FirstNotGiven (gives .lists) fuse
+abbrev pub Refused13 : (fuses : ℕ) → (text : List ℕ) → (fuse : ℕ) → Type 0
+Refused13 fuses text fuse = CountedText fuses text (LacksFuse fuses fuse)
 
 -- The fuses from the first of an L on have its states, one after the other.
 abbrev pub Gives : (stateOf : ℕ → ℕ) → Listed → Type 0

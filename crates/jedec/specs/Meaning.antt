@@ -21,7 +21,7 @@ use Rattle.jedec.specs.Rules.Fields.{allGood, badAt}
 abbrev pub longest : ℕ
 longest = 1048576
 
--- A refusal where there is a place for it.
+-- A refusal where there is a value for it.
 abbrev pub unless : (number : ℕ) → Option ℕ → Outcome (List ℕ) → Outcome (List ℕ)
 unless number none answer = answer
 unless number (some at) answer = refused number at

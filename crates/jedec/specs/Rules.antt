@@ -114,7 +114,7 @@ withoutStart fuses (some s) first = none
 abbrev pub notGiven : (fuses : ℕ) → (state : Option ℕ) → List Listed → Option ℕ
 notGiven fuses state lists = withoutStart fuses state (firstNotGiven fuses lists)
 
--- "the start state of all fuses; without it they start at 0": since K3 every fuse is then in an L.
+-- "the start state of all fuses; without it they start at 0": by K3 of document 02 every fuse is then in an L.
 abbrev pub startState : Option ℕ → ℕ
 startState none = 0
 startState (some s) = s

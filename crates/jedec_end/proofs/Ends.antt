@@ -9,7 +9,7 @@ use Rattle.part.specs.Outcome.{Outcome}
 use Rattle.part.specs.Outcome.Outcome.{accepted, refused}
 use Rattle.jedec.specs.Rules.{Given, wrongCount, misplaced, withoutStart, notGiven, finished}
 use Rattle.jedec.specs.Meaning.{wrongSum, wrongTransmission, concluded}
-use Rattle.jedec.proofs.NotGiven.{rule-13}
+use Rattle.jedec.proofs.NotGiven.{by-first}
 use Rattle.jedec_progress.specs.Progress.{optionalField, optionalNumber}
 use Rattle.jedec_progress.specs.Progress.{ProgressKnows}
 use Rattle.jedec_end.specs.End.{TextRead}
@@ -50,7 +50,7 @@ module _ (fuses : ℕ) (text : List ℕ) (etx sum : ℕ) (p : Progress) (image :
         module _ (d : OptionalNumber) (j : optionalNumber d ≡ withoutStart fuses (optionalNumber (p .start)) (p .missing)) where
           given-there : (k : Given) → ProgressKnows fuses p k image → notGiven fuses (k .start) (k .lists) ≡ optionalNumber d
           given-there k g =
-              rule-13 fuses (k .start) (k .lists) (p .missing) (g .below (in-place k g) .first) ∙ rw (← g .start) (sym j)
+              by-first fuses (k .start) (k .lists) (p .missing) (g .missing (in-place k g) .first) ∙ rw (← g .start) (sym j)
 
           pub thirteen : (fuse : ℕ) → d ≡ optional-number.Some fuse → Concludes (refused 13 fuse)
           unfolding concluded

@@ -121,7 +121,7 @@ FewStates (says.Sum x) = Unit {0}
 FewStates says.Skipped = Unit {0}
 FewStates says.Bad = Unit {0}
 
--- Unless an L is misplaced, the first fuse that no L gives is known, and it does not lie behind the end of the last L.
+-- A fuse is the first that no L gives, and does not lie behind the end of the last L.
 pub record GivenBelow (fuse : ℕ) (lists : List Listed) : Type 0 where
   pub first : FirstNotGiven lists fuse
   pub at-most : fuse ≤ lastEnd 0 lists
@@ -133,7 +133,7 @@ pub record ProgressKnows (fuses : ℕ) (p : Progress) (k : Given) (image : List 
   pub listed : p .listed ≡ hasAny (k .lists)
   pub end : p .end ≡ lastEnd 0 (k .lists)
   pub faulty : optionalNumber (p .misplaced) ≡ misplaced fuses 0 (k .lists)
-  pub below : misplaced fuses 0 (k .lists) ≡ none → GivenBelow (p .missing) (k .lists)
+  pub missing : misplaced fuses 0 (k .lists) ≡ none → GivenBelow (p .missing) (k .lists)
   pub sum : optionalField (p .sum) ≡ k .sum
   pub bits : misplaced fuses 0 (k .lists) ≡ none → (fuse : ℕ) → stateGiven (startState (k .start)) (k .lists) fuse < 2
   pub holds : misplaced fuses 0 (k .lists) ≡ none

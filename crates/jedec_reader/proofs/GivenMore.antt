@@ -1,34 +1,21 @@
 -- The first fuse that no L gives, after one L more.
 -- Assumes nothing. `GivenBelow` stands in the definitions of `jedec_progress`.
-use mathlib.Core.Path.{_≡_, refl, sym}
+use mathlib.Core.Path.{_≡_, refl}
 use mathlib.Core.Logic.{inl, inr}
 use mathlib.Core.Bool.{Bool, true, false, cond}
 use mathlib.Core.List.{List, [], _∷_, _++_}
 use mathlib.Core.Option.Option.{none}
-use Prim.Native.Nat.{ℕ, _≤_, _<_}
+use Prim.Native.Nat.{ℕ, _≤_}
 use native.Mathlib.Omega.{arith}
 use lib.Dec.{eqb}
 use borrow.Author.Tests.{eqb-true, eqb-false}
 use Rattle.part.proofs.Facts.{compared}
 use Rattle.jedec.specs.Rules.{Listed, endOf, misplaced}
-use Rattle.jedec.specs.Form.{lastEnd, Any, Inside, Each, Outside}
+use Rattle.jedec.specs.Form.{lastEnd, Inside, Each, Outside}
+use Rattle.jedec.proofs.Lists.{each-more, any-more, any-last}
 use Rattle.jedec.proofs.States.{placed}
 use Rattle.jedec_image.proofs.ListedImages.{last-more, ends-rise}
 use Rattle.jedec_progress.specs.Progress.{missingAfter, GivenBelow}
-
--- What holds of some or each of some Ls, and of one more.
-module _ (P : Listed → Type 0) (l : Listed) where
-  each-more : (lists : List Listed) → Each P lists → P l → Each P (lists ++ (l ∷ []))
-  each-more [] e h = (h, tt)
-  each-more (a ∷ lists) e h = (e .0, each-more lists (e .1) h)
-
-  any-more : (lists : List Listed) → Any P lists → Any P (lists ++ (l ∷ []))
-  any-more (a ∷ lists) (inl h) = inl h
-  any-more (a ∷ lists) (inr h) = inr (any-more lists h)
-
-  any-last : (lists : List Listed) → P l → Any P (lists ++ (l ∷ []))
-  any-last [] h = inl h
-  any-last (a ∷ lists) h = inr (any-last lists h)
 
 -- A fuse at or after the end of the last L is outside each.
 behind : (fuses end : ℕ) (lists : List Listed) → misplaced fuses end lists ≡ none → (fuse : ℕ) → lastEnd end lists ≤ fuse

@@ -103,7 +103,7 @@ module _ (fuses : ℕ) (p : Progress) (k : Given) (image rest : List ℕ) (at : 
         listed = g .listed;
         end = g .end;
         faulty = g .faulty;
-        below = g .below;
+        missing = g .missing;
         sum = g .sum;
         bits = λ m. rw empty (start-holds fuses x f .bits);
         holds = λ m. rw empty;
@@ -127,10 +127,10 @@ module _ (fuses : ℕ) (p : Progress) (k : Given) (image rest : List ℕ) (at : 
         listed = any-listed (k .lists) l;
         end = rw (← f .many) (sym (last-more fuses l 0 (k .lists)));
         faulty = faulty;
-        below = λ m.
+        missing = λ m.
             let before : misplaced fuses 0 (k .lists) ≡ none = none-before fuses (k .lists) l m in
             rw (← f .many)
-            (given-below fuses (k .lists) l before (last-placed fuses l 0 (k .lists) before m .0) (p .missing) (g .below before));
+            (given-below fuses (k .lists) l before (last-placed fuses l 0 (k .lists) before m .0) (p .missing) (g .missing before));
         sum = g .sum;
         bits = λ m. held m .bits;
         holds = λ m. rw (no-number (misplacedAfter fuses (p .misplaced) (p .end) at first number) (faulty ∙ m)) (held m .is);
@@ -144,7 +144,7 @@ module _ (fuses : ℕ) (p : Progress) (k : Given) (image rest : List ℕ) (at : 
         listed = g .listed;
         end = g .end;
         faulty = g .faulty;
-        below = g .below;
+        missing = g .missing;
         sum = g .sum;
         bits = g .bits;
         holds = g .holds;
@@ -158,7 +158,7 @@ module _ (fuses : ℕ) (p : Progress) (k : Given) (image rest : List ℕ) (at : 
         listed = g .listed;
         end = g .end;
         faulty = g .faulty;
-        below = g .below;
+        missing = g .missing;
         sum = refl;
         bits = g .bits;
         holds = g .holds;

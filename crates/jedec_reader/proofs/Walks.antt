@@ -57,7 +57,7 @@ starts fuses text from image p none l e =
         listed = refl;
         end = refl;
         faulty = refl;
-        below = λ m.
+        missing = λ m.
             record { first = record { in-none = tt; lower-given = λ fuse h. absurd (omega arith) }; at-most = omega arith };
         sum = refl;
         bits = λ m. start-holds fuses 0 (omega arith) .bits;

@@ -4,7 +4,7 @@ use mathlib.Core.Path.{_≡_}
 use mathlib.Core.Bool.{Bool, true, false, cond}
 use Prim.Native.Nat.{ℕ, zero, suc, _+_, _≤_, _<_}
 
--- The lowest of so many numbers from one on that passes a test, or the number after them.
+-- The lowest of so many numbers from a number on that passes a test, or the number after them.
 unfoldable pub lowestFrom : (ℕ → Bool) → (from count : ℕ) → ℕ
 lowestFrom test from zero = from
 lowestFrom test from (suc count) = cond (test from) from (lowestFrom test (from + 1) count)

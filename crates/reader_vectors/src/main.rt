@@ -133,6 +133,9 @@ fn from_place(kind: u32, word: u64, length: usize) -> usize {
     word as usize % length
 }
 
+// The QF field starts at 3, so its F stands at 4 and its digits behind that.
+const BEHIND_QF: usize = 5;
+
 // Makes the transmission sum one that is not given, and the F field a comment.
 fn take_start(text: &mut [u8]) {
     let mut at = text.len() - at_most(4, text.len());
@@ -140,14 +143,14 @@ fn take_start(text: &mut [u8]) {
         text[at] = b'0';
         at += 1;
     }
-    let start = next_byte(&text[..], 5, b'F');
+    let start = next_byte(&text[..], BEHIND_QF, b'F');
     if start < text.len() {
         text[start] = b'N';
     }
 }
 
 // Reads the text without its F: whole, and twelve times with a line or a state left out.
-fn without_start(d: Device, text: &mut [u8], image: &mut [u8]) {
+fn read_without_start(d: Device, text: &mut [u8], image: &mut [u8]) {
     take_start(text);
     read(b"no F image", d, &text[..], image);
     vectors::end_line();
@@ -159,6 +162,118 @@ fn without_start(d: Device, text: &mut [u8], image: &mut [u8]) {
         left_out(d, text, image, from, k % 2 == 0);
         k += 1;
     }
+}
+
+// Makes the first line a comment.
+fn take_first_line(text: &mut [u8]) {
+    let line = next_byte(&text[..], 0, b'L');
+    if line < text.len() {
+        text[line] = b'N';
+    }
+}
+
+// Reads the text with another number in its last line.
+fn last_line_elsewhere(d: Device, text: &mut [u8], image: &mut [u8]) {
+    let line = next_byte(&text[..], text.len() - at_most(70, text.len()), b'L');
+    if line < text.len() {
+        changed(d, text, image, line + 1, b'9');
+    }
+}
+
+// Reads the text without F and without its first line with another fault besides: of the form (7), of the count (8),
+// of the last line's number (9), of the transmission sum (11). Its fuse sum (10) is that of other fuses already.
+fn two_faults(d: Device, text: &mut [u8], image: &mut [u8]) {
+    take_first_line(text);
+    let last = text.len() - at_most(1, text.len());
+    changed(d, text, image, last, b'x');
+    changed(d, text, image, BEHIND_QF, b'9');
+    last_line_elsewhere(d, text, image);
+    changed(d, text, image, last, b'1');
+}
+
+// Puts a byte into a text, if there is room; the offset behind it.
+fn put_byte(text: &mut [u8], at: usize, byte: u8) -> usize {
+    if at < text.len() {
+        text[at] = byte;
+        return at + 1;
+    }
+    at
+}
+
+// Puts bytes into a text from an offset on; the offset behind them.
+fn put_bytes(text: &mut [u8], at: usize, bytes: &[u8]) -> usize {
+    let mut to = at;
+    let mut i: usize = 0;
+    while i < bytes.len() {
+        to = put_byte(text, to, bytes[i]);
+        i += 1;
+    }
+    to
+}
+
+// The states that one L gives the fuses: every third is 1.
+fn state(fuse: u32) -> u8 {
+    if fuse % 3 == 0 {
+        return b'1';
+    }
+    b'0'
+}
+
+// Puts the states of so many fuses into a text from an offset on; the offset behind them.
+fn put_states(text: &mut [u8], at: usize, fuses: u32) -> usize {
+    let mut to = at;
+    let mut fuse: u32 = 0;
+    while fuse < fuses {
+        to = put_byte(text, to, state(fuse));
+        fuse += 1;
+    }
+    to
+}
+
+// Ends a text at an offset, with a transmission sum that is not given, and reads it.
+fn read_ended(name: &[u8], d: Device, text: &mut [u8], image: &mut [u8], at: usize) {
+    let star = put_bytes(text, at, b"*");
+    let etx = put_byte(text, star, ETX);
+    let end = put_bytes(text, etx, b"0000");
+    read_first(name, d, &text[..], image, end);
+    vectors::end_line();
+}
+
+// Reads the text with one L for so many fuses behind its QF.
+fn one_list(name: &[u8], d: Device, text: &mut [u8], image: &mut [u8], at: usize, fuses: u32) {
+    let states = put_bytes(text, at, b"L0 ");
+    let end = put_states(text, states, fuses);
+    read_ended(name, d, text, image, end);
+}
+
+// Reads the text with a C and an F behind it, and nothing else, behind its QF.
+fn start_behind_sum(d: Device, text: &mut [u8], image: &mut [u8], at: usize) {
+    let end = put_bytes(text, at, b"C0000*F0");
+    read_ended(b"F behind C image", d, text, image, end);
+}
+
+// Reads texts with other fields behind the QF: one L of every fuse, one of all but the last, and an F behind a C.
+fn other_fields(d: Device, text: &mut [u8], image: &mut [u8]) {
+    let sizes = vectors::sizes(d);
+    let fuses = sizes.fuses;
+    let start = next_byte(&text[..], BEHIND_QF, b'N');
+    one_list(b"one L image", d, text, image, start, fuses);
+    one_list(
+        b"one state less image",
+        d,
+        text,
+        image,
+        start,
+        vectors::one_less(fuses),
+    );
+    start_behind_sum(d, text, image, start);
+}
+
+// Reads the texts in which fuses may not be given.
+fn fuses_given(d: Device, text: &mut [u8], image: &mut [u8]) {
+    read_without_start(d, text, image);
+    two_faults(d, text, image);
+    other_fields(d, text, image);
 }
 
 // A device, or the smallest where there is none.
@@ -178,7 +293,7 @@ fn on_text(d: Device, text: &mut [u8], image: &mut [u8]) {
     lengths(d, &text[..], image);
     if part::is_known(d) {
         damaged(d, text, image);
-        without_start(d, text, image);
+        fuses_given(d, text, image);
     }
 }
 

@@ -1,4 +1,4 @@
-// Texts without F, in which L fields give every fuse or leave some not given: request K3 of document 02.
+// Texts in which L fields or an F give every fuse, or some fuse is not given: request K3 of document 02.
 // Each text is made to be of one kind, with the answer that it must get; the reference confirms how it was made.
 
 use crate::texts::{cuts, hex, list, low_16, pieces_of, Field, Pieces};

@@ -23,7 +23,7 @@ const DAMAGED_WRITTEN: u32 = 400;
 /// How often each outcome occurs at least among these.
 const OFTEN: u64 = 1000;
 
-/// Texts of each kind without F. Most are of two blocks, as large parts take long; every so many are of another device,
+/// Texts of each kind of `fuses_given`. Most are of two blocks, as large parts take long; every so many are of another device,
 /// so that each kind is made for all of them.
 const OF_EACH_KIND: usize = 110;
 const OTHER_DEVICE: usize = 9;
@@ -93,7 +93,7 @@ fn written_text(device: Device, image: &[u8]) -> Vec<u8> {
     text
 }
 
-/// Texts of the writer, read as the device's, with blanks after them, and as other devices'.
+/// Texts of the writer, read as the device's, without F, with blanks after them, and as other devices'.
 fn written(comparison: &mut Comparison, random: &mut Random) {
     for device in all_devices() {
         for (name, image) in images(device, random).into_iter().take(3) {
@@ -431,7 +431,7 @@ fn several_faults(comparison: &mut Comparison, reader: Function) {
     }
 }
 
-/// Texts of each kind without F, with the answers that they must get.
+/// Texts of each kind of `fuses_given`, with the answers that they must get.
 fn fuses_given(
     comparison: &mut Comparison,
     name: &'static str,

@@ -1,4 +1,4 @@
--- `refusal_word` meets its contract: the number is at most 12 and the value has 32 bits, so nothing wraps.
+-- `refusal_word` meets its contract: the number is at most 13 and the value has 32 bits, so nothing wraps.
 -- Assumes nothing.
 use native.Mathlib.Omega.{arith}
 use Rattle.part.proofs.Laws.{number-small}

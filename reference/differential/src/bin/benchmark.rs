@@ -60,10 +60,7 @@ fn rows() -> Vec<Row> {
     rows.extend(of_two_and_sixteen(set_usercode_in_readout));
     rows.extend(of_two_and_sixteen(image_to_text));
     rows.extend(of_two_and_sixteen(text_to_image));
-    rows.push(text_without_start_state_to_image(Device {
-        blocks: 16,
-        class: LARGE,
-    }));
+    rows.extend(of_two_and_sixteen(text_without_start_state_to_image));
     rows
 }
 

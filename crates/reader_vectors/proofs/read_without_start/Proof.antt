@@ -1,11 +1,11 @@
--- `without_start` is safe and ends: the loop counts up to a constant.
+-- `read_without_start` is safe and ends: the loop counts up to a constant.
 -- Assumes nothing.
 use mathlib.Core.Path.{_≡_}
 use Prim.Native.Nat.{_-_}
 use lib.ListN.{length}
 use borrow.Author.Needs.{needs}
-use Rattle.reader_vectors.proofs.without_start.Statement.{statement}
-use Rattle.reader_vectors.proofs.without_start.Tie as tie
+use Rattle.reader_vectors.proofs.read_without_start.Statement.{statement}
+use Rattle.reader_vectors.proofs.read_without_start.Tie as tie
 
 abbrev Inv-loop : tie.InvT-loop
 Inv-loop d text₀ image₀ word₀ k₀ text image word k = (length text ≡ length text₀) × (length image ≡ length image₀)
@@ -55,8 +55,8 @@ same-length-2 c = search needs
 returns : tie.Need-returns Inv-loop μ-loop
 returns c = search needs
 
-pub without-start-spec : {M : Type 1} → statement M
-without-start-spec =
+pub read-without-start-spec : {M : Type 1} → statement M
+read-without-start-spec =
     tie.close
     (tie.spec
     Inv-loop
