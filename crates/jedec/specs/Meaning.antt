@@ -24,7 +24,7 @@ longest = 1048576
 -- A refusal where there is a value for it.
 abbrev pub unless : (number : ℕ) → Option ℕ → Outcome (List ℕ) → Outcome (List ℕ)
 unless number none answer = answer
-unless number (some at) answer = refused number at
+unless number (some value) answer = refused number value
 
 -- 10: "C differs": its field. The sum is that of the finished image.
 abbrev pub wrongSum : (image : List ℕ) → Option At → Option ℕ
