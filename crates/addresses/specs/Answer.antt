@@ -1,4 +1,4 @@
--- What the answers of the two conversions say: the result, or document 01's number and value of a refusal.
+-- What the answers of the two conversions say: the result, or number and value of a refusal, as the papers give them.
 -- A contract that cites these determines the answer (`refusal-determined` in part/proofs/Laws.antt).
 use Prim.Native.Nat.{ℕ}
 use Rattle.part.specs.Outcome.{Outcome}

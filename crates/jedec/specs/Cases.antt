@@ -1,5 +1,5 @@
--- Texts and what they mean for a part of 18144 fuses or of eight: document 01's bench section, points that it leaves
--- open, K3 of document 02. The independent program is held to them (reference/tests/stated_texts.rs). A written text.
+-- Texts and what they mean for a part of 18144 fuses or of eight (document 01's bench section, points that it leaves
+-- open, K3 of document 02), and a written text. reference/tests/stated_texts.rs holds the independent program to them.
 use mathlib.Core.Path.{_≡_}
 use mathlib.Core.List.{List, [], _∷_, _++_, map}
 use Prim.Native.Nat.{ℕ}

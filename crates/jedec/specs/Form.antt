@@ -209,15 +209,16 @@ pub record FirstNotGiven (lists : List Listed) (fuse : ℕ) : Type 0 where
   pub in-none : Each (Outside fuse) lists
   pub lower-given : AllGiven fuse lists
 
--- What the fields of such a text lack: a fuse that neither an F nor an L gives.
+-- The fields lack a fuse: no L is out of place, there is no F, and the fuse is below the count and the first that no L
+-- gives.
 pub record LacksFuse (fuses fuse : ℕ) (k : Given) : Type 0 where
   pub in-place : InPlace fuses 0 (k .lists)
   pub no-start : k .start ≡ none
   pub below : fuse < fuses
   pub first-not-given : FirstNotGiven (k .lists) fuse
 
--- A text that is refused 13, and the refusal's value: it is of good form, QF gives the count, no L is out of place,
--- there is no F, and the first fuse that no L gives is below the count.
+-- A text that is refused 13, and the refusal's value: it is of good form, QF gives the count, and its fields lack that
+-- fuse.
 abbrev pub Refused13 : (fuses : ℕ) → (text : List ℕ) → (fuse : ℕ) → Type 0
 Refused13 fuses text fuse = CountedText fuses text (LacksFuse fuses fuse)
 

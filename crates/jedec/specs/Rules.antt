@@ -106,7 +106,8 @@ isGiven (l ∷ lists) fuse = inside fuse l || isGiven lists fuse
 abbrev pub firstNotGiven : (fuses : ℕ) → List Listed → ℕ
 firstNotGiven fuses lists = lowest (λ fuse. not (isGiven lists fuse)) fuses
 
--- 13, K3 of document 02: "a text without F must give every fuse by L fields"; it "returns the first fuse not given".
+-- 13, K3 of document 02: "a text without F must give every fuse by L fields"; it "returns the first fuse not given". So
+-- where there is no F it is given for the first such fuse, if that is below the count.
 abbrev pub withoutStart : (fuses : ℕ) → (state : Option ℕ) → (first : ℕ) → Option ℕ
 withoutStart fuses none first = cond (ltb first fuses) (some first) none
 withoutStart fuses (some s) first = none

@@ -1,4 +1,4 @@
--- What each answer of the code says: document 01's number and value for every refusal, and the result.
+-- What each answer of the code says: number and value of every refusal, as the papers give them, and the result.
 -- A bit that a setting does not have is no refusal: it is `none`.
 use Prim.Native.Nat.{ℕ}
 use mathlib.Core.Option.{Option}
