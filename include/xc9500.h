@@ -175,7 +175,7 @@ uint64_t xc9500_image_to_text(uint32_t blocks, uint32_t class_, const uint8_t *i
      7   where: XC9500_LONGEST_TEXT for a longer text, 0 where it does not begin with STX, the start of the first bad
          field, the length of a text that ends early, after ETX the first wrong byte
      8   the QF field, or ETX where there is none
-     9   the L field that starts before the end of the one before it or runs past the count
+     9   the first L field that starts before the end of the one before it or runs past the count
      13  the first fuse that no L field gives, where the text has no F field; no offset
      10  the C field
      11  ETX
