@@ -87,6 +87,16 @@ int main(int argc, char **argv)
     uint64_t pattern = result("read_in_image", xc9500_read_in_image(BLOCKS, CLASS, image, image_len, setting));
     printf("setting %u: pattern %llu\n", (unsigned)setting, (unsigned long long)pattern);
 
+    /* The fuse of each of its bits, lowest first, and the address and the bit where a probe finds it. */
+    for (uint32_t i = 0;; i++) {
+        word = xc9500_setting_fuse(BLOCKS, CLASS, setting, i);
+        if (result("setting_fuse", word) == XC9500_NONE) {
+            break;
+        }
+        printf("bit %u: fuse %u, address %u, bit %u\n", (unsigned)i, (unsigned)xc9500_result_setting_fuse(word).number,
+               (unsigned)xc9500_result_address(word).number, (unsigned)xc9500_result_bit(word));
+    }
+
     /* It has three bits: 7 is a pattern of it, and 8 is refused and changes nothing. */
     result("set_in_image", xc9500_set_in_image(BLOCKS, CLASS, image, image_len, setting, 7));
     report("set to 7", image, image_len);

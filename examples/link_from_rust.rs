@@ -46,6 +46,7 @@ extern "C" {
         image: *mut u8,
         image_len: usize,
     ) -> u64;
+    fn xc9500_setting_fuse(blocks: u32, class: u32, setting: u32, bit: u32) -> u64;
     fn xc9500_setting_at_fuse(blocks: u32, class: u32, fuse: Fuse) -> u64;
     fn xc9500_read_in_image(
         blocks: u32,
@@ -177,6 +178,25 @@ fn main() -> Result<(), String> {
         "setting {setting}: pattern {}",
         result("read_in_image", word)?
     );
+
+    // The fuse of each of its bits, lowest first, and the address and the bit where a probe finds it.
+    for i in 0.. {
+        let word = unsafe { xc9500_setting_fuse(BLOCKS, SMALL, setting, i) };
+        let packed = result("setting_fuse", word)?;
+        if packed == NONE {
+            break;
+        }
+        let (fuse, address) = (
+            Fuse((packed >> 20) as u32),
+            Address((packed >> 3 & 0x1FFFF) as u32),
+        );
+        println!(
+            "bit {i}: fuse {}, address {}, bit {}",
+            fuse.0,
+            address.0,
+            packed % 8
+        );
+    }
 
     // It has three bits: 7 is a pattern of it, and 8 is refused and changes nothing.
     result("set_in_image", set_in_image(&mut image, setting, 7))?;

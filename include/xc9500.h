@@ -101,16 +101,22 @@ static inline uint64_t xc9500_result(uint64_t word)
 #define XC9500_REFUSAL(word) xc9500_refusal(word)
 #define XC9500_RESULT(word) xc9500_result(word)
 
-/* The parts of an accepted answer that packs two numbers: the address and the bit of xc9500_address_of_fuse, the
-   setting and the bit of xc9500_setting_at_fuse (unless it is XC9500_NONE); and a result that is a fuse. */
+/* The parts of an accepted answer that packs several numbers: the address and the bit of xc9500_address_of_fuse and of
+   xc9500_setting_fuse, and the fuse of the latter; the setting and the bit of xc9500_setting_at_fuse; and a result that
+   is a fuse and nothing else, xc9500_fuse_of_address. XC9500_NONE has no parts: ask for it first. */
 static inline xc9500_address xc9500_result_address(uint64_t word)
 {
-    return xc9500_address_from(XC9500_CAST(uint32_t, xc9500_result(word) >> 3));
+    return xc9500_address_from(XC9500_CAST(uint32_t, (word >> 3) & 0x1FFFF));
 }
 
 static inline uint32_t xc9500_result_bit(uint64_t word)
 {
     return XC9500_CAST(uint32_t, word & 7);
+}
+
+static inline xc9500_fuse xc9500_result_setting_fuse(uint64_t word)
+{
+    return xc9500_fuse_from(XC9500_CAST(uint32_t, xc9500_result(word) >> 20));
 }
 
 static inline uint32_t xc9500_result_setting(uint64_t word)
@@ -196,7 +202,8 @@ uint64_t xc9500_text_to_image(uint32_t blocks, uint32_t class_, const uint8_t *t
 /* How many settings a device has. Refused: 1. */
 uint64_t xc9500_setting_count(uint32_t blocks, uint32_t class_);
 
-/* The fuse of a bit of a setting, lowest bit first; XC9500_NONE where the setting has no such bit. Refused: 1; 4. */
+/* The fuse of a bit of a setting, lowest bit first, times 2^20, plus its address times 8, plus its bit at that address;
+   XC9500_NONE where the setting has no such bit. Address and bit are those of xc9500_address_of_fuse. Refused: 1; 4. */
 uint64_t xc9500_setting_fuse(uint32_t blocks, uint32_t class_, uint32_t setting, uint32_t bit);
 
 /* The number of the setting at a fuse times 32, plus the bit; XC9500_NONE where no setting has the fuse. Refused: 1;

@@ -1,11 +1,20 @@
 // The numbered list of all settings of a device, each with its places and fuses.
-// Numbers come from counting the listed settings; fuses come from looking up their places.
+// Numbers come from counting the settings, fuses from looking up places, addresses from converting fuses.
 
+use crate::conversion::address_of_fuse;
 use crate::device::{all_devices, refuse, Answer, Device};
 use crate::layout::{Layout, Place};
 use crate::setting::{every_setting, places, Setting};
 use std::collections::HashMap;
 use std::sync::OnceLock;
+
+/// A fuse with its device address and its bit there.
+#[derive(Clone, Copy, Debug, PartialEq, Eq, Hash)]
+pub struct LocatedFuse {
+    pub fuse: u32,
+    pub address: u32,
+    pub bit: u32,
+}
 
 /// One setting of the list; its number is its position there.
 pub(crate) struct Entry {
@@ -119,10 +128,28 @@ pub fn fuses_of_setting(device: Device, number: u32) -> Answer<Vec<u32>> {
     Ok(Catalogue::of(device)?.entry(number)?.fuses.clone())
 }
 
-/// The fuse of one bit of a setting; None if the setting has no such bit.
-pub fn fuse_of_setting(device: Device, number: u32, bit: u32) -> Answer<Option<u32>> {
-    let entry = Catalogue::of(device)?.entry(number)?;
-    Ok(entry.fuses.get(bit as usize).copied())
+/// A fuse with the address and bit that the conversion gives for it.
+fn locate_fuse(device: Device, fuse: u32) -> Answer<LocatedFuse> {
+    let (address, bit) = address_of_fuse(device, fuse)?;
+    Ok(LocatedFuse { fuse, address, bit })
+}
+
+/// The fuses of a setting with their addresses and bits, lowest bit of the setting first.
+pub fn locate_setting(device: Device, number: u32) -> Answer<Vec<LocatedFuse>> {
+    let fuses = &Catalogue::of(device)?.entry(number)?.fuses;
+    fuses
+        .iter()
+        .map(|fuse| locate_fuse(device, *fuse))
+        .collect()
+}
+
+/// The same for one bit of a setting; None if the setting has no such bit.
+pub fn locate_bit(device: Device, number: u32, bit: u32) -> Answer<Option<LocatedFuse>> {
+    let fuses = &Catalogue::of(device)?.entry(number)?.fuses;
+    match fuses.get(bit as usize) {
+        Some(fuse) => locate_fuse(device, *fuse).map(Some),
+        None => Ok(None),
+    }
 }
 
 /// The setting and bit that a fuse belongs to; None if the fuse is unnamed.

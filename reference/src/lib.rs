@@ -27,8 +27,8 @@ pub use access::{
 };
 pub use bench::bench;
 pub use catalogue::{
-    fuse_of_setting, fuses_of_setting, number_of_setting, places_of_setting, setting_at_fuse,
-    setting_count, setting_of_number, setting_width,
+    fuses_of_setting, locate_bit, locate_setting, number_of_setting, places_of_setting,
+    setting_at_fuse, setting_count, setting_of_number, setting_width, LocatedFuse,
 };
 pub use conversion::{address_of_fuse, fuse_of_address};
 pub use device::{all_devices, Answer, Device, Refusal, BLOCK_COUNTS, LARGE, SMALL};

@@ -1,9 +1,9 @@
-// What the vectors program of the settings prints: numbers, fuses and values, worked out from the lists.
+// What the vectors program of the settings prints: numbers, fuses, addresses and values, from the lists.
 // A value is one number there: its kind and its printed name, flag, number or pattern.
 
 use crate::catalogue::{
-    fuse_of_setting, number_of_setting, setting_at_fuse, setting_count, setting_of_number,
-    setting_width,
+    locate_bit, number_of_setting, setting_at_fuse, setting_count, setting_of_number,
+    setting_width, LocatedFuse,
 };
 use crate::device::{refuse, Answer, Device, LARGE, SMALL};
 use crate::image::fuse_count;
@@ -44,8 +44,12 @@ fn word_of_number(answer: Answer<u32>) -> u64 {
     word(answer.map(u64::from))
 }
 
-fn word_of_bit(answer: Answer<Option<u32>>) -> u64 {
-    word(answer.map(|fuse| fuse.map_or(NONE, u64::from)))
+/// Fuse, address and bit in one word, as the C interface gives them.
+fn word_of_bit(answer: Answer<Option<LocatedFuse>>) -> u64 {
+    let packed = |LocatedFuse { fuse, address, bit }| {
+        u64::from(fuse) * (1 << 20) + u64::from(address) * 8 + u64::from(bit)
+    };
+    word(answer.map(|located| located.map_or(NONE, packed)))
 }
 
 fn word_at_fuse(device: Device, fuse: u32) -> u64 {
@@ -98,7 +102,7 @@ fn patterns_to_try(width: u32) -> Vec<u32> {
     }
 }
 
-/// Takes in all that is known of one setting: what it is, its fuses, its values.
+/// Takes in all that is known of one setting: what it is, its fuses with their addresses, its values.
 fn take_in_setting(digest: &mut Digest, device: Device, number: u32) -> Answer<()> {
     let setting = setting_of_number(device, number)?;
     digest.take_in(word_of_number(number_of_setting(device, setting)));
@@ -108,7 +112,7 @@ fn take_in_setting(digest: &mut Digest, device: Device, number: u32) -> Answer<(
     let width = setting_width(device, number)?;
     digest.take_in(u64::from(width));
     for bit in 0..=width {
-        digest.take_in(word_of_bit(fuse_of_setting(device, number, bit)));
+        digest.take_in(word_of_bit(locate_bit(device, number, bit)));
     }
     for pattern in patterns_to_try(width) {
         match value_of_pattern(device, number, pattern) {
@@ -292,7 +296,7 @@ fn number_of_any(device: Device, setting: Option<Setting>) -> Answer<u32> {
     }
 }
 
-/// Settings that no device has, asked for number, width, fuse, value and pattern.
+/// Settings that no device has, asked for number, width, fuse with address, value and pattern.
 fn past_digest(device: Device) -> u64 {
     let just_past = Past {
         block: device.blocks,
@@ -315,13 +319,13 @@ fn past_digest(device: Device) -> u64 {
         for setting in settings_past(past) {
             let number = number_of_any(device, setting);
             let width = number.and_then(|number| setting_width(device, number));
-            let fuse = number.and_then(|number| fuse_of_setting(device, number, 0));
+            let located = number.and_then(|number| locate_bit(device, number, 0));
             let value = number.and_then(|number| value_of_pattern(device, number, 0));
             let flag = Value::Flag(true);
             let pattern = number.and_then(|number| pattern_of_value(device, number, flag));
             digest.take_in(word_of_number(number));
             digest.take_in(word_of_number(width));
-            digest.take_in(word_of_bit(fuse));
+            digest.take_in(word_of_bit(located));
             digest.take_in(word(value.map(number_of_value)));
             digest.take_in(word_of_number(pattern));
         }
@@ -329,13 +333,16 @@ fn past_digest(device: Device) -> u64 {
     digest.value
 }
 
-/// Number and fuse of a bit of a setting of document 01's cases, and the way back from the fuse.
+/// Number, fuse, address and bit of a bit of a setting of document 01's cases, and the way back from
+/// the fuse.
 fn document_case(device: Device, name: &str, setting: Setting, bit: u32) -> Answer<String> {
     let number = number_of_setting(device, setting)?;
-    let fuse = fuse_of_setting(device, number, bit)?.expect("the setting has the bit");
+    let located = locate_bit(device, number, bit)?.expect("the setting has the bit");
+    let LocatedFuse { fuse, address, .. } = located;
     let back = word_at_fuse(device, fuse);
     Ok(format!(
-        "{name} bit {bit} number {number} fuse {fuse} back {back}"
+        "{name} bit {bit} number {number} fuse {fuse} address {address} bit {} back {back}",
+        located.bit
     ))
 }
 

@@ -64,48 +64,102 @@ fn p_cases_refused() {
     }
 }
 
-fn fuses(setting: Setting) -> Vec<u32> {
+/// Fuse, address and bit of each bit of a setting, lowest bit first.
+fn located(setting: Setting) -> Vec<(u32, u32, u32)> {
     let number = number_of_setting(DEVICE, setting).unwrap();
-    fuses_of_setting(DEVICE, number).unwrap()
+    let located = locate_setting(DEVICE, number).unwrap();
+    let fuses: Vec<u32> = located.iter().map(|located| located.fuse).collect();
+    assert_eq!(fuses_of_setting(DEVICE, number), Ok(fuses));
+    for (bit, located) in (0..).zip(&located) {
+        assert_eq!(locate_bit(DEVICE, number, bit), Ok(Some(*located)));
+    }
+    assert_eq!(locate_bit(DEVICE, number, located.len() as u32), Ok(None));
+    located
+        .into_iter()
+        .map(|LocatedFuse { fuse, address, bit }| (fuse, address, bit))
+        .collect()
 }
 
+/// The addresses are worked out by hand: in block 0 a main row is worth 32, column 5 is at 8; the
+/// wire-AND area starts at 4096, a subarea of it is worth 256 and a row 8.
 #[test]
-fn fuses_of_named_settings() {
-    for (polarity, fuse) in [(Polarity::P, 1677), (Polarity::N, 1569)] {
+fn fuses_and_addresses_of_named_settings() {
+    // Rows 15 and 14, column 7, bit 1.
+    for (polarity, place) in [(Polarity::P, (1677, 490, 1)), (Polarity::N, (1569, 458, 1))] {
         assert_eq!(
-            fuses(Setting::Literal {
+            located(Setting::Literal {
                 block: 0,
                 macrocell: 4,
                 term: 2,
                 input: 7,
                 polarity,
             }),
-            [fuse]
+            [place]
         );
     }
+    // Subarea 1, row 3, column 2, bit 1.
     assert_eq!(
-        fuses(Setting::WireAnd {
+        located(Setting::WireAnd {
             block: 0,
             input: 7,
             source: 1,
             macrocell: 3,
         }),
-        [8548]
+        [(8548, 4378, 1)]
     );
+    // Row 22, column 1, bit 7.
     assert_eq!(
-        fuses(Setting::Macrocell {
+        located(Setting::Macrocell {
             block: 0,
             macrocell: 10,
             field: MacrocellField::Inv,
         }),
-        [2391]
+        [(2391, 705, 7)]
     );
-    let usercode = fuses(Setting::Global {
-        field: GlobalField::Usercode,
-    });
-    assert_eq!(usercode.len(), 32);
-    assert_eq!(usercode[0], 818);
-    assert_eq!(usercode[31], 655);
+}
+
+/// Bits 0 to 15 from row 7, bits 16 to 31 from row 6; of each row columns 7 to 0, bit 6 before 7.
+#[test]
+fn fuses_and_addresses_of_usercode() {
+    assert_eq!(
+        located(Setting::Global {
+            field: GlobalField::Usercode,
+        }),
+        [
+            (818, 234, 6),
+            (819, 234, 7),
+            (810, 233, 6),
+            (811, 233, 7),
+            (802, 232, 6),
+            (803, 232, 7),
+            (794, 228, 6),
+            (795, 228, 7),
+            (786, 227, 6),
+            (787, 227, 7),
+            (778, 226, 6),
+            (779, 226, 7),
+            (770, 225, 6),
+            (771, 225, 7),
+            (762, 224, 6),
+            (763, 224, 7),
+            (710, 202, 6),
+            (711, 202, 7),
+            (702, 201, 6),
+            (703, 201, 7),
+            (694, 200, 6),
+            (695, 200, 7),
+            (686, 196, 6),
+            (687, 196, 7),
+            (678, 195, 6),
+            (679, 195, 7),
+            (670, 194, 6),
+            (671, 194, 7),
+            (662, 193, 6),
+            (663, 193, 7),
+            (654, 192, 6),
+            (655, 192, 7),
+        ]
+    );
 }
 
 #[test]
@@ -129,7 +183,11 @@ fn oe_mux_of_an_all_ones_image() {
         expected[fuse / 8] &= !(1 << (fuse % 8));
     }
     assert_eq!(image, expected);
-    assert_eq!(fuses(setting), [3138, 3246, 3354]);
+    // Rows 29, 30 and 31, column 0, bit 6.
+    assert_eq!(
+        located(setting),
+        [(3138, 928, 6), (3246, 960, 6), (3354, 992, 6)]
+    );
     assert_eq!(
         read_value_in_image(DEVICE, &image, setting),
         Ok(Value::Named(ValueName::Foe2))
@@ -177,13 +235,13 @@ fn slips_seen_are_not_made() {
     assert_eq!(address_of_fuse(DEVICE, 72 + 5), Ok((12, 5)));
     assert_eq!(address_of_fuse(DEVICE, 72 + 6), Ok((16, 0)));
     // Wire-AND input 1 is column 1 bit 0.
-    let input_1 = fuses(Setting::WireAnd {
+    let input_1 = located(Setting::WireAnd {
         block: 0,
         input: 1,
         source: 0,
         macrocell: 0,
     });
-    assert_eq!(address_of_fuse(DEVICE, input_1[0]), Ok((4097, 0)));
+    assert_eq!(input_1, [(7784, 4097, 0)]);
     // Flags and USERCODE are stored inverted.
     let mut image = vec![0xFF; 2268];
     let enable = Setting::Block {
@@ -204,7 +262,7 @@ fn slips_seen_are_not_made() {
     set_value_in_image(DEVICE, &mut image, usercode, Value::Usercode(1)).unwrap();
     assert_eq!(image[818 / 8], 0xFF - (1 << (818 % 8)));
     set_value_in_image(DEVICE, &mut image, enable, Value::Flag(true)).unwrap();
-    let fuse = fuses(enable)[0] as usize;
+    let fuse = located(enable)[0].0 as usize;
     assert_eq!(image[fuse / 8], 0xFF - (1 << (fuse % 8)));
 }
 

@@ -79,7 +79,8 @@ fn refusal_1_comes_first_everywhere() {
         assert_eq!(setting_width(device, max), refused(1, 0));
         assert_eq!(places_of_setting(device, max), refused(1, 0));
         assert_eq!(fuses_of_setting(device, max), refused(1, 0));
-        assert_eq!(fuse_of_setting(device, max, max), refused(1, 0));
+        assert_eq!(locate_setting(device, max), refused(1, 0));
+        assert_eq!(locate_bit(device, max, max), refused(1, 0));
         assert_eq!(setting_at_fuse(device, max), refused(1, 0));
         assert_eq!(value_of_pattern(device, max, max), refused(1, 0));
         assert_eq!(pattern_of_value(device, max, value), refused(1, 0));
@@ -308,7 +309,7 @@ fn arbitrary_calls_are_answered() {
         count(address_of_fuse(device, a).is_ok());
         count(fuse_of_address(device, a, b).is_ok());
         count(setting_of_number(device, a).is_ok());
-        count(fuse_of_setting(device, a, b).is_ok());
+        count(locate_bit(device, a, b).is_ok());
         count(setting_at_fuse(device, a).is_ok());
         count(value_of_pattern(device, a, b).is_ok());
         count(pattern_of_value(device, a, Value::Unassigned(b)).is_ok());

@@ -1,5 +1,5 @@
-// The numbered settings of all devices: counts, numbers, fuses, names and values.
-// Numbers and fuses are worked out again here by arithmetic and compared with the lists.
+// The numbered settings of all devices: counts, numbers, fuses, addresses, names and values.
+// Numbers, fuses and addresses are worked out again here by arithmetic and compared with the lists.
 
 use std::collections::HashSet;
 use xc9500_reference::random::Random;
@@ -70,13 +70,54 @@ fn number_by_arithmetic(blocks: u32, setting: Setting, field: u32) -> u32 {
     }
 }
 
-fn main_fuse(blocks: u32, block: u32, row: u32, column: u32, bit: u32) -> u32 {
-    let first = if column < 9 {
-        8 * column
-    } else {
-        72 + 6 * (column - 9)
+/// The address of a place, each of document 01's fields put at its bits.
+fn address_by_fields(place: Place) -> u32 {
+    match place.area {
+        Area::Main => {
+            place.block << 13 | place.row << 5 | (place.column / 5) << 3 | (place.column % 5)
+        }
+        Area::WireAnd { subarea } => {
+            place.block << 13 | 1 << 12 | subarea << 8 | place.row << 3 | place.column
+        }
+    }
+}
+
+/// The fuse of a place by arithmetic, with its address and bit.
+fn located_by_arithmetic(blocks: u32, place: Place) -> LocatedFuse {
+    let in_block = match place.area {
+        Area::Main if place.column < 9 => 108 * place.row + 8 * place.column,
+        Area::Main => 108 * place.row + 72 + 6 * (place.column - 9),
+        Area::WireAnd { subarea } => {
+            let first = match place.column {
+                0 => 0,
+                column => 8 + 7 * (column - 1),
+            };
+            7776 + 648 * subarea + 36 * place.row + first
+        }
     };
-    block * (7776 + 648 * blocks) + 108 * row + first + bit
+    LocatedFuse {
+        fuse: place.block * (7776 + 648 * blocks) + in_block + place.bit,
+        address: address_by_fields(place),
+        bit: place.bit,
+    }
+}
+
+/// The same for a place in a main area.
+fn in_main_area(blocks: u32, block: u32, (row, column, bit): (u32, u32, u32)) -> LocatedFuse {
+    let place = Place {
+        block,
+        area: Area::Main,
+        row,
+        column,
+        bit,
+    };
+    located_by_arithmetic(blocks, place)
+}
+
+/// How many fuses no setting has, by document 01.
+fn unnamed_fuses(device: Device) -> u32 {
+    let fewer = if device.class == SMALL { 48 } else { 54 };
+    624 * device.blocks - fewer
 }
 
 #[test]
@@ -98,11 +139,11 @@ fn literals_by_arithmetic() {
                             let number = number_by_arithmetic(blocks, setting, 0);
                             let row = 2 * input + u32::from(polarity == Polarity::P);
                             let column = term + 5 * (macrocell % 3);
-                            let fuse = main_fuse(blocks, block, row, column, macrocell / 3);
+                            let located = in_main_area(blocks, block, (row, column, macrocell / 3));
                             assert_eq!(number_of_setting(device, setting), Ok(number));
                             assert_eq!(setting_of_number(device, number), Ok(setting));
-                            assert_eq!(fuse_of_setting(device, number, 0), Ok(Some(fuse)));
-                            assert_eq!(fuse_of_setting(device, number, 1), Ok(None));
+                            assert_eq!(locate_bit(device, number, 0), Ok(Some(located)));
+                            assert_eq!(locate_bit(device, number, 1), Ok(None));
                         }
                     }
                 }
@@ -126,18 +167,18 @@ fn wire_and_by_arithmetic() {
                             macrocell,
                         };
                         let number = number_by_arithmetic(blocks, setting, 0);
-                        let column = input % 5;
-                        let first = if column == 0 { 0 } else { 8 + 7 * (column - 1) };
-                        let fuse = block * (7776 + 648 * blocks)
-                            + 7776
-                            + 648 * source
-                            + 36 * macrocell
-                            + first
-                            + input / 5;
+                        let place = Place {
+                            block,
+                            area: Area::WireAnd { subarea: source },
+                            row: macrocell,
+                            column: input % 5,
+                            bit: input / 5,
+                        };
+                        let located = located_by_arithmetic(blocks, place);
                         assert_eq!(number_of_setting(device, setting), Ok(number));
                         assert_eq!(setting_of_number(device, number), Ok(setting));
-                        assert_eq!(fuse_of_setting(device, number, 0), Ok(Some(fuse)));
-                        assert_eq!(fuse_of_setting(device, number, 1), Ok(None));
+                        assert_eq!(locate_bit(device, number, 0), Ok(Some(located)));
+                        assert_eq!(locate_bit(device, number, 1), Ok(None));
                     }
                 }
             }
@@ -189,14 +230,15 @@ fn macrocell_fields_by_arithmetic() {
                         field: MACROCELL_FIELDS[position],
                     };
                     let number = number_by_arithmetic(blocks, setting, position as u32);
-                    let fuses: Vec<u32> = rows
+                    let (column, bit) = (macrocell % 9, 6 + macrocell / 9);
+                    let located = rows
                         .iter()
-                        .map(|row| main_fuse(blocks, block, *row, macrocell % 9, 6 + macrocell / 9))
+                        .map(|row| in_main_area(blocks, block, (*row, column, bit)))
                         .collect();
                     assert_eq!(field_name(setting), Some(*name));
                     assert_eq!(number_of_setting(device, setting), Ok(number));
                     assert_eq!(setting_of_number(device, number), Ok(setting));
-                    assert_eq!(fuses_of_setting(device, number), Ok(fuses));
+                    assert_eq!(locate_setting(device, number), Ok(located));
                 }
             }
         }
@@ -222,11 +264,11 @@ fn block_fields_by_arithmetic() {
                     field: BLOCK_FIELDS[position],
                 };
                 let number = number_by_arithmetic(blocks, setting, position as u32);
-                let fuse = main_fuse(blocks, block, *row, *column, 6);
+                let located = in_main_area(blocks, block, (*row, *column, 6));
                 assert_eq!(field_name(setting), Some(*name));
                 assert_eq!(number_of_setting(device, setting), Ok(number));
                 assert_eq!(setting_of_number(device, number), Ok(setting));
-                assert_eq!(fuses_of_setting(device, number), Ok(vec![fuse]));
+                assert_eq!(locate_setting(device, number), Ok(vec![located]));
             }
         }
     }
@@ -278,11 +320,11 @@ fn global_fields_by_arithmetic() {
             assert_eq!(group_name(setting), "global");
             assert_eq!(field_name(setting), Some(name.as_str()));
             assert_eq!(number_of_setting(device, setting), Ok(number));
-            let fuses: Vec<u32> = positions
+            let located = positions
                 .iter()
-                .map(|(row, column, bit)| main_fuse(device.blocks, 0, *row, *column, *bit))
+                .map(|position| in_main_area(device.blocks, 0, *position))
                 .collect();
-            assert_eq!(fuses_of_setting(device, number), Ok(fuses));
+            assert_eq!(locate_setting(device, number), Ok(located));
         }
     }
 }
@@ -319,12 +361,11 @@ fn no_two_settings_share_a_fuse_and_the_unnamed_are_counted() {
                 let bit = bit as u32;
                 assert!(named.insert(*fuse), "fuse {fuse} has two settings");
                 assert_eq!(setting_at_fuse(device, *fuse), Ok(Some((number, bit))));
-                assert_eq!(fuse_of_setting(device, number, bit), Ok(Some(*fuse)));
-                let (_, bit_of_byte) = address_of_fuse(device, *fuse).unwrap();
-                assert_eq!(places[bit as usize].bit, bit_of_byte);
+                let located = locate_bit(device, number, bit).unwrap();
+                assert_eq!(located.map(|located| located.fuse), Some(*fuse));
             }
             for bit in [fuses.len() as u32, 33, u32::MAX] {
-                assert_eq!(fuse_of_setting(device, number, bit), Ok(None));
+                assert_eq!(locate_bit(device, number, bit), Ok(None));
             }
         }
         let count = fuse_count(device).unwrap();
@@ -335,11 +376,36 @@ fn no_two_settings_share_a_fuse_and_the_unnamed_are_counted() {
                 unnamed += 1;
             }
         }
-        let fewer = if device.class == SMALL { 48 } else { 54 };
-        assert_eq!(unnamed, 624 * device.blocks - fewer);
+        assert_eq!(unnamed, unnamed_fuses(device));
         assert_eq!(named.len() as u32 + unnamed, count);
         assert_eq!(setting_at_fuse(device, count), refused(3, 0));
         assert_eq!(setting_at_fuse(device, u32::MAX), refused(3, 0));
+    }
+}
+
+#[test]
+fn every_bit_has_the_address_of_its_place() {
+    for device in all_devices() {
+        let mut bits = 0;
+        for number in 0..setting_count(device).unwrap() {
+            let places = places_of_setting(device, number).unwrap();
+            let located = locate_setting(device, number).unwrap();
+            assert_eq!(located.len(), places.len());
+            for (i, place) in (0..).zip(places) {
+                assert_eq!(
+                    located[i],
+                    located_by_arithmetic(device.blocks, place),
+                    "{device:?} setting {number} bit {i}"
+                );
+                let LocatedFuse { fuse, address, bit } = located[i];
+                assert_eq!(address_of_fuse(device, fuse), Ok((address, bit)));
+                assert_eq!(fuse_of_address(device, address, bit), Ok(fuse));
+                assert_eq!(locate_bit(device, number, i as u32), Ok(Some(located[i])));
+                bits += 1;
+            }
+        }
+        // These were all fuses but the unnamed ones.
+        assert_eq!(Ok(bits + unnamed_fuses(device)), fuse_count(device));
     }
 }
 
@@ -352,7 +418,9 @@ fn unknown_settings_are_refused_4() {
             assert_eq!(setting_width(device, number), refused(4, 0));
             assert_eq!(places_of_setting(device, number), refused(4, 0));
             assert_eq!(fuses_of_setting(device, number), refused(4, 0));
-            assert_eq!(fuse_of_setting(device, number, u32::MAX), refused(4, 0));
+            assert_eq!(locate_setting(device, number), refused(4, 0));
+            assert_eq!(locate_bit(device, number, 0), refused(4, 0));
+            assert_eq!(locate_bit(device, number, u32::MAX), refused(4, 0));
             assert_eq!(value_of_pattern(device, number, u32::MAX), refused(4, 0));
             assert_eq!(
                 pattern_of_value(device, number, Value::Usercode(0)),

@@ -5,6 +5,7 @@ ghost use Rattle.addresses.specs.Answer.{addressOutcome, fuseOutcome};
 ghost use Rattle.addresses.specs.Convert.{addressOfFuse, fuseOfAddress};
 use part::Device;
 use part::FuseNumber;
+use part::Place;
 use part::Refusal;
 
 pub mod bytes;
@@ -56,6 +57,5 @@ pub fn fuse_of_address(d: Device, address: DeviceAddress, bit: u32) -> FuseAnswe
     if part::places::width_of(byte) <= bit {
         return FuseAnswer::Refused(Refusal::NoSuchFuse);
     }
-    let first = part::places::first_fuse(d, byte);
-    FuseAnswer::Fuse(FuseNumber(first.0 + bit))
+    FuseAnswer::Fuse(part::places::fuse_of_place(d, Place { byte, bit }))
 }

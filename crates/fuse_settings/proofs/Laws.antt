@@ -1,5 +1,6 @@
 -- What holds of the setting at a fuse, each law once, for every device:
 --   fuses-inverse     a bit of a setting is this fuse exactly if the setting and the bit at that fuse are these
+--   located-inverse   so is a bit of a setting with fuse, address and bit, and the conversion gives the fuse these two
 --   at-fuse-has       a fuse that is named is one of a setting that the device has
 --   apart             no two settings share a fuse, and no setting has a fuse twice
 --   unnamed-iff       a fuse below the count is unnamed exactly if no setting lists it
@@ -23,25 +24,21 @@ use Rattle.part.specs.Place.{placeOfFuse}
 use Rattle.part.specs.declared.Device.{Device}
 use Rattle.part.proofs.Facts.{and-iff}
 use Rattle.part.proofs.Fuses.{of-place}
-use Rattle.part.proofs.Checks.{passed, result}
+use Rattle.part.proofs.Checks.{passed, result, given}
+use Rattle.addresses.specs.Convert.{addressOfFuse}
 use Rattle.settings.specs.Settings.{hasSetting}
 use Rattle.settings.specs.declared.Setting.{Setting}
 use Rattle.setting_places.specs.Places.{bitsOf, fuseOf, placeOf, lists}
 use Rattle.fuse_settings.specs.Back.{candidateAt, settingAt, fieldIndexAtRow, lastUpTo}
-use Rattle.setting_places.specs.Operations.{fuseOfBit}
+use Rattle.setting_places.specs.Operations.{fuseOfBit, locatedBit}
 use Rattle.fuse_settings.specs.Operations.{settingAtFuse}
 use Rattle.fuse_settings.specs.Cases.{AllHold, benchCases, corners, ofMacrocellAndBlock, ofGlobals}
 use Rattle.part.specs.Cases.{twoSmall}
 use Rattle.settings.specs.Cases.{twoLarge}
 use Rattle.setting_places.proofs.OnePlaceEach.{has-place}
-use Rattle.setting_places.proofs.Laws.{listed, fuse-below}
+use Rattle.setting_places.proofs.Laws.{listed, fuse-below, address-beside}
 use Rattle.fuse_settings.proofs.CandidateInverse.{candidate-inverse}
 use Rattle.fuse_settings.proofs.OnFuses as on-fuses
-
--- What is given only where a test passes.
-given : {A : Type 0} (t : Bool) (x y : A) → _≡_ {A = Option A} (cond t (some x) none) (some y) → (t ≡ true) × (x ≡ y)
-given true x y e = (refl, cc e)
-given false x y e = let z : _≡_ {A = ℕ} 0 1 = cc in absurd (omega arith)
 
 -- The way back is the left inverse of the step to the fuse, and leads nowhere else.
 module _ (d : Device) (k : known d ≡ true) where
@@ -100,6 +97,15 @@ fuses-from d s bit f e =
 pub fuses-inverse : (d : Device) (s : Setting) (bit f : ℕ)
     → (fuseOfBit d s bit ≡ accepted (some f)) ↔ (settingAtFuse d f ≡ accepted (some (s, bit)))
 fuses-inverse d s bit f = (fuses-to d s bit f, fuses-from d s bit f)
+
+pub located-inverse : (d : Device) (s : Setting) (bit f address place : ℕ)
+    → (locatedBit d s bit ≡ accepted (some (f, (address, place))))
+    ↔ ((settingAtFuse d f ≡ accepted (some (s, bit))) × (addressOfFuse d f ≡ accepted (address, place)))
+located-inverse d s bit f address place =
+    let beside = address-beside d s bit f address place in (
+      λ e. let both = beside .0 e in (fuses-to d s bit f (both .0), both .1),
+      λ both. beside .1 (fuses-from d s bit f (both .0), both .1),
+    )
 
 -- A fuse that is named is one of a setting that the device has.
 pub at-fuse-has : (d : Device) (f : ℕ) (s : Setting) (bit : ℕ) → settingAtFuse d f ≡ accepted (some (s, bit))

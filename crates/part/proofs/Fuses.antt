@@ -14,7 +14,7 @@ use Rattle.part.specs.declared.Device.{Device}
 use Rattle.part.specs.declared.Place.{Place}
 use Rattle.part.specs.declared.BytePlace.{BytePlace}
 use Rattle.part.specs.declared.BytePlace.the-variants.{Main, WireAnd}
-use Rattle.part.proofs.Facts.{by-cases, tests}
+use Rattle.part.proofs.Facts.{by-cases, tests, and-iff}
 use Rattle.part.proofs.Rows.{split-row, in-row, join-row}
 
 -- A fuse below the count lies in a block that the device has.
@@ -100,6 +100,11 @@ in-byte d (WireAnd block subarea row column) bit h hb =
 pub of-place : (d : Device) (p : Place) → hasPlace d p ≡ true → Found d p
 unfolding hasPlace
 of-place d p h = let facts = simp tests at h in in-byte d (p .byte) (p .bit) (facts .0) (facts .1)
+
+-- The byte of a place of the device is the device's.
+pub has-byte : (d : Device) (p : Place) → hasPlace d p ≡ true → hasByte d (p .byte) ≡ true
+unfolding hasPlace
+has-byte d p h = and-iff _ _ .0 h .0
 
 -- The place of a fuse, by what is left of it in its block.
 module _ (d : Device) (f block rest : ℕ) (e : block ≡ f / blockFuses d) (g : rest ≡ f % blockFuses d) (p : Place) where

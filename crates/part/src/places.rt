@@ -5,8 +5,8 @@ ghost use mathlib.Core.Bool.{true};
 ghost use Prim.Native.Nat.{_+_, _*_, _-_, _/_, _%_, _^_, _<_, _≤_};
 ghost use Rattle.part.specs.Device.{known, blocksOf, columnWidth, columnStart, mainFuses, mainRowFuses};
 ghost use Rattle.part.specs.Device.{wireAndRowFuses, subareaFuses, blockFuses, fuseCount};
-ghost use Rattle.part.specs.Place.{hasByte, widthOf, columnInRow, bitInRow, firstFuse, placeInMain};
-ghost use Rattle.part.specs.Place.{placeInWireAnd, placeOfFuse};
+ghost use Rattle.part.specs.Place.{hasByte, hasPlace, widthOf, columnInRow, bitInRow, firstFuse, fuseOfPlace};
+ghost use Rattle.part.specs.Place.{placeInMain, placeInWireAnd, placeOfFuse};
 use super::BytePlace;
 use super::Device;
 use super::FuseNumber;
@@ -88,7 +88,7 @@ pub fn width_of(byte: BytePlace) -> u32
 }
 
 // The number of the first fuse of a byte.
-pub fn first_fuse(d: Device, byte: BytePlace) -> FuseNumber
+fn first_fuse(d: Device, byte: BytePlace) -> FuseNumber
     requires { ⌜ (known d ≡ true) × (hasByte d byte ≡ true) ⌝ }
     ensures { λ r. ⌜ r .0 ≡ firstFuse d byte ⌝ }
 {
@@ -109,6 +109,16 @@ pub fn first_fuse(d: Device, byte: BytePlace) -> FuseNumber
             FuseNumber(block * per_block + (MAIN_FUSES + (subarea * SUBAREA_FUSES + in_subarea)))
         }
     }
+}
+
+// The number of the fuse at a place.
+pub fn fuse_of_place(d: Device, place: Place) -> FuseNumber
+    requires { ⌜ (known d ≡ true) × (hasPlace d place ≡ true) ⌝ }
+    ensures { λ r. ⌜ r .0 ≡ fuseOfPlace d place ⌝ }
+{
+    let byte = place.byte;
+    let first = first_fuse(d, byte);
+    FuseNumber(first.0 + place.bit)
 }
 
 // A column of a row, and a bit of it.

@@ -57,11 +57,10 @@ pub fn location_at(d: Device, layout: Layout, place: Place) -> Location
     let byte = place.byte;
     match layout {
         Layout::Image => {
-            let first = part::places::first_fuse(d, byte);
-            let fuse = first.0 + place.bit;
+            let fuse = part::places::fuse_of_place(d, place);
             Location {
-                index: (fuse / 8) as usize,
-                bit: fuse % 8,
+                index: (fuse.0 / 8) as usize,
+                bit: fuse.0 % 8,
             }
         }
         Layout::Readout => Location {

@@ -1,22 +1,32 @@
--- What holds of the fuses of settings, each law once, for every device: each-bit (every bit of every setting has a fuse, and it is below
--- the count), usercode-rows (USERCODE's two rows in document 01's words, from place to bit).
-use mathlib.Core.Path.{_≡_}
-use mathlib.Core.Bool.{true}
-use mathlib.Core.Option.Option.{some}
+-- What holds of the fuses of settings, each law once, for every device:
+--   each-bit          every bit of every setting has a fuse, and it is below the count
+--   fuse-as-before    the answer with address and bit has the fuse that is answered without them, and is refused or none where that is
+--   converted         the conversion gives the fuse of a bit the address and the bit of its place
+--   address-beside    a bit is this fuse at this address and bit exactly if it is this fuse and the conversion gives the fuse these two
+--   address-cases     fuses with their addresses on the part of two blocks (specs/Cases.antt)
+--   usercode-rows     USERCODE's two rows in document 01's words, from place to bit
+use mathlib.Core.Path.{_≡_, refl, sym, _∙_, ap}
+use mathlib.Core.Logic.{_↔_}
+use mathlib.Core.Bool.{Bool, true, false, cond}
+use mathlib.Core.Option.{Option}
+use mathlib.Core.Option.Option.{none, some}
 use Prim.Native.Nat.{ℕ, _<_}
 use native.Mathlib.Omega.{arith}
 use lib.Dec.{ltb}
 use borrow.Author.Tests.{lt-ltb, ltb-true}
-use Rattle.part.specs.Outcome.Outcome.{accepted}
+use Rattle.part.specs.Outcome.Outcome.{accepted, refused}
 use Rattle.part.specs.Device.{known, fuseCount}
 use Rattle.part.specs.declared.Device.{Device}
 use Rattle.part.proofs.Facts.{and-iff}
+use Rattle.part.proofs.Checks.{passed, result, given}
 use Rattle.part.proofs.Fuses.{of-place}
+use Rattle.addresses.specs.Convert.{addressOfFuse}
+use Rattle.addresses.proofs.Conversions.{address-of-fuse-iff}
 use Rattle.settings.specs.Settings.{hasSetting}
 use Rattle.settings.specs.declared.Setting.{Setting}
-use Rattle.setting_places.specs.Places.{main, bitsOf, fuseOf, placeOf, lists}
-use Rattle.setting_places.specs.Operations.{fuseOfBit}
-use Rattle.setting_places.specs.Cases.{UsercodeRows}
+use Rattle.setting_places.specs.Places.{main, bitsOf, fuseOf, addressOf, placeOf, lists}
+use Rattle.setting_places.specs.Operations.{fuseOfBit, locatedBit, fuseAlone}
+use Rattle.setting_places.specs.Cases.{UsercodeRows, AllHold, cases}
 use Rattle.setting_places.proofs.OnePlaceEach.{has-place}
 
 module _ (d : Device) where
@@ -31,6 +41,53 @@ pub each-bit : (d : Device) → known d ≡ true → (s : Setting) (bit : ℕ) �
     → (f : ℕ) × (f < fuseCount d) × (fuseOfBit d s bit ≡ accepted (some f))
 unfolding fuseOfBit
 each-bit d k s bit h hb = (fuseOf d s bit, fuse-below d s bit k h hb, rw (k, h, lt-ltb bit (bitsOf s) hb))
+
+pub fuse-as-before : (d : Device) (s : Setting) (bit : ℕ) → fuseAlone (locatedBit d s bit) ≡ fuseOfBit d s bit
+unfolding locatedBit fuseOfBit
+fuse-as-before d s bit = by-tests (known d) (hasSetting d s) (ltb bit (bitsOf s)) (fuseOf d s bit) (addressOf s bit)
+  where
+    by-tests : (known has inside : Bool) (fuse : ℕ) (at : ℕ × ℕ)
+        → fuseAlone (cond known (cond has (accepted (cond inside (some (fuse, at)) none)) (refused 4 0)) (refused 1 0))
+        ≡ cond known (cond has (accepted (cond inside (some fuse) none)) (refused 4 0)) (refused 1 0)
+    by-tests false has inside fuse at = refl
+    by-tests true false inside fuse at = refl
+    by-tests true true false fuse at = refl
+    by-tests true true true fuse at = refl
+
+pub converted : (d : Device) (s : Setting) (bit : ℕ) → known d ≡ true → hasSetting d s ≡ true → bit < bitsOf s
+    → addressOfFuse d (fuseOf d s bit) ≡ accepted (addressOf s bit)
+unfolding fuseOf addressOf
+converted d s bit k h hb =
+    address-of-fuse-iff d _ _ _ .1
+    (record { device = k; place = placeOf s bit; there = has-place d s bit k h hb; its-fuse = refl; its-address = refl; its-bit = refl })
+
+pub address-beside : (d : Device) (s : Setting) (bit fuse address place : ℕ)
+    → (locatedBit d s bit ≡ accepted (some (fuse, (address, place))))
+    ↔ ((fuseOfBit d s bit ≡ accepted (some fuse)) × (addressOfFuse d fuse ≡ accepted (address, place)))
+unfolding locatedBit fuseOfBit
+address-beside d s bit fuse address place = (
+  λ e.
+      let outer = passed (known d) _ 1 0 e in
+      let inner = passed (hasSetting d s) _ 4 0 (outer .1) in
+      let its = given (ltb bit (bitsOf s)) (fuseOf d s bit, addressOf s bit) (fuse, (address, place)) (result (inner .1)) in
+      let at = converted d s bit (outer .0) (inner .0) (ltb-true _ _ (its .0)) in
+      let both : (fuseOf d s bit ≡ fuse) × (addressOf s bit ≡ (address, place)) = parts (its .1) in
+      (rw (outer .0, inner .0, its .0, both .0), rw (both .0, both .1) at at),
+  λ both.
+      let outer = passed (known d) _ 1 0 (both .0) in
+      let inner = passed (hasSetting d s) _ 4 0 (outer .1) in
+      let its = given (ltb bit (bitsOf s)) (fuseOf d s bit) fuse (result (inner .1)) in
+      let at = converted d s bit (outer .0) (inner .0) (ltb-true _ _ (its .0)) in
+      let same : addressOf s bit ≡ (address, place) = result (sym at ∙ rw (its .1) (both .1)) in
+      rw (outer .0, inner .0, its .0, its .1, same),
+)
+  where
+    parts : {f g : ℕ} {a b : ℕ × ℕ} → _≡_ {A = ℕ × (ℕ × ℕ)} (f, a) (g, b) → (f ≡ g) × (a ≡ b)
+    parts e = (ap (λ (q : ℕ × (ℕ × ℕ)). q .0) e, ap (λ (q : ℕ × (ℕ × ℕ)). q .1) e)
+
+pub address-cases : AllHold cases
+unfolding locatedBit known hasSetting bitsOf placeOf fuseOf addressOf
+address-cases = refl
 
 pub usercode-rows : UsercodeRows
 usercode-rows i b hi low high =

@@ -9,6 +9,7 @@ use borrow.Author.Tests.{lt-ltb, ltb-true}
 use Rattle.part.specs.Device.{known, blocksOf}
 use Rattle.part.specs.Place.{hasPlace}
 use Rattle.part.specs.declared.Device.{Device}
+use Rattle.part.specs.declared.Place.{Place}
 use Rattle.part.proofs.Facts.{by-cases, tests}
 use Rattle.settings.specs.Fields.{foes, macrocellFields, macrocellIndex, globalFields, globalIndex}
 use Rattle.settings.specs.Settings.{hasSetting}
@@ -120,3 +121,8 @@ has-place d (Macrocell block m field) bit kn h hb =
     high-place d block (firstRow field + bit) (m % 9) (6 + m / 9) (facts .0 .0) (omega (arith, row .upTo)) (omega arith) (omega arith)
 has-place d (Block block field) bit kn h hb = block-place d block field (ltb-true _ _ h)
 has-place d (Global field) bit kn h hb = global-place d field bit kn (ltb-true _ _ h) hb
+
+-- So does the place that code has found for it.
+pub place-there : (d : Device) (s : Setting) (bit : ℕ) (p : Place) → known d ≡ true → hasSetting d s ≡ true → bit < bitsOf s
+    → p ≡ placeOf s bit → hasPlace d p ≡ true
+place-there d s bit p k h hb e = rw e (has-place d s bit k h hb)

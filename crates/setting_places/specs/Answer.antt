@@ -9,7 +9,8 @@ use Rattle.part.specs.Answer.{refusalNumber, refusalValue}
 use Rattle.setting_places.specs.declared.BitAnswer.{BitAnswer}
 use Rattle.setting_places.specs.declared.BitAnswer.the-variants as bit
 
-abbrev pub bitOutcome : BitAnswer → Outcome (Option ℕ)
-bitOutcome (bit.Fuse f) = accepted (some (f .0))
+-- A fuse, and its address and bit.
+abbrev pub bitOutcome : BitAnswer → Outcome (Option (ℕ × (ℕ × ℕ)))
+bitOutcome (bit.At f a b) = accepted (some (f .0, (a .0, b)))
 bitOutcome bit.NoSuchBit = accepted none
 bitOutcome (bit.Refused r) = refused (refusalNumber r) (refusalValue r)

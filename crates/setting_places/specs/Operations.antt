@@ -6,15 +6,25 @@ use mathlib.Core.Option.{Option}
 use mathlib.Core.Option.Option.{none, some}
 use lib.Dec.{ltb}
 use Rattle.part.specs.Outcome.{Outcome}
-use Rattle.part.specs.Outcome.Outcome.{accepted}
+use Rattle.part.specs.Outcome.Outcome.{accepted, refused}
 use Rattle.part.specs.declared.Device.{Device}
 use Rattle.settings.specs.Operations.{ifSetting}
 use Rattle.settings.specs.declared.Setting.{Setting}
-use Rattle.setting_places.specs.Places.{bitsOf, fuseOf}
+use Rattle.setting_places.specs.Places.{bitsOf, fuseOf, addressOf}
 
 unfoldable pub bitsOfSetting : Device → Setting → Outcome ℕ
 bitsOfSetting d s = ifSetting d s (accepted (bitsOf s))
 
--- A bit at or over the setting's width has no fuse.
+-- The fuse of a bit of a setting. A bit at or over the setting's width has none.
 unfoldable pub fuseOfBit : Device → Setting → ℕ → Outcome (Option ℕ)
 fuseOfBit d s bit = ifSetting d s (accepted (cond (ltb bit (bitsOf s)) (some (fuseOf d s bit)) none))
+
+-- The same, with the address and the bit of the fuse beside it (document 02, K6).
+unfoldable pub locatedBit : Device → Setting → ℕ → Outcome (Option (ℕ × (ℕ × ℕ)))
+locatedBit d s bit = ifSetting d s (accepted (cond (ltb bit (bitsOf s)) (some (fuseOf d s bit, addressOf s bit)) none))
+
+-- Such an answer without address and bit.
+abbrev pub fuseAlone : Outcome (Option (ℕ × (ℕ × ℕ))) → Outcome (Option ℕ)
+fuseAlone (accepted none) = accepted none
+fuseAlone (accepted (some (fuse, at))) = accepted (some fuse)
+fuseAlone (refused number value) = refused number value

@@ -1,5 +1,5 @@
--- How many bits each setting has, and the place and the fuse of each bit: document 01, "Settings and where they lie",
--- in its order and with its numbers. Indices count from 0.
+-- How many bits each setting has, and the place, the fuse and the address of each bit: document 01, "Settings and where
+-- they lie", in its order and with its numbers. Indices count from 0.
 use Prim.Native.Nat.{ℕ, _+_, _*_, _-_, _/_, _%_}
 use mathlib.Core.Bool.{Bool, _&&_}
 use lib.Dec.{ltb}
@@ -7,6 +7,7 @@ use Rattle.part.specs.Place.{fuseOfPlace}
 use Rattle.part.specs.declared.Device.{Device}
 use Rattle.part.specs.declared.Place.{Place}
 use Rattle.part.specs.declared.BytePlace.the-variants as byte
+use Rattle.addresses.specs.Address.{addressOfByte}
 use Rattle.settings.specs.Settings.{hasSetting}
 use Rattle.settings.specs.declared.Polarity.{Polarity}
 use Rattle.settings.specs.declared.Polarity.the-variants.{P, N}
@@ -128,6 +129,10 @@ bitsOf (Global field) = globalBits field
 -- The fuse of a bit of a setting: the fuse at its place.
 unfoldable pub fuseOf : Device → Setting → ℕ → ℕ
 fuseOf d s bit = fuseOfPlace d (placeOf s bit)
+
+-- The address of the byte that holds a bit of a setting, and the bit there: those of its place.
+unfoldable pub addressOf : Setting → ℕ → ℕ × ℕ
+addressOf s bit = (addressOfByte (placeOf s bit .byte), placeOf s bit .bit)
 
 -- A setting of the device, and one of its bits.
 abbrev pub lists : Device → Setting → ℕ → Bool

@@ -252,7 +252,5 @@ pub fn fuse_of(d: Device, s: Setting, bit: u32) -> FuseNumber
     ensures { λ r. ⌜ r .0 ≡ fuseOf d s bit ⌝ }
 {
     let place = place_of(d, s, bit);
-    let byte = place.byte;
-    let first = part::places::first_fuse(d, byte);
-    FuseNumber(first.0 + place.bit)
+    part::places::fuse_of_place(d, place)
 }

@@ -55,7 +55,9 @@ fn setting_number_word(answer: SettingNumberAnswer) -> u64 {
 
 fn bit_word(answer: BitAnswer) -> u64 {
     match answer {
-        BitAnswer::Fuse(fuse) => fuse.0 as u64,
+        BitAnswer::At(fuse, address, bit) => {
+            (fuse.0 as u64) << 20 | (address.0 as u64) << 3 | bit as u64
+        }
         BitAnswer::NoSuchBit => NONE,
         BitAnswer::Refused(r) => refusal_word(r),
     }
@@ -703,17 +705,22 @@ fn past_digest(d: Device) -> u64 {
     settings_past(settings_past(0, d, just), d, far)
 }
 
-// Number and fuse of a bit of a setting of document 01's cases, and the way back from the fuse that it gives.
+// A fuse with its address and bit, from their word; a refusal would be another fuse.
+fn put_located(word: u64) {
+    vectors::put(b" fuse", word >> 20);
+    vectors::put(b" address", word % 1048576 / 8);
+    vectors::put(b" bit", word % 8);
+}
+
+// Number and fuse, with its address and bit, of a bit of a setting of document 01's cases, and the way back from the
+// fuse that it gives.
 fn document_case(name: &[u8], s: Setting, bit: u32, fuse: u32) {
     vectors::put(name, bit as u64);
     vectors::put(
         b" number",
         setting_number_word(settings::number_of_setting(SMALLEST, s)),
     );
-    vectors::put(
-        b" fuse",
-        bit_word(setting_places::fuse_of_bit(SMALLEST, s, bit)),
-    );
+    put_located(bit_word(setting_places::fuse_of_bit(SMALLEST, s, bit)));
     vectors::put(b" back", at_fuse(SMALLEST, fuse));
     vectors::end_line();
 }

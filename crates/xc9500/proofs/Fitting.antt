@@ -1,11 +1,11 @@
 -- Every answer of the interface fits its word: the results are below the sizes of a part, and so are the values of the refusals.
 -- Assumes nothing.
-use mathlib.Core.Path.{_≡_, refl}
+use mathlib.Core.Path.{_≡_, refl, _∙_, ap, subst}
 use mathlib.Core.Bool.{Bool, true, false, cond, _&&_}
 use mathlib.Core.List.{List}
 use mathlib.Core.Option.{Option}
 use mathlib.Core.Option.Option.{none, some}
-use Prim.Native.Nat.{ℕ, zero, suc, _^_, _≤_, _<_}
+use Prim.Native.Nat.{ℕ, zero, suc, _+_, _*_, _^_, _≤_, _<_}
 use native.Mathlib.Nat.{lt-of-lt-of-le}
 use native.Mathlib.Omega.{arith}
 use lib.Dec.{eqb, ltb}
@@ -33,16 +33,16 @@ use Rattle.settings.specs.Operations.{countOfSettings, settingOfNumber}
 use Rattle.settings.specs.declared.Setting.{Setting}
 use Rattle.settings.proofs.Numbering.{number-below, number-inverse}
 use Rattle.settings.proofs.CodeNumbers.{count-small}
-use Rattle.setting_places.specs.Places.{bitsOf, fuseOf}
+use Rattle.setting_places.specs.Places.{bitsOf, fuseOf, addressOf}
+use Rattle.setting_places.proofs.Laws.{fuse-below, converted}
 use Rattle.fuse_settings.specs.Back.{settingAt}
-use Rattle.setting_places.specs.Operations.{fuseOfBit}
+use Rattle.setting_places.specs.Operations.{locatedBit}
 use Rattle.fuse_settings.specs.Operations.{settingAtFuse}
 use Rattle.fuse_settings.proofs.Laws.{sound}
 use Rattle.setting_bits.specs.declared.Layout.{Layout}
 use Rattle.setting_bits.specs.declared.Layout.the-variants.{Image, Readout}
 use Rattle.setting_bits.specs.SettingBits.{bytesOf, stateOf, patternAt}
 use Rattle.setting_bits.proofs.Steps.{bytes-between, bits-few, state-small}
-use Rattle.setting_bits.proofs.Edits.{fuse-below}
 use Rattle.jedec.specs.Meaning.{meaning}
 use Rattle.jedec.proofs.Laws.{values-small}
 use Rattle.jedec_writer.proofs.Laws.{text-few}
@@ -50,9 +50,10 @@ use Rattle.jedec_writer.specs.Pattern.{toText}
 use Rattle.jedec_reader.specs.Reader.{verdict, toImageFromText}
 use Rattle.edit.specs.Edit.{aboveIn, ifClean}
 use Rattle.edit_by_number.specs.ByNumber.{readPattern, setPattern}
-use Rattle.xc9500.specs.Packed.{addressAndBit, itself, noResult, settingAndBit, through, WordFits, WordFitsOrNone}
+use Rattle.xc9500.specs.Packed.{addressAndBit, fuseAndAddress, itself, noResult, orNone, packed, settingAndBit}
+use Rattle.xc9500.specs.Packed.{through, addressIn, bitIn, fuseIn, WordFits, WordFitsOrNone}
 use Rattle.xc9500.specs.Packed.{fusesIn, imageBytesIn, readoutBytesIn, textBytesIn}
-use Rattle.xc9500.specs.Words.{EachFits}
+use Rattle.xc9500.specs.Words.{EachFits, PartsRead}
 
 -- What holds of the answer where a test fails, and of the one where it passes.
 chosen : {A : Type 0} (P : A → Type 0) (t : Bool) {a b : A} → P b → (t ≡ true → P a) → P (cond t a b)
@@ -168,25 +169,45 @@ module _ (d : Device) where
   unfolding countOfSettings
   setting-count = chosen (WordFits itself) (known d) (omega arith, omega arith) (λ k. omega (arith, count-small d k))
 
-  fuse-of-bit : (s : Setting) (bit : ℕ) → WordFitsOrNone itself (fuseOfBit d s bit)
-  unfolding fuseOfBit
-  fuse-of-bit s bit =
-      chosen (WordFitsOrNone itself) (known d) (omega arith, omega arith)
+  -- A fuse has 19 bits, an address 17 and a bit 3.
+  abbrev PartsFit : Outcome (Option (ℕ × (ℕ × ℕ))) → Type 0
+  PartsFit (accepted none) = Unit {0}
+  PartsFit (accepted (some q)) = (q .0 < 2 ^ 19) × (q .1 .0 < 2 ^ 17) × (q .1 .1 < 8)
+  PartsFit (refused number value) = (0 < number) × (value < 2 ^ 56)
+
+  address-fits : (fuse address bit : ℕ) → addressOfFuse d fuse ≡ accepted (address, bit) → (address < 2 ^ 17) × (bit < 8)
+  address-fits fuse address bit e =
+      let its = at-valid d fuse address bit e in (its .1, omega (arith, its .2, width-small (byteOfAddress address)))
+
+  located-fits : (s : Setting) (bit : ℕ) → PartsFit (locatedBit d s bit)
+  unfolding locatedBit
+  located-fits s bit =
+      chosen PartsFit (known d) (omega arith, omega arith)
       (λ k.
-      chosen (WordFitsOrNone itself) (hasSetting d s) (omega arith, omega arith)
+      chosen PartsFit (hasSetting d s) (omega arith, omega arith)
       (λ h.
-      by-cases (λ (o : Option ℕ). WordFitsOrNone itself (accepted o)) bit (bitsOf s)
-      (λ l. omega (arith, fuse-below d k s h bit l, fuses-small d k))
+      by-cases (λ (o : Option (ℕ × (ℕ × ℕ))). PartsFit (accepted o)) bit (bitsOf s)
+      (λ l.
+      let at = address-fits (fuseOf d s bit) (addressOf s bit .0) (addressOf s bit .1) (converted d s bit k h l) in
+      (omega (arith, fuse-below d s bit k h l, fuses-small d k), at .0, at .1))
       (λ g. tt)))
 
   abbrev ThroughFits : (bit : ℕ) → Outcome Setting → Type 0
-  ThroughFits bit o = WordFitsOrNone itself (through o (λ s. fuseOfBit d s bit))
+  ThroughFits bit o = PartsFit (through o (λ s. locatedBit d s bit))
 
-  setting-fuse : (setting bit : ℕ) → ThroughFits bit (settingOfNumber d setting)
+  setting-parts : (setting bit : ℕ) → ThroughFits bit (settingOfNumber d setting)
   unfolding settingOfNumber
-  setting-fuse setting bit =
+  setting-parts setting bit =
       chosen (ThroughFits bit) (known d) (omega arith, omega arith)
-      (λ k. by-cases (ThroughFits bit) setting (countOf d) (λ l. fuse-of-bit (settingOf d setting) bit) (λ g. (omega arith, omega arith)))
+      (λ k. by-cases (ThroughFits bit) setting (countOf d) (λ l. located-fits (settingOf d setting) bit) (λ g. (omega arith, omega arith)))
+
+  parts-fit : (o : Outcome (Option (ℕ × (ℕ × ℕ)))) → PartsFit o → WordFitsOrNone fuseAndAddress o
+  parts-fit (accepted none) h = tt
+  parts-fit (accepted (some q)) h = omega arith
+  parts-fit (refused number value) h = h
+
+  setting-fuse : (setting bit : ℕ) → WordFitsOrNone fuseAndAddress (through (settingOfNumber d setting) (λ s. locatedBit d s bit))
+  setting-fuse setting bit = parts-fit (through (settingOfNumber d setting) (λ s. locatedBit d s bit)) (setting-parts setting bit)
 
   named : known d ≡ true → (fuse : ℕ) (o : Option (Setting × ℕ)) → settingAt d fuse ≡ o → WordFitsOrNone (settingAndBit d) (accepted o)
   named k fuse none e = tt
@@ -259,4 +280,18 @@ each-fits =
       setting-at-fuse = setting-at-fuse;
       read = read;
       set = set;
+    }
+
+pub parts-read : PartsRead
+parts-read =
+    record {
+      of-fuse = λ d fuse address bit word e w.
+          let fits = address-fits d fuse address bit e in
+          let is : word ≡ address * 8 + bit = w ∙ ap (packed addressAndBit) e in
+          (omega arith, omega arith);
+      of-setting = λ d setting bit fuse address place word e w.
+          let o = through (settingOfNumber d setting) (λ s. locatedBit d s bit) in
+          let fits = subst (PartsFit d) e (setting-parts d setting bit) in
+          let is : word ≡ fuse * 2 ^ 20 + (address * 8 + place) = w ∙ ap (packed (orNone fuseAndAddress)) e in
+          (omega arith, omega arith, omega arith);
     }

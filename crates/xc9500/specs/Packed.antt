@@ -25,6 +25,10 @@ device blocks class = record { blocks = blocks; class = class }
 abbrev pub addressAndBit : ℕ × ℕ → ℕ
 addressAndBit p = p .0 * 8 + p .1
 
+-- The result of a fuse with its address and bit: the fuse times 2^20, plus that of the address and the bit.
+abbrev pub fuseAndAddress : ℕ × (ℕ × ℕ) → ℕ
+fuseAndAddress q = q .0 * 2 ^ 20 + addressAndBit (q .1)
+
 -- The four results of the sizes of a device.
 abbrev pub fusesIn : Sizes → ℕ
 fusesIn z = z .fuses
@@ -66,6 +70,17 @@ refusalIn word = word / 2 ^ 56
 
 abbrev pub resultIn : (word : ℕ) → ℕ
 resultIn word = word % 2 ^ 56
+
+-- And of the parts of a result by its xc9500_result_address, xc9500_result_bit and xc9500_result_setting_fuse: an
+-- address has 17 bits, so address and bit are read alike from both results that have them.
+abbrev pub addressIn : (word : ℕ) → ℕ
+addressIn word = resultIn word / 8 % 2 ^ 17
+
+abbrev pub bitIn : (word : ℕ) → ℕ
+bitIn word = word % 8
+
+abbrev pub fuseIn : (word : ℕ) → ℕ
+fuseIn word = resultIn word / 2 ^ 20
 
 -- An accepted answer is read as refusal 0 and its result, a refused one as its number, which is not 0, and its value.
 abbrev pub WordReads : {A : Type 0} → (A → ℕ) → Outcome A → (word : ℕ) → Type 0

@@ -1,19 +1,23 @@
 -- Every answer of the interface fits its word, so that a caller reads it back by `unpacked` and `unpacked-none`
--- (proofs/Words.antt). A field for each definition that the contracts of src/lib.rt pack.
+-- (proofs/Words.antt): a field for each definition that the contracts of src/lib.rt pack. And the parts of results.
+use mathlib.Core.Path.{_≡_}
 use Prim.Native.Nat.{ℕ}
 use mathlib.Core.List.{List}
+use mathlib.Core.Option.Option.{some}
 use Rattle.addresses.specs.Convert.{addressOfFuse, fuseOfAddress}
+use Rattle.part.specs.Outcome.Outcome.{accepted}
 use Rattle.part.specs.Sizes.{sizesOf}
 use Rattle.part.specs.declared.Device.{Device}
 use Rattle.image.specs.Image.{fuseSum, zeroCount}
 use Rattle.readout.specs.Readout.{toReadout, toImage}
 use Rattle.settings.specs.Operations.{countOfSettings, settingOfNumber}
-use Rattle.setting_places.specs.Operations.{fuseOfBit}
+use Rattle.setting_places.specs.Operations.{locatedBit}
 use Rattle.fuse_settings.specs.Operations.{settingAtFuse}
 use Rattle.jedec_writer.specs.Pattern.{toText}
 use Rattle.jedec_reader.specs.Reader.{toImageFromText}
 use Rattle.edit_by_number.specs.ByNumber.{readPattern, setPattern}
-use Rattle.xc9500.specs.Packed.{addressAndBit, itself, noResult, settingAndBit, through, WordFits, WordFitsOrNone}
+use Rattle.xc9500.specs.Packed.{packed, addressAndBit, fuseAndAddress, itself, noResult, orNone, settingAndBit}
+use Rattle.xc9500.specs.Packed.{through, addressIn, bitIn, fuseIn, WordFits, WordFitsOrNone}
 use Rattle.xc9500.specs.Packed.{fusesIn, imageBytesIn, readoutBytesIn, textBytesIn}
 use Rattle.setting_bits.specs.declared.Layout.{Layout}
 
@@ -32,9 +36,18 @@ pub record EachFits : Type 0 where
   pub text-to-image : (d : Device) (text target : List ℕ) → WordFits noResult (toImageFromText d text target)
   pub setting-count : (d : Device) → WordFits itself (countOfSettings d)
   pub setting-fuse : (d : Device) (setting bit : ℕ)
-      → WordFitsOrNone itself (through (settingOfNumber d setting) (λ s. fuseOfBit d s bit))
+      → WordFitsOrNone fuseAndAddress (through (settingOfNumber d setting) (λ s. locatedBit d s bit))
   pub setting-at-fuse : (d : Device) (fuse : ℕ) → WordFitsOrNone (settingAndBit d) (settingAtFuse d fuse)
   pub read : (d : Device) (layout : Layout) (bytes : List ℕ) (setting : ℕ)
       → WordFits itself (readPattern d layout bytes setting)
   pub set : (d : Device) (layout : Layout) (bytes : List ℕ) (setting pattern : ℕ)
       → WordFits noResult (setPattern d layout bytes setting pattern)
+
+-- A caller reads the address and the bit of a fuse as they are answered; so fuse, address and bit of a setting's bit.
+pub record PartsRead : Type 0 where
+  pub of-fuse : (d : Device) (fuse address bit word : ℕ) → addressOfFuse d fuse ≡ accepted (address, bit)
+      → word ≡ packed addressAndBit (addressOfFuse d fuse) → (addressIn word ≡ address) × (bitIn word ≡ bit)
+  pub of-setting : (d : Device) (setting bit fuse address place word : ℕ)
+      → through (settingOfNumber d setting) (λ s. locatedBit d s bit) ≡ accepted (some (fuse, (address, place)))
+      → word ≡ packed (orNone fuseAndAddress) (through (settingOfNumber d setting) (λ s. locatedBit d s bit))
+      → (fuseIn word ≡ fuse) × (addressIn word ≡ address) × (bitIn word ≡ place)

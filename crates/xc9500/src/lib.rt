@@ -12,14 +12,15 @@ ghost use Rattle.part.specs.Outcome.{written};
 ghost use Rattle.readout.specs.Readout.{toReadout, readoutOf, toImage, imageOf};
 ghost use Rattle.settings.specs.Operations.{countOfSettings, settingOfNumber};
 ghost use Rattle.setting_places.specs.Answer.{bitOutcome};
-ghost use Rattle.setting_places.specs.Operations.{fuseOfBit};
+ghost use Rattle.setting_places.specs.Operations.{locatedBit};
 ghost use Rattle.fuse_settings.specs.Operations.{settingAtFuse};
 ghost use Rattle.jedec_writer.specs.Pattern.{toText, withText};
 ghost use Rattle.jedec_reader.specs.Reader.{toImageFromText, imageIn};
 ghost use Rattle.setting_bits.specs.declared.Layout.the-variants.{Image, Readout};
 ghost use Rattle.edit_by_number.specs.ByNumber.{readPattern, setPattern, withNumbered};
-ghost use Rattle.xc9500.specs.Packed.{packed, refusalWord, device, addressAndBit, itself, noResult, orNone};
-ghost use Rattle.xc9500.specs.Packed.{settingAndBit, through, fusesIn, imageBytesIn, readoutBytesIn, textBytesIn};
+ghost use Rattle.xc9500.specs.Packed.{packed, refusalWord, device, addressAndBit, fuseAndAddress, itself};
+ghost use Rattle.xc9500.specs.Packed.{noResult, orNone, settingAndBit, through, fusesIn, imageBytesIn};
+ghost use Rattle.xc9500.specs.Packed.{readoutBytesIn, textBytesIn};
 use addresses::AddressAnswer;
 use addresses::DeviceAddress;
 use addresses::FuseAnswer;
@@ -35,6 +36,8 @@ use settings::SettingAnswer;
 use settings::SettingNumber;
 
 const BIT_56: u64 = 1 << 56;
+
+const BIT_20: u64 = 1 << 20;
 
 // Where a result may be missing: no such bit, no such setting at a fuse.
 const NO_RESULT: u64 = BIT_56 - 1;
@@ -83,10 +86,12 @@ fn done_word(answer: DoneAnswer) -> u64
 }
 
 fn bit_word(answer: BitAnswer) -> u64
-    ensures { λ w. ⌜ w ≡ packed (orNone itself) (bitOutcome answer) ⌝ }
+    ensures { λ w. ⌜ w ≡ packed (orNone fuseAndAddress) (bitOutcome answer) ⌝ }
 {
     match answer {
-        BitAnswer::Fuse(fuse) => fuse.0 as u64,
+        BitAnswer::At(fuse, address, bit) => {
+            fuse.0 as u64 * BIT_20 + (address.0 as u64 * 8 + bit as u64)
+        }
         BitAnswer::NoSuchBit => NO_RESULT,
         BitAnswer::Refused(r) => refusal_word(r),
     }
@@ -244,11 +249,11 @@ pub extern "C" fn xc9500_setting_count(blocks: u32, class: u32) -> u64
     number_word(settings::setting_count(Device { blocks, class }))
 }
 
-// The fuse of a bit of a setting, by setting number.
+// The fuse of a bit of a setting times 2^20, plus its address times 8, plus its bit, by setting number.
 #[no_mangle]
 pub extern "C" fn xc9500_setting_fuse(blocks: u32, class: u32, setting: u32, bit: u32) -> u64
-    ensures { λ w. ⌜ w ≡ packed (orNone itself)
-        (through (settingOfNumber (device blocks class) setting) (λ s. fuseOfBit (device blocks class) s bit)) ⌝ }
+    ensures { λ w. ⌜ w ≡ packed (orNone fuseAndAddress)
+        (through (settingOfNumber (device blocks class) setting) (λ s. locatedBit (device blocks class) s bit)) ⌝ }
 {
     let d = Device { blocks, class };
     let answer = settings::setting_of_number(d, SettingNumber(setting));

@@ -8,6 +8,7 @@ pub mod edits;
 pub mod fuses_given;
 pub mod inputs;
 pub mod library;
+pub mod locating;
 pub mod optimised;
 pub mod optimised_text;
 pub mod reading;

@@ -3,9 +3,12 @@
 
 use xc9500_reference::{Answer, Refusal};
 
+/// The result where a setting has no such bit, and where no setting has the fuse.
+pub const XC9500_NONE: u64 = (1 << 56) - 1;
+
 /// The answer in a word: the refusal's number in bits 56 to 63, its value or the result below.
 #[inline]
-fn answer(word: u64) -> Answer<u64> {
+pub(crate) fn answer(word: u64) -> Answer<u64> {
     let number = (word >> 56) as u32;
     let value = word & ((1 << 56) - 1);
     if number == 0 {

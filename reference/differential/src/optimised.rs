@@ -1,6 +1,7 @@
 // The operations as they would be shipped in Rust, for the benchmark: tables, words and shifts.
 // The tests hold them to the reference, fuse by fuse.
 
+use crate::library::{answer, XC9500_NONE};
 use xc9500_reference::{Answer, Device, Refusal, LARGE};
 
 // A strip is 36 fuses: a third of a main row, or a whole wire-AND row. Every area is whole strips.
@@ -8,6 +9,7 @@ const STRIP_FUSES: u32 = 36;
 const MAIN_STRIPS: u32 = 72 * 3;
 const SUBAREA_STRIPS: u32 = 18;
 const MOST_BLOCKS: usize = 16;
+const BLOCK_COUNTS: [u32; 6] = [2, 4, 6, 8, 12, 16];
 
 /// What the operations need of a block count.
 #[derive(Clone, Copy)]
@@ -86,10 +88,9 @@ static PARTS: [Part; MOST_BLOCKS + 1] = {
         block_strips: 0,
         reciprocal: 0,
     }; MOST_BLOCKS + 1];
-    let counts = [2, 4, 6, 8, 12, 16];
     let mut i = 0;
-    while i < counts.len() {
-        let blocks = counts[i];
+    while i < BLOCK_COUNTS.len() {
+        let blocks = BLOCK_COUNTS[i];
         let block_strips = MAIN_STRIPS + SUBAREA_STRIPS * blocks;
         let reciprocal = (1u32 << SCALE).div_ceil(block_strips);
         // Exact for every strip of the part, and the product fits a word.
@@ -419,7 +420,7 @@ const MAIN_ROW_FUSES: u32 = 3 * STRIP_FUSES;
 const MAIN_ROW_BYTES: u32 = 15;
 
 /// The first number of each group after the literals, and what divides a wire-AND number into its
-/// block and input and its row.
+/// block and input and its row; then the step from a block's locations to those of the next.
 #[derive(Clone, Copy)]
 struct Numbers {
     wire_and: u32,
@@ -427,10 +428,11 @@ struct Numbers {
     blocks: u32,
     globals: u32,
     rows: u32,
-    reciprocal: u64,
+    reciprocal: u32,
+    next_block: u64,
 }
 
-/// By block count, as PARTS.
+/// By block count, as PARTS; a count that no part has has no settings.
 static NUMBERS: [Numbers; MOST_BLOCKS + 1] = {
     let mut numbers = [Numbers {
         wire_and: 0,
@@ -439,9 +441,11 @@ static NUMBERS: [Numbers; MOST_BLOCKS + 1] = {
         globals: 0,
         rows: 0,
         reciprocal: 0,
+        next_block: 0,
     }; MOST_BLOCKS + 1];
-    let mut blocks = 1;
-    while blocks <= MOST_BLOCKS as u32 {
+    let mut i = 0;
+    while i < BLOCK_COUNTS.len() {
+        let blocks = BLOCK_COUNTS[i];
         let rows = SUBAREA_STRIPS * blocks;
         let wire_and = LITERALS * blocks;
         let macrocells = wire_and + 36 * rows * blocks;
@@ -449,16 +453,17 @@ static NUMBERS: [Numbers; MOST_BLOCKS + 1] = {
         // Exact for every wire-AND number of the part.
         let reciprocal = (1u64 << 32).div_ceil(rows as u64);
         let excess = reciprocal * rows as u64 - (1 << 32);
-        assert!(excess * ((macrocells - wire_and) as u64) < 1 << 32);
+        assert!(excess * ((macrocells - wire_and) as u64) < 1 << 32 && reciprocal < 1 << 32);
         numbers[blocks as usize] = Numbers {
             wire_and,
             macrocells,
             blocks: fields,
             globals: fields + BLOCK_FIELDS * blocks,
             rows,
-            reciprocal,
+            reciprocal: reciprocal as u32,
+            next_block: location((MAIN_STRIPS + rows) * STRIP_FUSES, 1 << 13, 0),
         };
-        blocks += 1;
+        i += 1;
     }
     numbers
 };
@@ -636,7 +641,7 @@ fn spot(device: Device, part: Part, setting: u32) -> Answer<Spot> {
         let block = setting / LITERALS;
         let position = TERMS[(setting / 72 - block * 90) as usize];
         // The positive literal is numbered first and lies in the second row.
-        let row = setting % 72 ^ 1;
+        let row = (setting % 72) ^ 1;
         return Ok(Spot {
             fuse: block * part.block_strips * STRIP_FUSES
                 + row * MAIN_ROW_FUSES
@@ -649,7 +654,7 @@ fn spot(device: Device, part: Part, setting: u32) -> Answer<Spot> {
     }
     if setting < numbers.macrocells {
         let number = setting - numbers.wire_and;
-        let block_and_input = (u64::from(number) * numbers.reciprocal >> 32) as u32;
+        let block_and_input = ((u64::from(number) * u64::from(numbers.reciprocal)) >> 32) as u32;
         let row = number - block_and_input * numbers.rows;
         let block = block_and_input / 36;
         let position = INPUTS[(block_and_input - block * 36) as usize];
@@ -685,6 +690,169 @@ fn spot(device: Device, part: Part, setting: u32) -> Answer<Spot> {
         Some(of_device) => Ok(field(part, 0, *of_device, 6)),
         None => refuse(4, 0),
     }
+}
+
+// Where a bit of a setting lies is one word, as in the C interface: the fuse from bit 20 up, the
+// address from bit 3 up, the bit below. From row to row and from block to block the fuse and the
+// address grow by fixed steps, so one product moves both.
+
+const fn location(fuse: u32, address: u32, bit: u32) -> u64 {
+    (fuse as u64) << 20 | (address as u64) << 3 | bit as u64
+}
+
+/// The step from a row of a main area to the next.
+const NEXT_ROW: u64 = location(MAIN_ROW_FUSES, 1 << 5, 0);
+
+/// The address of a column in its main row.
+const fn column_address(column: u32) -> u32 {
+    (column / 5) << 3 | (column % 5)
+}
+
+/// The location of a field's bit in block 0; a field lies in a column of eight bits.
+const fn field_location(row: u32, column: u32, bit: u32) -> u64 {
+    row as u64 * NEXT_ROW + location(8 * column + bit, column_address(column), bit)
+}
+
+/// The location of each term in the first row of block 0, macrocell by macrocell.
+static TERM_LOCATIONS: [u64; 90] = {
+    let mut locations = [0; 90];
+    let mut i = 0;
+    while i < locations.len() {
+        let InRow {
+            fuse, byte, bit, ..
+        } = TERMS[i];
+        locations[i] = location(fuse as u32, column_address(byte as u32), bit as u32);
+        i += 1;
+    }
+    locations
+};
+
+/// The location of each input in a wire-AND row.
+static INPUT_LOCATIONS: [u64; 36] = {
+    let mut locations = [0; 36];
+    let mut i = 0;
+    while i < locations.len() {
+        let InRow {
+            fuse, byte, bit, ..
+        } = INPUTS[i];
+        locations[i] = location(fuse as u32, byte as u32, bit as u32);
+        i += 1;
+    }
+    locations
+};
+
+/// The location of each wire-AND row of the longest block; their number is rounded up as in STRIPS.
+static WIRE_AND_ROWS: [u64; 512] = {
+    let mut locations = [0; 512];
+    let mut strip = MAIN_STRIPS;
+    while strip < MOST_STRIPS {
+        let address = STRIPS[strip as usize].address as u32;
+        locations[(strip - MAIN_STRIPS) as usize] = location(strip * STRIP_FUSES, address, 0);
+        strip += 1;
+    }
+    locations
+};
+
+/// The fields of a block's macrocells.
+const OF_ALL_MACROCELLS: u32 = 18 * MACROCELL_FIELDS;
+
+/// The location of the first bit of each of them in block 0, and from bit 56 up the number of bits.
+static FIELD_LOCATIONS: [u64; OF_ALL_MACROCELLS as usize] = {
+    let mut locations = [0; OF_ALL_MACROCELLS as usize];
+    let mut i = 0;
+    while i < OF_ALL_MACROCELLS {
+        let (row, _, width) = OF_MACROCELL[(i % MACROCELL_FIELDS) as usize];
+        let macrocell = i / MACROCELL_FIELDS;
+        let first = field_location(row as u32, macrocell % 9, 6 + macrocell / 9);
+        locations[i as usize] = (width as u64) << 56 | first;
+        i += 1;
+    }
+    locations
+};
+
+/// The word of a refusal.
+const fn refusal(number: u64) -> u64 {
+    number << 56
+}
+
+/// The fuse, address and bit of a bit of a setting, in one word.
+#[inline]
+pub fn locate_bit(device: Device, setting: u32, bit: u32) -> Answer<u64> {
+    answer(location_of_bit(device, setting, bit))
+}
+
+/// A call, and not compiled into the caller's loop; its word stays in a register, as the library's does.
+#[inline(never)]
+fn location_of_bit(device: Device, setting: u32, bit: u32) -> u64 {
+    let Some(numbers) = NUMBERS.get(device.blocks as usize) else {
+        return refusal(1);
+    };
+    if device.class > LARGE {
+        return refusal(1);
+    }
+    // A block count that no part has leaves every setting to the last case.
+    if setting < numbers.wire_and {
+        if bit > 0 {
+            return XC9500_NONE;
+        }
+        let term = setting / 72;
+        // The positive literal is numbered first and lies in the second row.
+        let row = u64::from((setting % 72) ^ 1);
+        let in_block = TERM_LOCATIONS[(term % 90) as usize] + row * NEXT_ROW;
+        return in_block + u64::from(term / 90) * numbers.next_block;
+    }
+    if setting < numbers.macrocells {
+        if bit > 0 {
+            return XC9500_NONE;
+        }
+        let number = setting - numbers.wire_and;
+        let block_and_input = ((u64::from(number) * u64::from(numbers.reciprocal)) >> 32) as u32;
+        let row = number - block_and_input * numbers.rows;
+        let in_row = INPUT_LOCATIONS[(block_and_input % 36) as usize];
+        let in_block = WIRE_AND_ROWS[row as usize & 511] + in_row;
+        return in_block + u64::from(block_and_input / 36) * numbers.next_block;
+    }
+    if setting < numbers.blocks {
+        let number = setting - numbers.macrocells;
+        let first = FIELD_LOCATIONS[(number % OF_ALL_MACROCELLS) as usize];
+        if u64::from(bit) >= first >> 56 {
+            return XC9500_NONE;
+        }
+        let in_block = (first & !(0xFF << 56)) + u64::from(bit) * NEXT_ROW;
+        return in_block + u64::from(number / OF_ALL_MACROCELLS) * numbers.next_block;
+    }
+    location_of_other(device, numbers, setting, bit)
+}
+
+/// The same for the fields of the blocks and of the whole part.
+fn location_of_other(device: Device, numbers: &Numbers, setting: u32, bit: u32) -> u64 {
+    if Part::of(device).is_err() {
+        return refusal(1);
+    }
+    let (block, (row, column, width)) = if setting < numbers.globals {
+        let number = setting - numbers.blocks;
+        let of_block = OF_BLOCK[(number % BLOCK_FIELDS) as usize];
+        (number / BLOCK_FIELDS, of_block)
+    } else {
+        let fields: &[Field] = if device.class == LARGE {
+            &OF_LARGE
+        } else {
+            &OF_SMALL
+        };
+        match fields.get((setting - numbers.globals) as usize) {
+            Some(of_device) => (0, *of_device),
+            None => return refusal(4),
+        }
+    };
+    if bit >= u32::from(width) {
+        return XC9500_NONE;
+    }
+    if width == 32 {
+        // The lower half lies in row 7, the upper in row 6, each from column 7 down to column 0.
+        return field_location(7 - bit / 16, 7 - bit % 16 / 2, 6 + bit % 2);
+    }
+    let in_block = field_location(u32::from(row) + bit, u32::from(column), 6);
+    in_block + u64::from(block) * numbers.next_block
 }
 
 /// Refusal 5 if a pattern has a bit at or above a width.

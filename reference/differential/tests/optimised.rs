@@ -4,6 +4,7 @@
 use xc9500_differential::comparison::{Comparison, IMAGE, NO_TARGET, READOUT};
 use xc9500_differential::edits::{Access, EditComparison};
 use xc9500_differential::inputs::{damaged_readouts, images, readouts};
+use xc9500_differential::locating::compare_locating;
 use xc9500_differential::reading::compare_reader;
 use xc9500_differential::writing::compare_writer;
 use xc9500_differential::{optimised, optimised_text};
@@ -43,6 +44,12 @@ fn unknown_devices() {
             }
         }
     }
+}
+
+#[test]
+fn location_of_every_bit() {
+    let mut random = Random::new(0x9500_0026);
+    compare_locating("optimised locate_bit", optimised::locate_bit, &mut random);
 }
 
 #[test]

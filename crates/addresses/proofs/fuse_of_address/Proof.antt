@@ -2,23 +2,19 @@
 -- Assumes nothing.
 use mathlib.Core.Path.{_≡_, _∙_, sym}
 use mathlib.Core.Bool.{Bool, true, false, not, and-false}
-use Prim.Native.Nat.{ℕ, _+_, _<_, _≤_}
-use native.Mathlib.Nat.{le-of-lt}
+use Prim.Native.Nat.{ℕ, _<_, _≤_}
 use native.Mathlib.Omega.{arith}
-use mir.Syntax.{w32}
-use mir.Val.{Fits}
 use borrow.Author.Needs.{needs}
 use borrow.Author.Tests.{lt-ltb, le-ltb, eq-eqb, ne-eqb, not-true, not-false}
 use Rattle.part.specs.Outcome.Outcome.{accepted, refused}
 use Rattle.part.specs.Device.{known}
-use Rattle.part.specs.Place.{hasPlace, hasByte, widthOf, firstFuse}
+use Rattle.part.specs.Place.{hasPlace, hasByte, widthOf, fuseOfPlace}
 use Rattle.addresses.specs.Address.{addressOfByte, byteOfAddress, valid}
 use Rattle.addresses.specs.Convert.{fuseOfAddress}
 use Rattle.part.specs.declared.Device.{Device}
 use Rattle.part.specs.declared.BytePlace.{BytePlace}
 use Rattle.part.proofs.Facts.{and-iff}
-use Rattle.part.proofs.Devices.{is-known, is-unknown, fuses-small}
-use Rattle.part.proofs.Fuses.{of-place}
+use Rattle.part.proofs.Devices.{is-known, is-unknown}
 use Rattle.addresses.proofs.fuse_of_address.Statement.{statement}
 use Rattle.addresses.proofs.fuse_of_address.Tie as tie
 
@@ -36,21 +32,20 @@ module _ (d : Device) (address bit : ℕ) (k : known d ≡ true) (byte : BytePla
   unfolding fuseOfAddress
   no-bit width e h = rw (k, ← named, le-ltb bit (widthOf byte) (omega arith), and-false)
 
-  the-fuse : (t : Bool) (composed width first : ℕ) → t ≡ hasByte d byte → not t ≡ false → composed ≡ addressOfByte byte → composed ≡ address
-      → width ≡ widthOf byte → bit < width → first ≡ firstFuse d byte → accepted (first + bit) ≡ fuseOfAddress d address bit
+  the-fuse : (t : Bool) (composed width fuse : ℕ) → t ≡ hasByte d byte → not t ≡ false → composed ≡ addressOfByte byte → composed ≡ address
+      → width ≡ widthOf byte → bit < width → fuse ≡ fuseOfPlace d (record { byte = byte; bit = bit })
+      → accepted fuse ≡ fuseOfAddress d address bit
   unfolding fuseOfAddress valid
-  the-fuse t composed width first e1 h1 e2 h2 e3 h3 e4 =
+  the-fuse t composed width fuse e1 h1 e2 h2 e3 h3 e4 =
       rw (k, ← named, eq-eqb (addressOfByte byte) address (sym e2 ∙ h2), ← e1, not-false t h1, lt-ltb bit (widthOf byte) (omega arith), e4)
 
 has : (d : Device) (byte : BytePlace) (t : Bool) → t ≡ hasByte d byte → not t ≡ false → hasByte d byte ≡ true
 has d byte t e h = sym e ∙ not-false t h
 
-small : (d : Device) (byte : BytePlace) (bit width first : ℕ) → known d ≡ true → hasByte d byte ≡ true → width ≡ widthOf byte
-    → bit < width → first ≡ firstFuse d byte → Fits w32 (first + bit)
+has-place : (d : Device) (byte : BytePlace) (t : Bool) (bit width : ℕ) → t ≡ hasByte d byte → not t ≡ false → width ≡ widthOf byte
+    → bit < width → hasPlace d (record { byte = byte; bit = bit }) ≡ true
 unfolding hasPlace
-small d byte bit width first k h e hb f =
-    let found = of-place d (record { byte = byte; bit = bit }) (and-iff _ _ .1 (h, lt-ltb bit (widthOf byte) (omega arith))) in
-    omega (arith, found .0, fuses-small d k)
+has-place d byte t bit width e h f hb = and-iff _ _ .1 (has d byte t e h, lt-ltb bit (widthOf byte) (omega arith))
 
 is-known-requires : tie.Need-is-known-requires
 is-known-requires c κs = search needs
@@ -78,13 +73,15 @@ width-of-requires : tie.Need-width-of-requires
 width-of-requires c κs = search needs
 
 returns-4 : tie.Need-returns-4
-returns-4 c = search (needs, is-known, no-bit, le-of-lt)
+returns-4 c = search (needs, is-known, no-bit)
 
-first-fuse-requires : tie.Need-first-fuse-requires
-first-fuse-requires c κs = search (needs, is-known, has)
-
-add-t12 : tie.Need-add-t12
-add-t12 c = search (needs, is-known, has, small)
+fuse-of-place-requires : tie.Need-fuse-of-place-requires
+fuse-of-place-requires c κs =
+    let with-byte = c .before .before .before .before .before .before in (
+      search (needs, is-known),
+      has-place _ _ _ _ _ (with-byte .before .has-byte .ensures) (with-byte .if2 .left) (c .before .width-of .ensures)
+          (c .if4 .left),
+    )
 
 returns-5 : tie.Need-returns-5
 returns-5 c = search (needs, is-known, the-fuse)
@@ -102,6 +99,5 @@ fuse-of-address-spec =
     returns-3
     width-of-requires
     returns-4
-    first-fuse-requires
-    add-t12
+    fuse-of-place-requires
     returns-5)

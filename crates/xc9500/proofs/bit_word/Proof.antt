@@ -10,6 +10,24 @@ enum-known-answer c = search needs
 cast-result : tie.Need-cast-result
 cast-result c = search needs
 
+mul-result : tie.Need-mul-result
+mul-result c = search needs
+
+cast-result-2 : tie.Need-cast-result-2
+cast-result-2 c = search needs
+
+mul-result-2 : tie.Need-mul-result-2
+mul-result-2 c = search needs
+
+cast-result-3 : tie.Need-cast-result-3
+cast-result-3 c = search needs
+
+add-result : tie.Need-add-result
+add-result c = search needs
+
+add-result-2 : tie.Need-add-result-2
+add-result-2 c = search needs
+
 enum-told : tie.Need-enum-told
 enum-told c = search needs
 
@@ -20,7 +38,7 @@ refusal-word-requires : tie.Need-refusal-word-requires
 refusal-word-requires c κs = search needs
 
 returns : tie.Need-returns
-returns c = search needs
+returns c = rw (c .before .before .before .answer .given .1)
 
 returns-2 : tie.Need-returns-2
 returns-2 c = search needs
@@ -34,6 +52,12 @@ bit-word-spec =
     (tie.spec
     enum-known-answer
     cast-result
+    mul-result
+    cast-result-2
+    mul-result-2
+    cast-result-3
+    add-result
+    add-result-2
     enum-told
     enum-known-answer-2
     refusal-word-requires

@@ -1,4 +1,4 @@
--- `xc9500_setting_fuse` meets its contract: the setting of the number, and then the fuse of its bit.
+-- `xc9500_setting_fuse` meets its contract: the setting of the number, and then the fuse of its bit with address and bit.
 -- Assumes nothing.
 use mathlib.Core.Path.{_≡_}
 use Prim.Native.Nat.{ℕ}
@@ -11,20 +11,21 @@ use Rattle.settings.specs.declared.Setting.{Setting}
 use Rattle.settings.specs.declared.SettingAnswer.{SettingAnswer}
 use Rattle.settings.specs.declared.SettingAnswer.the-variants as setting
 use Rattle.setting_places.specs.Answer.{bitOutcome}
-use Rattle.setting_places.specs.Operations.{fuseOfBit}
+use Rattle.setting_places.specs.Operations.{locatedBit}
 use Rattle.setting_places.specs.declared.BitAnswer.{BitAnswer}
-use Rattle.xc9500.specs.Packed.{packed, refusalWord, itself, orNone, through}
+use Rattle.xc9500.specs.Packed.{packed, refusalWord, fuseAndAddress, orNone, through}
 use borrow.Author.Needs.{needs}
 use Rattle.xc9500.proofs.xc9500_setting_fuse.Statement.{statement}
 use Rattle.xc9500.proofs.xc9500_setting_fuse.Tie as tie
 
 module _ (d : Device) (x bit w : ℕ) (a : SettingAnswer) (e : settingOutcome a ≡ settingOfNumber d x) where
-  its-fuse : (s : Setting) (b : BitAnswer) → a ≡ setting.Setting s → bitOutcome b ≡ fuseOfBit d s bit
-      → w ≡ packed (orNone itself) (bitOutcome b) → w ≡ packed (orNone itself) (through (settingOfNumber d x) (λ s. fuseOfBit d s bit))
+  its-fuse : (s : Setting) (b : BitAnswer) → a ≡ setting.Setting s → bitOutcome b ≡ locatedBit d s bit
+      → w ≡ packed (orNone fuseAndAddress) (bitOutcome b)
+      → w ≡ packed (orNone fuseAndAddress) (through (settingOfNumber d x) (λ s. locatedBit d s bit))
   its-fuse s b f g h = rw (← e, f, ← g) h
 
   no-setting : (r : Refusal) → a ≡ setting.Refused r → w ≡ refusalWord (refusalNumber r) (refusalValue r)
-      → w ≡ packed (orNone itself) (through (settingOfNumber d x) (λ s. fuseOfBit d s bit))
+      → w ≡ packed (orNone fuseAndAddress) (through (settingOfNumber d x) (λ s. locatedBit d s bit))
   no-setting r f h = rw (← e, f) h
 
 setting-of-number-requires : tie.Need-setting-of-number-requires

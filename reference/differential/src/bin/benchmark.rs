@@ -5,6 +5,7 @@ use std::cell::RefCell;
 use std::hint::black_box;
 use std::rc::Rc;
 use xc9500_differential::comparison::Function;
+use xc9500_differential::locating::word_of_located;
 use xc9500_differential::{library, optimised, optimised_text};
 use xc9500_reference as reference;
 use xc9500_reference::random::Random;
@@ -46,6 +47,9 @@ fn rows() -> Vec<Row> {
     };
     let mut rows = Vec::new();
     rows.extend(of_two_and_sixteen(fuse_to_address));
+    rows.extend(of_two_and_sixteen(locate_literals));
+    rows.extend(of_two_and_sixteen(locate_wire_ands));
+    rows.extend(of_two_and_sixteen(locate_fields));
     rows.extend(of_two_and_sixteen(fuse_sum));
     rows.extend(of_two_and_sixteen(zero_count));
     rows.extend(of_two_and_sixteen(image_to_readout));
@@ -80,6 +84,38 @@ fn fuse_to_address(device: Device) -> Row {
         }),
         optimised: each(fuses, move |fuse| {
             optimised::address_of_fuse(black_box(device), fuse).map(place)
+        }),
+    }
+}
+
+fn locate_literals(device: Device) -> Row {
+    locating("locate literal", device, literal_bits(device))
+}
+
+fn locate_wire_ands(device: Device) -> Row {
+    locating("locate wire-AND", device, wire_and_bits(device))
+}
+
+fn locate_fields(device: Device) -> Row {
+    locating("locate field", device, field_bits(device))
+}
+
+/// The row of finding the fuse, address and bit of one bit of a setting.
+fn locating(operation: &'static str, device: Device, asked: Asked) -> Row {
+    let asked: Rc<[(u32, u32)]> = asked.into();
+    Row {
+        operation,
+        device,
+        calls: asked.len() as u64,
+        call: "bit",
+        library: each_asked(&asked, move |setting, bit| {
+            library::xc9500_setting_fuse(black_box(device), setting, bit)
+        }),
+        reference: each_asked(&asked, move |setting, bit| {
+            reference::locate_bit(black_box(device), setting, bit).map(word_of_located)
+        }),
+        optimised: each_asked(&asked, move |setting, bit| {
+            optimised::locate_bit(black_box(device), setting, bit)
         }),
     }
 }
@@ -313,19 +349,50 @@ fn set_usercode_in_readout(device: Device) -> Row {
 /// Calls of a pass over settings: many, so that the loop around them is well predicted.
 const EDITS: usize = 4096;
 
-/// A setting and a pattern for each call of a pass.
+/// A setting and a pattern, or a setting and one of its bits, for each call of a pass.
 type Asked = Vec<(u32, u32)>;
+
+/// The literals of a block, and the fields of its macrocells.
+const LITERALS: u32 = 18 * 5 * 72;
+const MACROCELL_FIELDS: u32 = 18 * 27;
 
 /// Random literals of the last block with random states.
 fn literals(device: Device) -> Asked {
-    const OF_A_BLOCK: u32 = 18 * 5 * 72;
-    let first = OF_A_BLOCK * (device.blocks - 1);
+    let first = LITERALS * (device.blocks - 1);
     let mut random = Random::new(0x9500_1001);
     let mut literal = || {
-        let setting = first + random.below(u64::from(OF_A_BLOCK)) as u32;
+        let setting = first + random.below(u64::from(LITERALS)) as u32;
         (setting, random.below(2) as u32)
     };
     (0..EDITS).map(|_| literal()).collect()
+}
+
+/// The same literals; each has one bit.
+fn literal_bits(device: Device) -> Asked {
+    let one_bit = |(literal, _)| (literal, 0);
+    literals(device).into_iter().map(one_bit).collect()
+}
+
+/// Random wire-ANDs of the whole part; each has one bit.
+fn wire_and_bits(device: Device) -> Asked {
+    let blocks = device.blocks;
+    let count = 36 * 18 * blocks * blocks;
+    let mut random = Random::new(0x9500_1003);
+    let mut wire_and = || LITERALS * blocks + random.below(u64::from(count)) as u32;
+    (0..EDITS).map(|_| (wire_and(), 0)).collect()
+}
+
+/// Random fields of the last block's macrocells, with a random bit of each.
+fn field_bits(device: Device) -> Asked {
+    let blocks = device.blocks;
+    let first = (LITERALS + 36 * 18 * blocks) * blocks + MACROCELL_FIELDS * (blocks - 1);
+    let mut random = Random::new(0x9500_1004);
+    let mut field = || {
+        let setting = first + random.below(u64::from(MACROCELL_FIELDS)) as u32;
+        let width = reference::setting_width(device, setting).expect("the setting is there");
+        (setting, random.below(u64::from(width)) as u32)
+    };
+    (0..EDITS).map(|_| field()).collect()
 }
 
 /// The last setting with random numbers.
@@ -446,6 +513,19 @@ fn each(count: u32, call: impl Fn(u32) -> Answer<u64> + 'static) -> Pass {
             sum = sum
                 .wrapping_mul(3)
                 .wrapping_add(as_number(call(black_box(number))));
+        }
+        sum
+    })
+}
+
+/// The same with each setting and bit asked for.
+fn each_asked(asked: &Rc<[(u32, u32)]>, call: impl Fn(u32, u32) -> Answer<u64> + 'static) -> Pass {
+    let asked = asked.clone();
+    Box::new(move || {
+        let mut sum: u64 = 0;
+        for (setting, bit) in asked.iter() {
+            let answer = call(black_box(*setting), black_box(*bit));
+            sum = sum.wrapping_mul(3).wrapping_add(as_number(answer));
         }
         sum
     })
