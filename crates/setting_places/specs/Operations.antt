@@ -8,7 +8,7 @@ use lib.Dec.{ltb}
 use Rattle.part.specs.Outcome.{Outcome}
 use Rattle.part.specs.Outcome.Outcome.{accepted, refused}
 use Rattle.part.specs.declared.Device.{Device}
-use Rattle.settings.specs.Operations.{ifSetting}
+use Rattle.settings.specs.Operations.{ifSetting, settingOfNumber, through}
 use Rattle.settings.specs.declared.Setting.{Setting}
 use Rattle.setting_places.specs.Places.{bitsOf, fuseOf, addressOf}
 
@@ -22,6 +22,10 @@ fuseOfBit d s bit = ifSetting d s (accepted (cond (ltb bit (bitsOf s)) (some (fu
 -- The same, with the address and the bit of the fuse beside it (document 02, K6).
 unfoldable pub locatedBit : Device → Setting → ℕ → Outcome (Option (ℕ × (ℕ × ℕ)))
 locatedBit d s bit = ifSetting d s (accepted (cond (ltb bit (bitsOf s)) (some (fuseOf d s bit, addressOf s bit)) none))
+
+-- And by setting number.
+unfoldable pub locatedByNumber : Device → ℕ → ℕ → Outcome (Option (ℕ × (ℕ × ℕ)))
+locatedByNumber d number bit = through (settingOfNumber d number) (λ s. locatedBit d s bit)
 
 -- Such an answer without address and bit.
 abbrev pub fuseAlone : Outcome (Option (ℕ × (ℕ × ℕ))) → Outcome (Option ℕ)

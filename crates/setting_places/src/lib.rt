@@ -1,16 +1,26 @@
 // The fuses of each setting of a part with their addresses, lowest bit first.
 // The definitions that the contracts cite stand in specs/, the laws about them in proofs/Laws.antt.
 ghost use mathlib.Core.Path.{_≡_};
+ghost use mathlib.Core.Bool.{true};
+ghost use mathlib.Core.Option.Option.{some};
 ghost use Rattle.part.specs.Answer.{numberOutcome};
+ghost use Rattle.part.specs.Device.{known};
+ghost use Rattle.part.specs.Outcome.Outcome.{accepted};
+ghost use Rattle.part.specs.Place.{hasPlace, fuseOfPlace};
+ghost use Rattle.addresses.specs.Address.{addressOfByte};
 ghost use Rattle.setting_places.specs.Answer.{bitOutcome};
-ghost use Rattle.setting_places.specs.Operations.{bitsOfSetting, locatedBit};
+ghost use Rattle.setting_places.specs.Operations.{bitsOfSetting, locatedBit, locatedByNumber};
 use addresses::DeviceAddress;
 use part::Device;
 use part::FuseNumber;
 use part::NumberAnswer;
+use part::Place;
 use part::Refusal;
 use settings::Setting;
+use settings::SettingAnswer;
+use settings::SettingNumber;
 
+pub mod numbered;
 pub mod places;
 
 // The fuse of a bit of a setting, the address of the byte that holds it and its bit there; `NoSuchBit` where the bit is
@@ -34,8 +44,18 @@ pub fn bits_of_setting(d: Device, s: Setting) -> NumberAnswer
     NumberAnswer::Number(places::bits_of(d, s))
 }
 
-// The fuse of a bit of a setting, lowest bit first, with its address and its bit: all three are those of its place, so
-// that no fuse is converted. Refused: 1, 4.
+// The fuse at a place, with its address and its bit: no fuse is converted.
+fn located(d: Device, place: Place) -> BitAnswer
+    requires { ⌜ (known d ≡ true) × (hasPlace d place ≡ true) ⌝ }
+    ensures { λ r. ⌜ bitOutcome r ≡ accepted (some (fuseOfPlace d place, (addressOfByte (place .byte), place .bit))) ⌝ }
+{
+    let byte = place.byte;
+    let fuse = part::places::fuse_of_place(d, place);
+    let address = addresses::bytes::address_of_byte(d, byte);
+    BitAnswer::At(fuse, address, place.bit)
+}
+
+// The fuse of a bit of a setting, lowest bit first, with its address and its bit. Refused: 1, 4.
 pub fn fuse_of_bit(d: Device, s: Setting, bit: u32) -> BitAnswer
     ensures { λ r. ⌜ bitOutcome r ≡ locatedBit d s bit ⌝ }
 {
@@ -49,8 +69,42 @@ pub fn fuse_of_bit(d: Device, s: Setting, bit: u32) -> BitAnswer
         return BitAnswer::NoSuchBit;
     }
     let place = places::place_of(d, s, bit);
-    let byte = place.byte;
-    let fuse = part::places::fuse_of_place(d, place);
-    let address = addresses::bytes::address_of_byte(d, byte);
-    BitAnswer::At(fuse, address, place.bit)
+    located(d, place)
+}
+
+// The same by setting number, through the setting. It takes block count and class, which the caller has in two words.
+fn through_setting(blocks: u32, class: u32, number: SettingNumber, bit: u32) -> BitAnswer
+    ensures { λ r. ⌜ bitOutcome r ≡ locatedByNumber (record { blocks = blocks; class = class }) (number .0) bit ⌝ }
+{
+    let d = Device { blocks, class };
+    let answer = settings::setting_of_number(d, number);
+    match answer {
+        SettingAnswer::Setting(s) => fuse_of_bit(d, s, bit),
+        SettingAnswer::Refused(r) => BitAnswer::Refused(r),
+    }
+}
+
+// The same by setting number. The settings that are many, literals, wire-ANDs and the fields of macrocells, are found
+// without making the setting. All else goes through it, an unknown device too: asked for at two places, that way stays
+// a call of its own, and the others save no registers for it. Refused: 1, 4.
+pub fn fuse_of_numbered_bit(d: Device, number: SettingNumber, bit: u32) -> BitAnswer
+    ensures { λ r. ⌜ bitOutcome r ≡ locatedByNumber d (number .0) bit ⌝ }
+{
+    if !part::is_known(d) {
+        return through_setting(d.blocks, d.class, number, bit);
+    }
+    let x = number.0;
+    let wire_ands = settings::numbers::start_of_wire_ands(d);
+    if x < wire_ands {
+        return numbered::literal_bit(d, number, bit);
+    }
+    let macrocells = settings::numbers::start_of_macrocells(d);
+    if x < macrocells {
+        return numbered::wire_and_bit(d, x - wire_ands, bit);
+    }
+    let blocks = settings::numbers::start_of_blocks(d);
+    if x < blocks {
+        return numbered::field_bit(d, x - macrocells, bit);
+    }
+    through_setting(d.blocks, d.class, number, bit)
 }

@@ -2,98 +2,100 @@
 // For the crates above: a function here may require that the device is known or has the setting.
 ghost use mathlib.Core.Path.{_≡_};
 ghost use mathlib.Core.Bool.{true};
-ghost use Prim.Native.Nat.{_+_, _<_};
+ghost use Prim.Native.Nat.{_+_, _*_, _/_, _%_, _^_, _<_};
 ghost use Rattle.part.specs.Device.{known};
 ghost use Rattle.settings.specs.Settings.{hasSetting};
 ghost use Rattle.settings.specs.Fields.{inputs, terms, foes, macrocellFields, globalFields, globalIndex};
 ghost use Rattle.settings.specs.Order.{macrocellFieldAt, start, settingOf};
 ghost use Rattle.settings.specs.Order.Group.{wireAnds};
-ghost use Rattle.settings.specs.declared.Setting.the-variants.{Literal};
+ghost use Rattle.settings.specs.declared.Setting.the-variants.{Literal, WireAnd};
 ghost use Rattle.setting_places.specs.Places.{main, literalRow, firstRow, rows, blockPlace, globalPlace, placeOf};
 ghost use Rattle.setting_places.specs.Places.{globalBits, bitsOf, fuseOf};
 use part::BytePlace;
 use part::Device;
 use part::FuseNumber;
 use part::Place;
+use part::geometry::MAIN_COLUMNS;
+use part::quotients::MAIN_COLUMN_FACTOR;
+use part::quotients::divided;
 use settings::BlockField;
 use settings::GlobalField;
 use settings::Polarity;
 use settings::Setting;
 use settings::SettingNumber;
+use settings::fields::polarity_at;
+use settings::numbers::TERM_LITERALS;
 
-// The first row of each macrocell field, which holds its bit 0, in the order listed.
-const FIRST_ROW: [u32; 27] = [
-    12,
-    14,
-    16,
-    18,
-    20,
-    22,
-    23,
-    24,
-    25,
-    26,
-    27,
-    29,
-    35,
-    36,
-    40,
-    41,
-    42,
-    43,
-    44,
-    46,
-    48,
-    49,
-    50,
-    51,
-    52,
-    53,
-    54,
-];
+// The factors that divide the number of a literal by the literals of a term, with the shift 24, and that of a term by
+// the columns, with the shift 16.
+const TERM_FACTOR: u64 = (1 << 24) / TERM_LITERALS as u64 + 1;
 
-// How many rows each macrocell field has.
-const ROWS: [u32; 27] = [
-    2,
-    2,
-    2,
-    2,
-    2,
-    1,
-    1,
-    1,
-    1,
-    1,
-    2,
-    3,
-    1,
-    2,
-    1,
-    1,
-    1,
-    1,
-    2,
-    1,
-    1,
-    1,
-    1,
-    1,
-    1,
-    1,
-    1,
-];
+const COLUMN_FACTOR: u64 = (1 << 16) / MAIN_COLUMNS as u64 + 1;
+
+// The rows of the macrocell fields, a byte for each: the first row in its upper six bits, how many in its lower two.
+const ROWS_0: u64 = (12 << 2 | 2)
+    | (14 << 2 | 2) << 8
+    | (16 << 2 | 2) << 16
+    | (18 << 2 | 2) << 24
+    | (20 << 2 | 2) << 32
+    | (22 << 2 | 1) << 40
+    | (23 << 2 | 1) << 48
+    | (24 << 2 | 1) << 56;
+
+const ROWS_1: u64 = (25 << 2 | 1)
+    | (26 << 2 | 1) << 8
+    | (27 << 2 | 2) << 16
+    | (29 << 2 | 3) << 24
+    | (35 << 2 | 1) << 32
+    | (36 << 2 | 2) << 40
+    | (40 << 2 | 1) << 48
+    | (41 << 2 | 1) << 56;
+
+const ROWS_2: u64 = (42 << 2 | 1)
+    | (43 << 2 | 1) << 8
+    | (44 << 2 | 2) << 16
+    | (46 << 2 | 1) << 24
+    | (48 << 2 | 1) << 32
+    | (49 << 2 | 1) << 40
+    | (50 << 2 | 1) << 48
+    | (51 << 2 | 1) << 56;
+
+const ROWS_3: u64 = (52 << 2 | 1) | (53 << 2 | 1) << 8 | (54 << 2 | 1) << 16;
 
 // The row and the column of each block field, in the order listed; its bit is 6.
 const BLOCK_ROW: [u32; 6] = [67, 67, 68, 11, 68, 68];
 
 const BLOCK_COLUMN: [u32; 6] = [0, 1, 6, 3, 3, 0];
 
-// The first row of a macrocell field.
+// The word with the byte of a field: an array would be built anew at each call.
+fn rows_word(index: u32) -> u64
+    requires { ⌜ index < macrocellFields ⌝ }
+    ensures { λ r. ⌜ r / 2 ^ (8 * (index % 8)) % 2 ^ 8
+        ≡ firstRow (macrocellFieldAt index) * 4 + rows (macrocellFieldAt index) ⌝ }
+{
+    match index / 8 % 4 {
+        0 => ROWS_0,
+        1 => ROWS_1,
+        2 => ROWS_2,
+        _ => ROWS_3,
+    }
+}
+
+// The byte of a field.
+pub fn rows_byte(index: u32) -> u32
+    requires { ⌜ index < macrocellFields ⌝ }
+    ensures { λ r. ⌜ r ≡ firstRow (macrocellFieldAt index) * 4 + rows (macrocellFieldAt index) ⌝ }
+{
+    let word = rows_word(index);
+    ((word >> (8 * (index % 8))) % 256) as u32
+}
+
+// The first row of a macrocell field, which holds its bit 0.
 pub fn first_row(index: u32) -> u32
     requires { ⌜ index < macrocellFields ⌝ }
     ensures { λ r. ⌜ r ≡ firstRow (macrocellFieldAt index) ⌝ }
 {
-    FIRST_ROW[index as usize]
+    rows_byte(index) / 4
 }
 
 // The row of a bit of a macrocell field.
@@ -109,7 +111,7 @@ fn rows_of(index: u32) -> u32
     requires { ⌜ index < macrocellFields ⌝ }
     ensures { λ r. ⌜ r ≡ rows (macrocellFieldAt index) ⌝ }
 {
-    ROWS[index as usize]
+    rows_byte(index) % 4
 }
 
 // The bits of a global field.
@@ -141,12 +143,27 @@ pub fn bits_of(d: Device, s: Setting) -> u32
 }
 
 // A bit of the main area.
-fn main_place(block: u32, row: u32, column: u32, bit: u32) -> Place
+pub fn main_place(block: u32, row: u32, column: u32, bit: u32) -> Place
     ensures { λ r. ⌜ r ≡ main block row column bit ⌝ }
 {
     Place {
         byte: BytePlace::Main { block, row, column },
         bit,
+    }
+}
+
+// The place of a wire-AND.
+pub fn wire_and_place(block: u32, input: u32, source: u32, macrocell: u32) -> Place
+    ensures { λ r. ⌜ r ≡ placeOf (WireAnd block input source macrocell) 0 ⌝ }
+{
+    Place {
+        byte: BytePlace::WireAnd {
+            block,
+            subarea: source,
+            row: macrocell,
+            column: input % 5,
+        },
+        bit: input / 5,
     }
 }
 
@@ -175,14 +192,17 @@ fn literal_place(block: u32, macrocell: u32, term: u32, input: u32, polarity: Po
     main_place(block, row, term + 5 * (macrocell % 3), macrocell / 3)
 }
 
-// The place of a literal, by its number.
+// The place of a literal, by its number: 72 literals to a term, and the terms of a block run through the 15 columns,
+// bit after bit.
 pub fn place_of_literal(d: Device, number: SettingNumber) -> Place
-    requires { ⌜ number .0 < start d wireAnds ⌝ }
+    requires { ⌜ (known d ≡ true) × (number .0 < start d wireAnds) ⌝ }
     ensures { λ r. ⌜ r ≡ placeOf (settingOf d (number .0)) 0 ⌝ }
 {
-    let at = settings::numbers::literal_indices(d, number.0);
-    let polarity = at.polarity;
-    literal_place(at.block, at.macrocell, at.term, at.input, polarity)
+    let terms = divided(number.0, TERM_LITERALS, TERM_FACTOR, 24);
+    let columns = divided(terms.quotient, MAIN_COLUMNS, COLUMN_FACTOR, 16);
+    let bits = divided(columns.quotient, 6, MAIN_COLUMN_FACTOR, 8);
+    let row = literal_row(terms.rest / 2, polarity_at(terms.rest % 2));
+    main_place(bits.quotient, row, columns.rest, bits.rest)
 }
 
 fn block_place(block: u32, field: BlockField) -> Place
@@ -224,15 +244,7 @@ pub fn place_of(d: Device, s: Setting, bit: u32) -> Place
             input,
             source,
             macrocell,
-        } => Place {
-            byte: BytePlace::WireAnd {
-                block,
-                subarea: source,
-                row: macrocell,
-                column: input % 5,
-            },
-            bit: input / 5,
-        },
+        } => wire_and_place(block, input, source, macrocell),
         Setting::Macrocell {
             block,
             macrocell,

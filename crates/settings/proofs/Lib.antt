@@ -4,6 +4,7 @@ pub mod Arms
 pub mod Order
 pub mod FieldIndices
 pub mod Numbering
+pub mod Among
 pub mod ListingOrder
 pub mod CodeNumbers
 pub mod Asked

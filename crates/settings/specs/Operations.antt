@@ -23,3 +23,8 @@ settingOfNumber d number = ifKnown d (cond (ltb number (countOf d)) (accepted (s
 
 unfoldable pub numberOfSetting : Device → Setting → Outcome ℕ
 numberOfSetting d s = ifSetting d s (accepted (numberOf d s))
+
+-- A call by setting number goes through the setting of that number.
+abbrev pub through : {A : Type 0} → Outcome Setting → (Setting → Outcome A) → Outcome A
+through (accepted s) answer = answer s
+through (refused number value) answer = refused number value

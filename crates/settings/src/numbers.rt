@@ -2,10 +2,10 @@
 // For the crates above: a function here may require that the device is known or has the setting.
 ghost use mathlib.Core.Path.{_≡_};
 ghost use mathlib.Core.Bool.{true};
-ghost use Prim.Native.Nat.{_<_};
-ghost use Rattle.part.specs.Device.{known};
+ghost use Prim.Native.Nat.{_+_, _*_, _/_, _^_, _<_};
+ghost use Rattle.part.specs.Device.{known, blocksOf};
 ghost use Rattle.settings.specs.Settings.{hasSetting};
-ghost use Rattle.settings.specs.Order.{start, countOf, numberOf};
+ghost use Rattle.settings.specs.Order.{size, start, countOf, numberOf};
 ghost use Rattle.settings.specs.Order.{inGroup, settingOf};
 ghost use Rattle.settings.specs.Order.Group.{literals, wireAnds, macrocellSettings, blockSettings, globals};
 ghost use Rattle.settings.specs.declared.GlobalField.the-variants.{Usercode};
@@ -31,8 +31,10 @@ use super::fields::macrocell_index;
 use super::fields::polarity_at;
 use super::fields::polarity_index;
 use part::Device;
+use part::quotients::divided;
 
-const TERM_LITERALS: u32 = INPUTS * 2;
+// The literals of a term, of a macrocell and of a block.
+pub const TERM_LITERALS: u32 = INPUTS * 2;
 
 const MACROCELL_LITERALS: u32 = TERMS * TERM_LITERALS;
 
@@ -46,7 +48,7 @@ pub fn start_of_wire_ands(d: Device) -> u32
     part::geometry::blocks_of(d) * BLOCK_LITERALS
 }
 
-fn start_of_macrocells(d: Device) -> u32
+pub fn start_of_macrocells(d: Device) -> u32
     requires { ⌜ known d ≡ true ⌝ }
     ensures { λ r. ⌜ r ≡ start d macrocellSettings ⌝ }
 {
@@ -54,7 +56,7 @@ fn start_of_macrocells(d: Device) -> u32
     start_of_wire_ands(d) + n * (INPUTS * (n * MACROCELLS))
 }
 
-fn start_of_blocks(d: Device) -> u32
+pub fn start_of_blocks(d: Device) -> u32
     requires { ⌜ known d ≡ true ⌝ }
     ensures { λ r. ⌜ r ≡ start d blockSettings ⌝ }
 {
@@ -166,16 +168,16 @@ pub fn number_of(d: Device, s: Setting) -> SettingNumber
 }
 
 // The indices of a literal.
-pub struct LiteralIndices {
-    pub block: u32,
-    pub macrocell: u32,
-    pub term: u32,
-    pub input: u32,
-    pub polarity: Polarity,
+struct LiteralIndices {
+    block: u32,
+    macrocell: u32,
+    term: u32,
+    input: u32,
+    polarity: Polarity,
 }
 
 // The indices of the literal at a position.
-pub fn literal_indices(d: Device, x: u32) -> LiteralIndices
+fn literal_indices(d: Device, x: u32) -> LiteralIndices
     ensures { λ r. ⌜ Literal (r .block) (r .macrocell) (r .term) (r .input) (r .polarity) ≡ inGroup d literals x ⌝ }
 {
     let in_term = x % TERM_LITERALS;
@@ -186,6 +188,47 @@ pub fn literal_indices(d: Device, x: u32) -> LiteralIndices
         term: x % MACROCELL_LITERALS / TERM_LITERALS,
         input: in_term / 2,
         polarity,
+    }
+}
+
+// The indices of a wire-AND.
+pub struct WireAndIndices {
+    pub block: u32,
+    pub input: u32,
+    pub source: u32,
+    pub macrocell: u32,
+}
+
+// The factor that divides the position of a wire-AND by the wire-ANDs of an input, with the shift 32.
+fn input_factor(d: Device) -> u64
+    requires { ⌜ known d ≡ true ⌝ }
+    ensures { λ r. ⌜ r ≡ 2 ^ 32 / (blocksOf d * 18) + 1 ⌝ }
+{
+    let n = d.blocks;
+    match n {
+        2 => 119304648,
+        4 => 59652324,
+        6 => 39768216,
+        8 => 29826162,
+        12 => 19884108,
+        _ => 14913081,
+    }
+}
+
+// The indices of the wire-AND at a position. Of the divisors only the wire-ANDs of an input are not a constant.
+pub fn wire_and_indices(d: Device, x: u32) -> WireAndIndices
+    requires { ⌜ (known d ≡ true) × (x < size d wireAnds) ⌝ }
+    ensures { λ r. ⌜ WireAnd (r .block) (r .input) (r .source) (r .macrocell) ≡ inGroup d wireAnds x ⌝ }
+{
+    let per_input = part::geometry::blocks_of(d) * MACROCELLS;
+    let at = divided(x, per_input, input_factor(d), 32);
+    let inputs = at.quotient;
+    let in_input = at.rest;
+    WireAndIndices {
+        block: inputs / INPUTS,
+        input: inputs % INPUTS,
+        source: in_input / MACROCELLS,
+        macrocell: in_input % MACROCELLS,
     }
 }
 
@@ -205,19 +248,15 @@ fn literal_at(d: Device, x: u32) -> Setting
 }
 
 fn wire_and_at(d: Device, x: u32) -> Setting
-    requires { ⌜ known d ≡ true ⌝ }
+    requires { ⌜ (known d ≡ true) × (x < size d wireAnds) ⌝ }
     ensures { λ r. ⌜ r ≡ inGroup d wireAnds x ⌝ }
 {
-    let n = part::geometry::blocks_of(d);
-    let per_input = n * MACROCELLS;
-    let per_block = INPUTS * per_input;
-    let in_block = x % per_block;
-    let in_input = in_block % per_input;
+    let at = wire_and_indices(d, x);
     Setting::WireAnd {
-        block: x / per_block,
-        input: in_block / per_input,
-        source: in_input / MACROCELLS,
-        macrocell: in_input % MACROCELLS,
+        block: at.block,
+        input: at.input,
+        source: at.source,
+        macrocell: at.macrocell,
     }
 }
 

@@ -29,14 +29,14 @@ use Rattle.image.proofs.Bits.{gathered-small}
 use Rattle.readout.specs.Readout.{firstAbove, toReadout, toImage}
 use Rattle.settings.specs.Settings.{hasSetting}
 use Rattle.settings.specs.Order.{settingOf, countOf}
-use Rattle.settings.specs.Operations.{countOfSettings, settingOfNumber}
+use Rattle.settings.specs.Operations.{countOfSettings, settingOfNumber, through}
 use Rattle.settings.specs.declared.Setting.{Setting}
 use Rattle.settings.proofs.Numbering.{number-below, number-inverse}
 use Rattle.settings.proofs.CodeNumbers.{count-small}
 use Rattle.setting_places.specs.Places.{bitsOf, fuseOf, addressOf}
 use Rattle.setting_places.proofs.Laws.{fuse-below, converted}
 use Rattle.fuse_settings.specs.Back.{settingAt}
-use Rattle.setting_places.specs.Operations.{locatedBit}
+use Rattle.setting_places.specs.Operations.{locatedBit, locatedByNumber}
 use Rattle.fuse_settings.specs.Operations.{settingAtFuse}
 use Rattle.fuse_settings.proofs.Laws.{sound}
 use Rattle.setting_bits.specs.declared.Layout.{Layout}
@@ -51,7 +51,7 @@ use Rattle.jedec_reader.specs.Reader.{verdict, toImageFromText}
 use Rattle.edit.specs.Edit.{aboveIn, ifClean}
 use Rattle.edit_by_number.specs.ByNumber.{readPattern, setPattern}
 use Rattle.xc9500.specs.Packed.{addressAndBit, fuseAndAddress, itself, noResult, orNone, packed, settingAndBit}
-use Rattle.xc9500.specs.Packed.{through, addressIn, bitIn, fuseIn, WordFits, WordFitsOrNone}
+use Rattle.xc9500.specs.Packed.{addressIn, bitIn, fuseIn, WordFits, WordFitsOrNone}
 use Rattle.xc9500.specs.Packed.{fusesIn, imageBytesIn, readoutBytesIn, textBytesIn}
 use Rattle.xc9500.specs.Words.{EachFits, PartsRead}
 
@@ -195,8 +195,8 @@ module _ (d : Device) where
   abbrev ThroughFits : (bit : ℕ) → Outcome Setting → Type 0
   ThroughFits bit o = PartsFit (through o (λ s. locatedBit d s bit))
 
-  setting-parts : (setting bit : ℕ) → ThroughFits bit (settingOfNumber d setting)
-  unfolding settingOfNumber
+  setting-parts : (setting bit : ℕ) → PartsFit (locatedByNumber d setting bit)
+  unfolding locatedByNumber settingOfNumber
   setting-parts setting bit =
       chosen (ThroughFits bit) (known d) (omega arith, omega arith)
       (λ k. by-cases (ThroughFits bit) setting (countOf d) (λ l. located-fits (settingOf d setting) bit) (λ g. (omega arith, omega arith)))
@@ -206,8 +206,8 @@ module _ (d : Device) where
   parts-fit (accepted (some q)) h = omega arith
   parts-fit (refused number value) h = h
 
-  setting-fuse : (setting bit : ℕ) → WordFitsOrNone fuseAndAddress (through (settingOfNumber d setting) (λ s. locatedBit d s bit))
-  setting-fuse setting bit = parts-fit (through (settingOfNumber d setting) (λ s. locatedBit d s bit)) (setting-parts setting bit)
+  setting-fuse : (setting bit : ℕ) → WordFitsOrNone fuseAndAddress (locatedByNumber d setting bit)
+  setting-fuse setting bit = parts-fit (locatedByNumber d setting bit) (setting-parts setting bit)
 
   named : known d ≡ true → (fuse : ℕ) (o : Option (Setting × ℕ)) → settingAt d fuse ≡ o → WordFitsOrNone (settingAndBit d) (accepted o)
   named k fuse none e = tt
@@ -290,7 +290,7 @@ parts-read =
           let is : word ≡ address * 8 + bit = w ∙ ap (packed addressAndBit) e in
           (omega arith, omega arith);
       of-setting = λ d setting bit fuse address place word e w.
-          let o = through (settingOfNumber d setting) (λ s. locatedBit d s bit) in
+          let o = locatedByNumber d setting bit in
           let fits = subst (PartsFit d) e (setting-parts d setting bit) in
           let is : word ≡ fuse * 2 ^ 20 + (address * 8 + place) = w ∙ ap (packed (orNone fuseAndAddress)) e in
           (omega arith, omega arith, omega arith);

@@ -59,11 +59,6 @@ orNone result (some x) = result x
 abbrev pub settingAndBit : Device → Setting × ℕ → ℕ
 settingAndBit d p = numberOf d (p .0) * 32 + p .1
 
--- A call by setting number goes through the setting of that number.
-abbrev pub through : {A : Type 0} → Outcome Setting → (Setting → Outcome A) → Outcome A
-through (accepted s) answer = answer s
-through (refused number value) answer = refused number value
-
 -- What a caller reads of a word by the header's XC9500_REFUSAL and XC9500_RESULT.
 abbrev pub refusalIn : (word : ℕ) → ℕ
 refusalIn word = word / 2 ^ 56

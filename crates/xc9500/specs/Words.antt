@@ -10,14 +10,14 @@ use Rattle.part.specs.Sizes.{sizesOf}
 use Rattle.part.specs.declared.Device.{Device}
 use Rattle.image.specs.Image.{fuseSum, zeroCount}
 use Rattle.readout.specs.Readout.{toReadout, toImage}
-use Rattle.settings.specs.Operations.{countOfSettings, settingOfNumber}
-use Rattle.setting_places.specs.Operations.{locatedBit}
+use Rattle.settings.specs.Operations.{countOfSettings}
+use Rattle.setting_places.specs.Operations.{locatedByNumber}
 use Rattle.fuse_settings.specs.Operations.{settingAtFuse}
 use Rattle.jedec_writer.specs.Pattern.{toText}
 use Rattle.jedec_reader.specs.Reader.{toImageFromText}
 use Rattle.edit_by_number.specs.ByNumber.{readPattern, setPattern}
 use Rattle.xc9500.specs.Packed.{packed, addressAndBit, fuseAndAddress, itself, noResult, orNone, settingAndBit}
-use Rattle.xc9500.specs.Packed.{through, addressIn, bitIn, fuseIn, WordFits, WordFitsOrNone}
+use Rattle.xc9500.specs.Packed.{addressIn, bitIn, fuseIn, WordFits, WordFitsOrNone}
 use Rattle.xc9500.specs.Packed.{fusesIn, imageBytesIn, readoutBytesIn, textBytesIn}
 use Rattle.setting_bits.specs.declared.Layout.{Layout}
 
@@ -36,7 +36,7 @@ pub record EachFits : Type 0 where
   pub text-to-image : (d : Device) (text target : List ℕ) → WordFits noResult (toImageFromText d text target)
   pub setting-count : (d : Device) → WordFits itself (countOfSettings d)
   pub setting-fuse : (d : Device) (setting bit : ℕ)
-      → WordFitsOrNone fuseAndAddress (through (settingOfNumber d setting) (λ s. locatedBit d s bit))
+      → WordFitsOrNone fuseAndAddress (locatedByNumber d setting bit)
   pub setting-at-fuse : (d : Device) (fuse : ℕ) → WordFitsOrNone (settingAndBit d) (settingAtFuse d fuse)
   pub read : (d : Device) (layout : Layout) (bytes : List ℕ) (setting : ℕ)
       → WordFits itself (readPattern d layout bytes setting)
@@ -48,6 +48,6 @@ pub record PartsRead : Type 0 where
   pub of-fuse : (d : Device) (fuse address bit word : ℕ) → addressOfFuse d fuse ≡ accepted (address, bit)
       → word ≡ packed addressAndBit (addressOfFuse d fuse) → (addressIn word ≡ address) × (bitIn word ≡ bit)
   pub of-setting : (d : Device) (setting bit fuse address place word : ℕ)
-      → through (settingOfNumber d setting) (λ s. locatedBit d s bit) ≡ accepted (some (fuse, (address, place)))
-      → word ≡ packed (orNone fuseAndAddress) (through (settingOfNumber d setting) (λ s. locatedBit d s bit))
+      → locatedByNumber d setting bit ≡ accepted (some (fuse, (address, place)))
+      → word ≡ packed (orNone fuseAndAddress) (locatedByNumber d setting bit)
       → (fuseIn word ≡ fuse) × (addressIn word ≡ address) × (bitIn word ≡ place)

@@ -10,17 +10,17 @@ ghost use Rattle.addresses.specs.Convert.{addressOfFuse, fuseOfAddress};
 ghost use Rattle.image.specs.Image.{fuseSum, zeroCount};
 ghost use Rattle.part.specs.Outcome.{written};
 ghost use Rattle.readout.specs.Readout.{toReadout, readoutOf, toImage, imageOf};
-ghost use Rattle.settings.specs.Operations.{countOfSettings, settingOfNumber};
+ghost use Rattle.settings.specs.Operations.{countOfSettings};
 ghost use Rattle.setting_places.specs.Answer.{bitOutcome};
-ghost use Rattle.setting_places.specs.Operations.{locatedBit};
+ghost use Rattle.setting_places.specs.Operations.{locatedByNumber};
 ghost use Rattle.fuse_settings.specs.Operations.{settingAtFuse};
 ghost use Rattle.jedec_writer.specs.Pattern.{toText, withText};
 ghost use Rattle.jedec_reader.specs.Reader.{toImageFromText, imageIn};
 ghost use Rattle.setting_bits.specs.declared.Layout.the-variants.{Image, Readout};
 ghost use Rattle.edit_by_number.specs.ByNumber.{readPattern, setPattern, withNumbered};
 ghost use Rattle.xc9500.specs.Packed.{packed, refusalWord, device, addressAndBit, fuseAndAddress, itself};
-ghost use Rattle.xc9500.specs.Packed.{noResult, orNone, settingAndBit, through, fusesIn, imageBytesIn};
-ghost use Rattle.xc9500.specs.Packed.{readoutBytesIn, textBytesIn};
+ghost use Rattle.xc9500.specs.Packed.{noResult, orNone, settingAndBit, fusesIn, imageBytesIn, readoutBytesIn};
+ghost use Rattle.xc9500.specs.Packed.{textBytesIn};
 use addresses::AddressAnswer;
 use addresses::DeviceAddress;
 use addresses::FuseAnswer;
@@ -32,7 +32,6 @@ use part::NumberAnswer;
 use part::Refusal;
 use part::SizesAnswer;
 use setting_places::BitAnswer;
-use settings::SettingAnswer;
 use settings::SettingNumber;
 
 const BIT_56: u64 = 1 << 56;
@@ -252,15 +251,10 @@ pub extern "C" fn xc9500_setting_count(blocks: u32, class: u32) -> u64
 // The fuse of a bit of a setting times 2^20, plus its address times 8, plus its bit, by setting number.
 #[no_mangle]
 pub extern "C" fn xc9500_setting_fuse(blocks: u32, class: u32, setting: u32, bit: u32) -> u64
-    ensures { λ w. ⌜ w ≡ packed (orNone fuseAndAddress)
-        (through (settingOfNumber (device blocks class) setting) (λ s. locatedBit (device blocks class) s bit)) ⌝ }
+    ensures { λ w. ⌜ w ≡ packed (orNone fuseAndAddress) (locatedByNumber (device blocks class) setting bit) ⌝ }
 {
     let d = Device { blocks, class };
-    let answer = settings::setting_of_number(d, SettingNumber(setting));
-    match answer {
-        SettingAnswer::Setting(s) => bit_word(setting_places::fuse_of_bit(d, s, bit)),
-        SettingAnswer::Refused(r) => refusal_word(r),
-    }
+    bit_word(setting_places::fuse_of_numbered_bit(d, SettingNumber(setting), bit))
 }
 
 // The number of the setting at a fuse times 32 plus the bit.

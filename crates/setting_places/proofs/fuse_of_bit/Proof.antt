@@ -2,24 +2,18 @@
 -- Assumes nothing.
 use mathlib.Core.Path.{_≡_}
 use mathlib.Core.Bool.{true, false}
-use Prim.Native.Nat.{ℕ, _<_, _≤_}
+use Prim.Native.Nat.{ℕ, _<_}
 use native.Mathlib.Omega.{arith}
-use borrow.Author.Tests.{lt-ltb, le-ltb}
-use Rattle.part.specs.Outcome.Outcome.{accepted, refused}
+use Rattle.part.specs.Outcome.Outcome.{refused}
 use Rattle.part.specs.Device.{known}
-use Rattle.part.specs.Place.{fuseOfPlace}
 use Rattle.part.specs.declared.Device.{Device}
-use Rattle.part.specs.declared.Place.{Place}
-use Rattle.addresses.specs.Address.{addressOfByte}
 use Rattle.part.proofs.Devices.{is-known, is-unknown}
-use mathlib.Core.Option.Option.{none, some}
-use Rattle.part.proofs.Fuses.{has-byte}
 use Rattle.settings.specs.Settings.{hasSetting}
 use Rattle.settings.specs.declared.Setting.{Setting}
 use Rattle.settings.proofs.Asked.{has, has-not}
-use Rattle.setting_places.specs.Places.{placeOf, bitsOf, fuseOf, addressOf}
+use Rattle.setting_places.specs.Places.{bitsOf}
 use Rattle.setting_places.specs.Operations.{locatedBit}
-use Rattle.setting_places.proofs.OnePlaceEach.{place-there}
+use Rattle.setting_places.proofs.AtPlace.{no-bit, there, at-place}
 use borrow.Author.Needs.{needs}
 use Rattle.setting_places.proofs.fuse_of_bit.Statement.{statement}
 use Rattle.setting_places.proofs.fuse_of_bit.Tie as tie
@@ -34,16 +28,6 @@ no-setting d s bit k h = rw (k, h)
 
 below : (s : Setting) (bit width : ℕ) → width ≡ bitsOf s → bit < width → bit < bitsOf s
 below s bit width e l = omega arith
-
-module _ (d : Device) (s : Setting) (bit width : ℕ) (k : known d ≡ true) (h : hasSetting d s ≡ true) (e : width ≡ bitsOf s) where
-  no-bit : width ≤ bit → accepted none ≡ locatedBit d s bit
-  unfolding locatedBit
-  no-bit g = rw (k, h, le-ltb bit (bitsOf s) (omega arith))
-
-  located : (p : Place) (f a : ℕ) → bit < width → p ≡ placeOf s bit → f ≡ fuseOfPlace d p → a ≡ addressOfByte (p .byte)
-      → accepted (some (f, (a, p .bit))) ≡ locatedBit d s bit
-  unfolding locatedBit fuseOf addressOf
-  located p f a l g ef ea = rw (k, h, lt-ltb bit (bitsOf s) (omega arith), ← g, ef, ea)
 
 is-known-requires : tie.Need-is-known-requires
 is-known-requires c κs = search needs
@@ -63,31 +47,20 @@ bits-of-requires c κs = has _ _ _ (c .before .has-setting .ensures) (c .if2 .le
 returns-3 : tie.Need-returns-3
 returns-3 c = search (needs, is-known, has, no-bit)
 
--- What the three tests have found.
-checked : (c : tie.Else3)
-    → let asked = c .before .before .before .before .before .before .args in
-    (known (asked .d) ≡ true) × (hasSetting (asked .d) (asked .s) ≡ true) × (asked .bit < bitsOf (asked .s))
-checked c = (
+place-of-requires : tie.Need-place-of-requires
+place-of-requires c κs = (
   is-known _ _ (c .before .before .before .before .before .is-known .ensures) (c .before .before .before .before .if1 .left),
   has _ _ _ (c .before .before .before .has-setting .ensures) (c .before .before .if2 .left),
   below _ _ _ (c .before .bits-of .ensures) (c .if3 .left),
 )
 
-place-of-requires : tie.Need-place-of-requires
-place-of-requires c κs = checked c
-
-fuse-of-place-requires : tie.Need-fuse-of-place-requires
-fuse-of-place-requires c κs =
-    let its = checked (c .before) in
-    (its .0, place-there _ _ _ _ (its .0) (its .1) (its .2) (c .place-of .ensures))
-
-address-of-byte-requires : tie.Need-address-of-byte-requires
-address-of-byte-requires c κs =
-    let its = checked (c .before .before) in
-    (its .0, has-byte _ _ (place-there _ _ _ _ (its .0) (its .1) (its .2) (c .before .place-of .ensures)))
+located-requires : tie.Need-located-requires
+located-requires c κs =
+    let its = place-of-requires (c .before) κs in
+    (its .0, there _ _ _ _ (its .0) (its .1) (c .before .before .bits-of .ensures) (c .before .if3 .left) _ (c .place-of .ensures))
 
 returns-4 : tie.Need-returns-4
-returns-4 c = search (needs, is-known, has, located)
+returns-4 c = search (needs, is-known, has, at-place)
 
 pub fuse-of-bit-spec : {M : Type 1} → statement M
 fuse-of-bit-spec =
@@ -100,6 +73,5 @@ fuse-of-bit-spec =
     bits-of-requires
     returns-3
     place-of-requires
-    fuse-of-place-requires
-    address-of-byte-requires
+    located-requires
     returns-4)

@@ -6,7 +6,7 @@ use Prim.Native.Nat.{ℕ, _+_, _-_, _<_, _≤_}
 use native.Mathlib.Omega.{arith}
 use lib.ListN.{getD}
 use Rattle.fuse_settings.specs.Back.{lastUpTo, fieldIndexAtRow}
-use Rattle.setting_places.proofs.TableEntries.{entries}
+use Rattle.fuse_settings.proofs.TableEntries.{entries}
 use borrow.Author.Needs.{needs}
 use Rattle.fuse_settings.proofs.candidates.field_index_at_row.Statement.{statement}
 use Rattle.fuse_settings.proofs.candidates.field_index_at_row.Tie as tie

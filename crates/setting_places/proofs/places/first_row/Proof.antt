@@ -1,35 +1,25 @@
--- `first_row` meets its contract: the table is that of the definition, by one test over all fields.
+-- `first_row` meets its contract: no field has more than three rows.
 -- Assumes nothing.
-use mathlib.Core.Path.{_≡_, refl}
-use mathlib.Core.List.{List, [], _∷_}
-use Prim.Native.Nat.{ℕ, _<_}
-use lib.ListN.{getD}
+use mathlib.Core.Path.{_≡_}
+use Prim.Native.Nat.{ℕ, _+_, _*_, _/_, _<_}
+use native.Mathlib.Omega.{arith}
 use Rattle.settings.specs.Fields.{macrocellFields}
 use Rattle.settings.specs.Order.{macrocellFieldAt}
-use Rattle.setting_places.specs.Places.{firstRow}
-use Rattle.setting_places.proofs.TableEntries.{entries}
+use Rattle.setting_places.specs.Places.{firstRow, rows}
+use Rattle.setting_places.proofs.OnePlaceEach.{rows-few}
 use borrow.Author.Needs.{needs}
 use Rattle.setting_places.proofs.places.first_row.Statement.{statement}
 use Rattle.setting_places.proofs.places.first_row.Tie as tie
 
-table : List ℕ
-table =
-    12 ∷ 14 ∷ 16 ∷ 18 ∷ 20 ∷ 22 ∷ 23 ∷ 24 ∷ 25 ∷ 26 ∷ 27 ∷ 29 ∷ 35 ∷ 36 ∷ 40 ∷ 41 ∷ 42 ∷ 43
-    ∷ 44 ∷ 46 ∷ 48 ∷ 49 ∷ 50 ∷ 51 ∷ 52 ∷ 53 ∷ 54 ∷ []
+in-byte : (i byte : ℕ) → i < macrocellFields → byte ≡ firstRow (macrocellFieldAt i) * 4 + rows (macrocellFieldAt i)
+    → byte / 4 ≡ firstRow (macrocellFieldAt i)
+in-byte i byte h e = omega (arith, rows-few i h)
 
-right : (i : ℕ) → i < macrocellFields → getD table i 0 ≡ firstRow (macrocellFieldAt i)
-unfolding table
-right = entries table (λ i. firstRow (macrocellFieldAt i)) macrocellFields refl
-
-mul-result : tie.Need-mul-result
-mul-result c = search needs
-
-array-read-result : tie.Need-array-read-result
-array-read-result c = search needs
+rows-byte-requires : tie.Need-rows-byte-requires
+rows-byte-requires c κs = search needs
 
 returns : tie.Need-returns
-unfolding table
-returns c = right (c .args .index) (search needs)
+returns c = search (needs, in-byte)
 
 pub first-row-spec : {M : Type 1} → statement M
-first-row-spec = tie.close (tie.spec mul-result array-read-result returns)
+first-row-spec = tie.close (tie.spec rows-byte-requires returns)

@@ -12,7 +12,7 @@ use Rattle.settings.specs.Order.{macrocellFieldAt}
 use Rattle.settings.specs.declared.Polarity.{Polarity}
 use Rattle.settings.specs.declared.MacrocellField.{MacrocellField}
 use Rattle.settings.specs.declared.Setting.{Setting}
-use Rattle.settings.specs.declared.Setting.the-variants.{Literal, Macrocell}
+use Rattle.settings.specs.declared.Setting.the-variants.{Literal, WireAnd, Macrocell}
 use Rattle.settings.proofs.CodeNumbers.{has-literal, has-macrocell, has-global}
 use Rattle.settings.proofs.FieldIndices.{macrocell-at}
 use Rattle.setting_places.specs.Places.{main, firstRow, rows, placeOf, bitsOf}
@@ -24,6 +24,11 @@ at-literal : (s : Setting) (block j k l : ℕ) (p : Polarity) (bit : ℕ) (r : P
     → r ≡ placeOf (Literal block j k l p) 0 → r ≡ placeOf s bit
 unfolding placeOf
 at-literal s block j k l p bit r e g = rw e g
+
+at-wire-and : (s : Setting) (block j k l : ℕ) (bit : ℕ) (r : Place) → s ≡ WireAnd block j k l
+    → r ≡ placeOf (WireAnd block j k l) 0 → r ≡ placeOf s bit
+unfolding placeOf
+at-wire-and s block j k l bit r e g = rw e g
 
 module _ (d : Device) (s : Setting) (block m : ℕ) (f : MacrocellField) (i : ℕ)
     (h : hasSetting d s ≡ true) (e : s ≡ Macrocell block m f) (q : i ≡ macrocellIndex f) where
@@ -49,6 +54,9 @@ literal-place-requires c κs =
 
 enum-known-s-2 : tie.Need-enum-known-s-2
 enum-known-s-2 c = search needs
+
+wire-and-place-requires : tie.Need-wire-and-place-requires
+wire-and-place-requires c κs = search needs
 
 enum-known-s-3 : tie.Need-enum-known-s-3
 enum-known-s-3 c = search needs
@@ -89,8 +97,7 @@ returns : tie.Need-returns
 returns c = search (needs, at-literal)
 
 returns-2 : tie.Need-returns-2
-unfolding placeOf
-returns-2 c = rw (c .before .s2 .given .1)
+returns-2 c = search (needs, at-wire-and)
 
 returns-3 : tie.Need-returns-3
 returns-3 c = search (needs, at-macrocell)
@@ -110,6 +117,7 @@ place-of-spec =
     enum-known-s
     literal-place-requires
     enum-known-s-2
+    wire-and-place-requires
     enum-known-s-3
     macrocell-index-requires
     row-of-requires
