@@ -101,9 +101,9 @@ static inline uint64_t xc9500_result(uint64_t word)
 #define XC9500_REFUSAL(word) xc9500_refusal(word)
 #define XC9500_RESULT(word) xc9500_result(word)
 
-/* The parts of an accepted answer that packs several numbers: the address and the bit of xc9500_address_of_fuse and of
-   xc9500_setting_fuse, and the fuse of the latter; the setting and the bit of xc9500_setting_at_fuse; and a result that
-   is a fuse and nothing else, xc9500_fuse_of_address. XC9500_NONE has no parts: ask for it first. */
+/* The parts of an accepted answer that packs several numbers. XC9500_NONE has no parts: ask for it first. */
+
+/* Address and bit, of xc9500_address_of_fuse and of xc9500_setting_fuse. */
 static inline xc9500_address xc9500_result_address(uint64_t word)
 {
     return xc9500_address_from(XC9500_CAST(uint32_t, (word >> 3) & 0x1FFFF));
@@ -114,11 +114,13 @@ static inline uint32_t xc9500_result_bit(uint64_t word)
     return XC9500_CAST(uint32_t, word & 7);
 }
 
+/* The fuse, of xc9500_setting_fuse. */
 static inline xc9500_fuse xc9500_result_setting_fuse(uint64_t word)
 {
     return xc9500_fuse_from(XC9500_CAST(uint32_t, xc9500_result(word) >> 20));
 }
 
+/* Setting and bit, of xc9500_setting_at_fuse. */
 static inline uint32_t xc9500_result_setting(uint64_t word)
 {
     return XC9500_CAST(uint32_t, xc9500_result(word) >> 5);
@@ -129,6 +131,7 @@ static inline uint32_t xc9500_result_setting_bit(uint64_t word)
     return XC9500_CAST(uint32_t, word & 31);
 }
 
+/* The fuse where it is the whole result, of xc9500_fuse_of_address. */
 static inline xc9500_fuse xc9500_result_fuse(uint64_t word)
 {
     return xc9500_fuse_from(XC9500_CAST(uint32_t, xc9500_result(word)));

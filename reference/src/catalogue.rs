@@ -16,6 +16,13 @@ pub struct LocatedFuse {
     pub bit: u32,
 }
 
+impl LocatedFuse {
+    /// The three in one number, as the C interface gives them.
+    pub fn word(self) -> u64 {
+        u64::from(self.fuse) << 20 | u64::from(self.address) << 3 | u64::from(self.bit)
+    }
+}
+
 /// One setting of the list; its number is its position there.
 pub(crate) struct Entry {
     pub setting: Setting,

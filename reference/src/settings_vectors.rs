@@ -46,10 +46,7 @@ fn word_of_number(answer: Answer<u32>) -> u64 {
 
 /// Fuse, address and bit in one word, as the C interface gives them.
 fn word_of_bit(answer: Answer<Option<LocatedFuse>>) -> u64 {
-    let packed = |LocatedFuse { fuse, address, bit }| {
-        u64::from(fuse) * (1 << 20) + u64::from(address) * 8 + u64::from(bit)
-    };
-    word(answer.map(|located| located.map_or(NONE, packed)))
+    word(answer.map(|located| located.map_or(NONE, LocatedFuse::word)))
 }
 
 fn word_at_fuse(device: Device, fuse: u32) -> u64 {

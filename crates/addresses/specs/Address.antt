@@ -6,6 +6,7 @@ use lib.Dec.{eqb, ltb}
 use Rattle.part.specs.Device.{mainColumns, mainBytes, wireAndColumns, subareaBytes, blockBytes}
 use Rattle.part.specs.Place.{hasByte}
 use Rattle.part.specs.declared.Device.{Device}
+use Rattle.part.specs.declared.Place.{Place}
 use Rattle.part.specs.declared.BytePlace.{BytePlace}
 use Rattle.part.specs.declared.BytePlace.the-variants.{Main, WireAnd}
 
@@ -15,6 +16,10 @@ use Rattle.part.specs.declared.BytePlace.the-variants.{Main, WireAnd}
 abbrev pub addressOfByte : BytePlace → ℕ
 addressOfByte (Main block row column) = block * 2 ^ 13 + 0 * 2 ^ 12 + row * 2 ^ 5 + column / 5 * 2 ^ 3 + column % 5
 addressOfByte (WireAnd block subarea row column) = block * 2 ^ 13 + 1 * 2 ^ 12 + subarea * 2 ^ 8 + row * 2 ^ 3 + column
+
+-- The address and the bit of a place.
+abbrev pub addressOfPlace : Place → ℕ × ℕ
+addressOfPlace p = (addressOfByte (p .byte), p .bit)
 
 -- `width` bits of a number, from bit `from` on.
 abbrev pub field : ℕ → ℕ → ℕ → ℕ

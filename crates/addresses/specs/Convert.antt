@@ -9,14 +9,14 @@ use Rattle.part.specs.Device.{fuseCount}
 use Rattle.part.specs.Sizes.{ifKnown}
 use Rattle.part.specs.Place.{widthOf, fuseOfPlace, placeOfFuse}
 use Rattle.part.specs.declared.Device.{Device}
-use Rattle.addresses.specs.Address.{addressOfByte, byteOfAddress, valid}
+use Rattle.addresses.specs.Address.{addressOfPlace, byteOfAddress, valid}
 
 -- The address and the bit of a fuse.
 unfoldable pub addressOfFuse : Device → ℕ → Outcome (ℕ × ℕ)
 addressOfFuse d fuse =
     ifKnown d
     (cond (ltb fuse (fuseCount d))
-    (accepted (addressOfByte (placeOfFuse d fuse .byte), placeOfFuse d fuse .bit))
+    (accepted (addressOfPlace (placeOfFuse d fuse)))
     (refused 3 0))
 
 -- The fuse of an address and a bit.

@@ -3,7 +3,7 @@
 use mathlib.Core.Path.{_≡_, refl, sym, _∙_, ap}
 use mathlib.Core.Bool.{Bool, true, false, cond, not, _&&_}
 use mathlib.Core.List.{List}
-use Prim.Native.Nat.{ℕ, _+_, _/_, _%_, _^_, _<_, _≤_}
+use Prim.Native.Nat.{ℕ, _/_, _%_, _^_, _<_, _≤_}
 use native.Mathlib.Omega.{arith}
 use mir.Syntax.{w32}
 use mir.Val.{Fits}
@@ -21,9 +21,10 @@ use Rattle.settings.specs.Settings.{hasSetting}
 use Rattle.settings.specs.Order.{start, countOf, settingOf}
 use Rattle.settings.specs.Order.Group.{literals, wireAnds}
 use Rattle.settings.specs.declared.Setting.{Setting}
-use Rattle.settings.proofs.Numbering.{ends, setting-in-group, number-inverse}
+use Rattle.settings.proofs.Numbering.{ends}
 use Rattle.setting_places.specs.Places.{placeOf, bitsOf, fuseOf}
 use Rattle.setting_places.proofs.OnePlaceEach.{has-place}
+use Rattle.setting_places.proofs.AtPlace.{has-literal, literal-bits}
 use Rattle.setting_bits.specs.declared.Layout.{Layout}
 use Rattle.setting_bits.specs.declared.Layout.the-variants.{Image, Readout}
 use Rattle.setting_bits.specs.SettingBits.{isReadout, bytesOf, byteOf, bitIn, patternAt, withBits, withPattern}
@@ -47,13 +48,10 @@ module _ (d : Device) (x : ℕ) (l : x < start d wireAnds) where
   number-there = omega (arith, ends d literals)
 
   one-bit : bitsOf (settingOf d x) ≡ 1
-  unfolding bitsOf
-  one-bit =
-      let at : 0 + x ≡ x = omega arith in
-      ap (λ (y : ℕ). bitsOf (settingOf d y)) (sym at) ∙ ap bitsOf (setting-in-group d literals x l)
+  one-bit = sym (literal-bits d x l)
 
   its : hasSetting d (settingOf d x) ≡ true
-  its = number-inverse d x number-there .0
+  its = has-literal d x l
 
   bit-0 : 0 < bitsOf (settingOf d x)
   bit-0 = omega (arith, one-bit)

@@ -1,6 +1,7 @@
 -- What holds of the setting at a fuse, each law once, for every device:
 --   fuses-inverse     a bit of a setting is this fuse exactly if the setting and the bit at that fuse are these
---   located-inverse   so is a bit of a setting with fuse, address and bit, and the conversion gives the fuse these two
+--   located-inverse   a bit of a setting is this fuse at this address and bit exactly if the setting and the bit at that fuse are these
+--                     and the conversion gives the fuse this address and bit
 --   at-fuse-has       a fuse that is named is one of a setting that the device has
 --   apart             no two settings share a fuse, and no setting has a fuse twice
 --   unnamed-iff       a fuse below the count is unnamed exactly if no setting lists it
@@ -10,7 +11,7 @@
 --                                             (specs/Cases.antt)
 use mathlib.Core.Path.{_≡_, refl, sym, _∙_, ap, subst}
 use mathlib.Core.Logic.{_↔_}
-use mathlib.Core.Bool.{Bool, true, false, cond, _&&_}
+use mathlib.Core.Bool.{true, cond, _&&_}
 use mathlib.Core.Option.{Option}
 use mathlib.Core.Option.Option.{none, some}
 use Prim.Native.Nat.{ℕ, _<_}
@@ -22,9 +23,9 @@ use Rattle.part.specs.Outcome.Outcome.{accepted}
 use Rattle.part.specs.Device.{known, fuseCount}
 use Rattle.part.specs.Place.{placeOfFuse}
 use Rattle.part.specs.declared.Device.{Device}
-use Rattle.part.proofs.Facts.{and-iff}
+use Rattle.part.proofs.Facts.{and-iff, given}
 use Rattle.part.proofs.Fuses.{of-place}
-use Rattle.part.proofs.Checks.{passed, result, given}
+use Rattle.part.proofs.Checks.{passed, result}
 use Rattle.addresses.specs.Convert.{addressOfFuse}
 use Rattle.settings.specs.Settings.{hasSetting}
 use Rattle.settings.specs.declared.Setting.{Setting}
@@ -98,11 +99,11 @@ pub fuses-inverse : (d : Device) (s : Setting) (bit f : ℕ)
     → (fuseOfBit d s bit ≡ accepted (some f)) ↔ (settingAtFuse d f ≡ accepted (some (s, bit)))
 fuses-inverse d s bit f = (fuses-to d s bit f, fuses-from d s bit f)
 
-pub located-inverse : (d : Device) (s : Setting) (bit f address place : ℕ)
-    → (locatedBit d s bit ≡ accepted (some (f, (address, place))))
-    ↔ ((settingAtFuse d f ≡ accepted (some (s, bit))) × (addressOfFuse d f ≡ accepted (address, place)))
-located-inverse d s bit f address place =
-    let beside = address-beside d s bit f address place in (
+pub located-inverse : (d : Device) (s : Setting) (bit f address bitThere : ℕ)
+    → (locatedBit d s bit ≡ accepted (some (f, (address, bitThere))))
+    ↔ ((settingAtFuse d f ≡ accepted (some (s, bit))) × (addressOfFuse d f ≡ accepted (address, bitThere)))
+located-inverse d s bit f address bitThere =
+    let beside = address-beside d s bit f address bitThere in (
       λ e. let both = beside .0 e in (fuses-to d s bit f (both .0), both .1),
       λ both. beside .1 (fuses-from d s bit f (both .0), both .1),
     )

@@ -1,6 +1,5 @@
 -- Laws about the setting at a fuse.
 -- Assumes nothing.
-pub mod TableEntries
 pub mod CandidateInverse
 pub mod OnFuses
 pub mod Laws

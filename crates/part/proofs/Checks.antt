@@ -2,8 +2,6 @@
 -- Assumes nothing.
 use mathlib.Core.Path.{_≡_, refl, sym, _∙_}
 use mathlib.Core.Bool.{Bool, true, false, cond}
-use mathlib.Core.Option.{Option}
-use mathlib.Core.Option.Option.{none, some}
 use native.Mathlib.Omega.{arith}
 use Prim.Native.Nat.{ℕ}
 use borrow.Author.Tests.{eq-eqb, ne-eqb}
@@ -35,8 +33,3 @@ passed false x k v e = let z : _≡_ {A = ℕ} 0 1 = cc in absurd (omega arith)
 -- The result of an accepted answer.
 pub result : {A : Type 0} {x y : A} → _≡_ {A = Outcome A} (accepted x) (accepted y) → x ≡ y
 result e = cc
-
--- What is given only where a test passes.
-pub given : {A : Type 0} (t : Bool) (x y : A) → _≡_ {A = Option A} (cond t (some x) none) (some y) → (t ≡ true) × (x ≡ y)
-given true x y e = (refl, cc e)
-given false x y e = let z : _≡_ {A = ℕ} 0 1 = cc in absurd (omega arith)

@@ -3,6 +3,8 @@
 use mathlib.Core.Path.{_≡_, refl, sym, _∙_, ap}
 use mathlib.Core.Logic.{_↔_}
 use mathlib.Core.Bool.{Bool, true, false, cond, _&&_, _||_, true≢false}
+use mathlib.Core.Option.{Option}
+use mathlib.Core.Option.Option.{none, some}
 use Prim.Native.Nat.{ℕ, suc, _+_, _*_, _-_, _≤_, _<_}
 use native.Mathlib.Omega.{arith}
 use native.Mathlib.Nat.{suc-mul}
@@ -20,6 +22,11 @@ and-iff true b = (λ h. (refl, h), λ h. h .1)
 and-iff false b = (λ h. absurd (true≢false (sym h)), λ h. h .0)
 
 pub ruleset tests = (and-iff, lt-iff, eq-iff)
+
+-- What is given only where a test passes.
+pub given : {A : Type 0} (t : Bool) (x y : A) → _≡_ {A = Option A} (cond t (some x) none) (some y) → (t ≡ true) × (x ≡ y)
+given true x y e = (refl, cc e)
+given false x y e = let z : _≡_ {A = ℕ} 0 1 = cc in absurd (omega arith)
 
 -- A number is below another, or not.
 pub compared : (x y : ℕ) {P : Type 0} → (x < y → P) → (y ≤ x → P) → P

@@ -5,6 +5,10 @@ use mathlib.Core.Bool.{Bool, cond, _&&_, _||_}
 use lib.Dec.{eqb, ltb}
 use Rattle.part.specs.declared.Device.{Device}
 
+-- A device as a caller names it, by two numbers.
+abbrev pub device : ℕ → ℕ → Device
+device blocks class = record { blocks = blocks; class = class }
+
 -- A device is a block count n (2, 4, 6, 8, 12 or 16), and
 abbrev pub isBlockCount : ℕ → Bool
 isBlockCount n = eqb n 2 || eqb n 4 || eqb n 6 || eqb n 8 || eqb n 12 || eqb n 16

@@ -12,8 +12,9 @@ pub struct QuotientAndRest {
     pub rest: u32,
 }
 
-// A product, shifted: what stands here for a division. For a divisor d the factor is 2^shift / d, rounded up. It is
-// typed, since a constant that divides would be a division in the source; the proofs show that it is the right one.
+// A product, shifted: what stands here for a division. For a divisor d the factor is 2^shift / d, rounded up. Those of
+// fuse to address are typed, since a constant that divides would be a division in its source; the proofs show that each
+// is the right one.
 pub fn shifted_product(x: u32, factor: u64, shift: u32) -> u32
     requires { ⌜ (shift < 64) × (x * factor < 2 ^ 64) × (x * factor / 2 ^ shift < 2 ^ 32) ⌝ }
     ensures { λ r. ⌜ r ≡ x * factor / 2 ^ shift ⌝ }

@@ -15,7 +15,7 @@ use Prim.Native.Nat.{ℕ, _-_, _^_, _<_}
 use native.Mathlib.Omega.{arith}
 use lib.Dec.{eqb, ltb}
 use borrow.Author.Tests.{eqb-true, eq-eqb, ltb-true, lt-ltb}
-use Rattle.part.proofs.Facts.{and-iff}
+use Rattle.part.proofs.Facts.{given, and-iff}
 use Rattle.part.proofs.Tables.{allBelow, below-all}
 use Rattle.values.specs.Values.{bits2, named, flags, termAllocs, importAllocs, exportDirs, iobOeMuxes, outMuxes, oeMuxes, clkMuxes}
 use Rattle.values.specs.Values.{regModes, rstSetMuxes, uimOeMuxes, iobSlews, fclkMuxes, smallFoeMuxes, largeFoeMuxes, bitsIn, valueIn}
@@ -170,10 +170,6 @@ recovered : (k : Kind) (p : ℕ) → p < 2 ^ bitsIn k → candidate (valueIn k) 
 unfolding right AllRight
 recovered k p h = eqb-true _ _ (and-iff (eqb (candidate (valueIn k) (valueIn k p)) p) _ .0 (all-right k p h) .0)
 
-chosen : (t : Bool) (c p : ℕ) → cond t (some c) none ≡ some p → (t ≡ true) × (c ≡ p)
-chosen true c p e = (refl, cc)
-chosen false c p e = let z : _≡_ {A = ℕ} 0 1 = cc in absurd (omega arith)
-
 pub pattern-iff : (k : Kind) (v : Value) (p : ℕ) → (patternIn k v ≡ some p) ↔ ((p < 2 ^ bitsIn k) × (valueIn k p ≡ v))
 unfolding patternIn
 pattern-iff k v p = (to, from)
@@ -183,7 +179,7 @@ pattern-iff k v p = (to, from)
 
     to : patternIn k v ≡ some p → (p < 2 ^ bitsIn k) × (valueIn k p ≡ v)
     to e =
-        let is = chosen (ltb c (2 ^ bitsIn k) && same (valueIn k c) v) c p e in
+        let is = given (ltb c (2 ^ bitsIn k) && same (valueIn k c) v) c p e in
         let both = and-iff (ltb c (2 ^ bitsIn k)) (same (valueIn k c) v) .0 (is .0) in
         rw (← is .1) (ltb-true c (2 ^ bitsIn k) (both .0), same-iff (valueIn k c) v .0 (both .1))
 

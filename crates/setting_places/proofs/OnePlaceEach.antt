@@ -40,6 +40,14 @@ rows-few i h = le (below-all (λ i. ltb (rows (macrocellFieldAt i)) 4) macrocell
     le : ltb (rows (macrocellFieldAt i)) 4 ≡ true → rows (macrocellFieldAt i) ≤ 3
     le e = let l : rows (macrocellFieldAt i) < 4 = ltb-true _ 4 e in omega arith
 
+-- The first row of a field and how many there are, of a number that has both.
+module _ (i byte : ℕ) (h : i < macrocellFields) (e : byte ≡ firstRow (macrocellFieldAt i) * 4 + rows (macrocellFieldAt i)) where
+  pub first-in-byte : byte / 4 ≡ firstRow (macrocellFieldAt i)
+  first-in-byte = omega (arith, rows-few i h)
+
+  pub rows-in-byte : byte % 4 ≡ rows (macrocellFieldAt i)
+  rows-in-byte = omega (arith, rows-few i h)
+
 -- What holds of a row of a field.
 pub record OnRow (f : MacrocellField) (bit : ℕ) : Type 0 where
   pub from : 12 ≤ firstRow f

@@ -1,5 +1,5 @@
 -- Document 01's words about the places of USERCODE's bits, from place to bit; and fuses with their addresses, on the
--- part of two blocks.
+-- part of two blocks and the small class.
 use mathlib.Core.Path.{_≡_}
 use mathlib.Core.List.{List, [], _∷_, map}
 use mathlib.Core.Option.{Option}
@@ -13,7 +13,7 @@ use Rattle.settings.specs.declared.MacrocellField.the-variants.{Inv, OeMux}
 use Rattle.settings.specs.declared.GlobalField.the-variants.{FoeMux, Usercode}
 use Rattle.settings.specs.declared.Setting.{Setting}
 use Rattle.settings.specs.declared.Setting.the-variants.{Literal, WireAnd, Macrocell, Global}
-use Rattle.setting_places.specs.Places.{main, globalPlace}
+use Rattle.setting_places.specs.Places.{LocatedFuse, main, globalPlace}
 use Rattle.setting_places.specs.Operations.{locatedBit}
 
 -- (6,i,b) is bit 16+2(7-i)+(b-6), (7,i,b) is bit 2(7-i)+(b-6), i 0 to 7, b 6 or 7.
@@ -27,11 +27,11 @@ UsercodeRows =
 pub record Case : Type 0 where
   pub setting : Setting
   pub bit : ℕ
-  pub answer : Outcome (Option (ℕ × (ℕ × ℕ)))
+  pub answer : Outcome (Option LocatedFuse)
 
 -- It is this fuse, at this address and bit; the setting has no such bit; the device has no such setting.
-abbrev pub is : Setting → ℕ → (fuse address place : ℕ) → Case
-is s bit fuse address place = record { setting = s; bit = bit; answer = accepted (some (fuse, (address, place))) }
+abbrev pub is : Setting → ℕ → (fuse address bitThere : ℕ) → Case
+is s bit fuse address bitThere = record { setting = s; bit = bit; answer = accepted (some (fuse, (address, bitThere))) }
 
 abbrev pub noBit : Setting → ℕ → Case
 noBit s bit = record { setting = s; bit = bit; answer = accepted none }

@@ -7,7 +7,7 @@ use Rattle.part.specs.Place.{fuseOfPlace}
 use Rattle.part.specs.declared.Device.{Device}
 use Rattle.part.specs.declared.Place.{Place}
 use Rattle.part.specs.declared.BytePlace.the-variants as byte
-use Rattle.addresses.specs.Address.{addressOfByte}
+use Rattle.addresses.specs.Address.{addressOfPlace}
 use Rattle.settings.specs.Settings.{hasSetting}
 use Rattle.settings.specs.declared.Polarity.{Polarity}
 use Rattle.settings.specs.declared.Polarity.the-variants.{P, N}
@@ -132,7 +132,11 @@ fuseOf d s bit = fuseOfPlace d (placeOf s bit)
 
 -- The address of the byte that holds a bit of a setting, and the bit there: those of its place.
 unfoldable pub addressOf : Setting → ℕ → ℕ × ℕ
-addressOf s bit = (addressOfByte (placeOf s bit .byte), placeOf s bit .bit)
+addressOf s bit = addressOfPlace (placeOf s bit)
+
+-- A fuse, and its address and bit.
+abbrev pub LocatedFuse : Type 0
+LocatedFuse = ℕ × (ℕ × ℕ)
 
 -- A setting of the device, and one of its bits.
 abbrev pub lists : Device → Setting → ℕ → Bool

@@ -4,10 +4,10 @@ ghost use mathlib.Core.Path.{_≡_};
 ghost use mathlib.Core.Bool.{true};
 ghost use mathlib.Core.Option.Option.{some};
 ghost use Rattle.part.specs.Answer.{numberOutcome};
-ghost use Rattle.part.specs.Device.{known};
+ghost use Rattle.part.specs.Device.{device, known};
 ghost use Rattle.part.specs.Outcome.Outcome.{accepted};
 ghost use Rattle.part.specs.Place.{hasPlace, fuseOfPlace};
-ghost use Rattle.addresses.specs.Address.{addressOfByte};
+ghost use Rattle.addresses.specs.Address.{addressOfPlace};
 ghost use Rattle.setting_places.specs.Answer.{bitOutcome};
 ghost use Rattle.setting_places.specs.Operations.{bitsOfSetting, locatedBit, locatedByNumber};
 use addresses::DeviceAddress;
@@ -20,7 +20,7 @@ use settings::Setting;
 use settings::SettingAnswer;
 use settings::SettingNumber;
 
-pub mod numbered;
+mod numbered;
 pub mod places;
 
 // The fuse of a bit of a setting, the address of the byte that holds it and its bit there; `NoSuchBit` where the bit is
@@ -47,7 +47,7 @@ pub fn bits_of_setting(d: Device, s: Setting) -> NumberAnswer
 // The fuse at a place, with its address and its bit: no fuse is converted.
 fn located(d: Device, place: Place) -> BitAnswer
     requires { ⌜ (known d ≡ true) × (hasPlace d place ≡ true) ⌝ }
-    ensures { λ r. ⌜ bitOutcome r ≡ accepted (some (fuseOfPlace d place, (addressOfByte (place .byte), place .bit))) ⌝ }
+    ensures { λ r. ⌜ bitOutcome r ≡ accepted (some (fuseOfPlace d place, addressOfPlace place)) ⌝ }
 {
     let byte = place.byte;
     let fuse = part::places::fuse_of_place(d, place);
@@ -72,9 +72,10 @@ pub fn fuse_of_bit(d: Device, s: Setting, bit: u32) -> BitAnswer
     located(d, place)
 }
 
-// The same by setting number, through the setting. It takes block count and class, which the caller has in two words.
+// The same by setting number, through the setting. It takes two numbers for the device: a caller has them in two
+// registers, and would have to put them together.
 fn through_setting(blocks: u32, class: u32, number: SettingNumber, bit: u32) -> BitAnswer
-    ensures { λ r. ⌜ bitOutcome r ≡ locatedByNumber (record { blocks = blocks; class = class }) (number .0) bit ⌝ }
+    ensures { λ r. ⌜ bitOutcome r ≡ locatedByNumber (device blocks class) (number .0) bit ⌝ }
 {
     let d = Device { blocks, class };
     let answer = settings::setting_of_number(d, number);
@@ -85,8 +86,8 @@ fn through_setting(blocks: u32, class: u32, number: SettingNumber, bit: u32) -> 
 }
 
 // The same by setting number. The settings that are many, literals, wire-ANDs and the fields of macrocells, are found
-// without making the setting. All else goes through it, an unknown device too: asked for at two places, that way stays
-// a call of its own, and the others save no registers for it. Refused: 1, 4.
+// without making the setting. All else goes through it, an unknown device too: since `through_setting` is called twice,
+// the compiler leaves it a function of its own, and the other ways save no registers for it. Refused: 1, 4.
 pub fn fuse_of_numbered_bit(d: Device, number: SettingNumber, bit: u32) -> BitAnswer
     ensures { λ r. ⌜ bitOutcome r ≡ locatedByNumber d (number .0) bit ⌝ }
 {

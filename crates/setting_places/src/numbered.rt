@@ -10,7 +10,7 @@ ghost use Rattle.setting_places.specs.Answer.{bitOutcome};
 ghost use Rattle.setting_places.specs.Operations.{locatedBit};
 use super::BitAnswer;
 use super::located;
-use super::places::main_place;
+use super::places::macrocell_place;
 use super::places::place_of_literal;
 use super::places::rows_byte;
 use super::places::wire_and_place;
@@ -21,8 +21,10 @@ use settings::fields::MACROCELL_FIELDS;
 use settings::fields::MACROCELLS;
 use settings::numbers::wire_and_indices;
 
-// The factor that divides the position of a field by the fields of a macrocell, with the shift 18.
-const FIELD_FACTOR: u64 = (1 << 18) / MACROCELL_FIELDS as u64 + 1;
+// The factor that divides the position of a field by the fields of a macrocell, with its shift.
+const FIELD_SHIFT: u32 = 18;
+
+const FIELD_FACTOR: u64 = (1 << FIELD_SHIFT) / MACROCELL_FIELDS as u64 + 1;
 
 // A bit of a literal, by its number.
 pub fn literal_bit(d: Device, number: SettingNumber, bit: u32) -> BitAnswer
@@ -54,18 +56,13 @@ pub fn field_bit(d: Device, x: u32, bit: u32) -> BitAnswer
     requires { ⌜ (known d ≡ true) × (x < size d macrocellSettings) ⌝ }
     ensures { λ r. ⌜ bitOutcome r ≡ locatedBit d (inGroup d macrocellSettings x) bit ⌝ }
 {
-    let fields = divided(x, MACROCELL_FIELDS, FIELD_FACTOR, 18);
+    let fields = divided(x, MACROCELL_FIELDS, FIELD_FACTOR, FIELD_SHIFT);
     let rows = rows_byte(fields.rest);
     if rows % 4 <= bit {
         return BitAnswer::NoSuchBit;
     }
     let row = rows / 4 + bit;
-    let macrocell = fields.quotient % MACROCELLS;
-    let place = main_place(
-        fields.quotient / MACROCELLS,
-        row,
-        macrocell % 9,
-        6 + macrocell / 9,
-    );
+    let macrocells = fields.quotient;
+    let place = macrocell_place(macrocells / MACROCELLS, row, macrocells % MACROCELLS);
     located(d, place)
 }

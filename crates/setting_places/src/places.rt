@@ -26,11 +26,15 @@ use settings::SettingNumber;
 use settings::fields::polarity_at;
 use settings::numbers::TERM_LITERALS;
 
-// The factors that divide the number of a literal by the literals of a term, with the shift 24, and that of a term by
-// the columns, with the shift 16.
-const TERM_FACTOR: u64 = (1 << 24) / TERM_LITERALS as u64 + 1;
+// The factors that divide the number of a literal by the literals of a term, and that of a term by the columns, with
+// their shifts.
+const TERM_SHIFT: u32 = 24;
 
-const COLUMN_FACTOR: u64 = (1 << 16) / MAIN_COLUMNS as u64 + 1;
+const TERM_FACTOR: u64 = (1 << TERM_SHIFT) / TERM_LITERALS as u64 + 1;
+
+const COLUMN_SHIFT: u32 = 16;
+
+const COLUMN_FACTOR: u64 = (1 << COLUMN_SHIFT) / MAIN_COLUMNS as u64 + 1;
 
 // The rows of the macrocell fields, a byte for each: the first row in its upper six bits, how many in its lower two.
 const ROWS_0: u64 = (12 << 2 | 2)
@@ -67,7 +71,8 @@ const BLOCK_ROW: [u32; 6] = [67, 67, 68, 11, 68, 68];
 
 const BLOCK_COLUMN: [u32; 6] = [0, 1, 6, 3, 3, 0];
 
-// The word with the byte of a field: an array would be built anew at each call.
+// The word with the byte of a field: an array would be built anew at each call. By the remainder the compiler knows
+// that there are four words.
 fn rows_word(index: u32) -> u64
     requires { ⌜ index < macrocellFields ⌝ }
     ensures { λ r. ⌜ r / 2 ^ (8 * (index % 8)) % 2 ^ 8
@@ -143,7 +148,7 @@ pub fn bits_of(d: Device, s: Setting) -> u32
 }
 
 // A bit of the main area.
-pub fn main_place(block: u32, row: u32, column: u32, bit: u32) -> Place
+fn main_place(block: u32, row: u32, column: u32, bit: u32) -> Place
     ensures { λ r. ⌜ r ≡ main block row column bit ⌝ }
 {
     Place {
@@ -165,6 +170,13 @@ pub fn wire_and_place(block: u32, input: u32, source: u32, macrocell: u32) -> Pl
         },
         bit: input / 5,
     }
+}
+
+// The place of a row of a macrocell.
+pub fn macrocell_place(block: u32, row: u32, macrocell: u32) -> Place
+    ensures { λ r. ⌜ r ≡ main block row (macrocell % 9) (6 + macrocell / 9) ⌝ }
+{
+    main_place(block, row, macrocell % 9, 6 + macrocell / 9)
 }
 
 // Which of an input's two rows a polarity has: the row of input 0.
@@ -198,8 +210,8 @@ pub fn place_of_literal(d: Device, number: SettingNumber) -> Place
     requires { ⌜ (known d ≡ true) × (number .0 < start d wireAnds) ⌝ }
     ensures { λ r. ⌜ r ≡ placeOf (settingOf d (number .0)) 0 ⌝ }
 {
-    let terms = divided(number.0, TERM_LITERALS, TERM_FACTOR, 24);
-    let columns = divided(terms.quotient, MAIN_COLUMNS, COLUMN_FACTOR, 16);
+    let terms = divided(number.0, TERM_LITERALS, TERM_FACTOR, TERM_SHIFT);
+    let columns = divided(terms.quotient, MAIN_COLUMNS, COLUMN_FACTOR, COLUMN_SHIFT);
     let bits = divided(columns.quotient, 6, MAIN_COLUMN_FACTOR, 8);
     let row = literal_row(terms.rest / 2, polarity_at(terms.rest % 2));
     main_place(bits.quotient, row, columns.rest, bits.rest)
@@ -251,7 +263,7 @@ pub fn place_of(d: Device, s: Setting, bit: u32) -> Place
             field,
         } => {
             let row = row_of(settings::fields::macrocell_index(field), bit);
-            main_place(block, row, macrocell % 9, 6 + macrocell / 9)
+            macrocell_place(block, row, macrocell)
         }
         Setting::Block { block, field } => block_place(block, field),
         Setting::Global(field) => global_place(d, field, bit),

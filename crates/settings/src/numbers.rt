@@ -4,6 +4,7 @@ ghost use mathlib.Core.Path.{_≡_};
 ghost use mathlib.Core.Bool.{true};
 ghost use Prim.Native.Nat.{_+_, _*_, _/_, _^_, _<_};
 ghost use Rattle.part.specs.Device.{known, blocksOf};
+ghost use Rattle.settings.specs.Fields.{macrocells};
 ghost use Rattle.settings.specs.Settings.{hasSetting};
 ghost use Rattle.settings.specs.Order.{size, start, countOf, numberOf};
 ghost use Rattle.settings.specs.Order.{inGroup, settingOf};
@@ -199,19 +200,32 @@ pub struct WireAndIndices {
     pub macrocell: u32,
 }
 
-// The factor that divides the position of a wire-AND by the wire-ANDs of an input, with the shift 32.
+// The factors that divide the position of a wire-AND by the wire-ANDs of an input, for each block count, with the shift
+// 32.
+const INPUT_FACTOR_2: u64 = (1 << 32) / (2 * MACROCELLS as u64) + 1;
+
+const INPUT_FACTOR_4: u64 = (1 << 32) / (4 * MACROCELLS as u64) + 1;
+
+const INPUT_FACTOR_6: u64 = (1 << 32) / (6 * MACROCELLS as u64) + 1;
+
+const INPUT_FACTOR_8: u64 = (1 << 32) / (8 * MACROCELLS as u64) + 1;
+
+const INPUT_FACTOR_12: u64 = (1 << 32) / (12 * MACROCELLS as u64) + 1;
+
+const INPUT_FACTOR_16: u64 = (1 << 32) / (16 * MACROCELLS as u64) + 1;
+
 fn input_factor(d: Device) -> u64
     requires { ⌜ known d ≡ true ⌝ }
-    ensures { λ r. ⌜ r ≡ 2 ^ 32 / (blocksOf d * 18) + 1 ⌝ }
+    ensures { λ r. ⌜ r ≡ 2 ^ 32 / (blocksOf d * macrocells) + 1 ⌝ }
 {
     let n = d.blocks;
     match n {
-        2 => 119304648,
-        4 => 59652324,
-        6 => 39768216,
-        8 => 29826162,
-        12 => 19884108,
-        _ => 14913081,
+        2 => INPUT_FACTOR_2,
+        4 => INPUT_FACTOR_4,
+        6 => INPUT_FACTOR_6,
+        8 => INPUT_FACTOR_8,
+        12 => INPUT_FACTOR_12,
+        _ => INPUT_FACTOR_16,
     }
 }
 

@@ -705,10 +705,10 @@ fn past_digest(d: Device) -> u64 {
     settings_past(settings_past(0, d, just), d, far)
 }
 
-// A fuse with its address and bit, from their word; a refusal would be another fuse.
+// A fuse with its address and bit, from their word. The word of a refusal would show as a number that is no fuse.
 fn put_located(word: u64) {
     vectors::put(b" fuse", word >> 20);
-    vectors::put(b" address", word % 1048576 / 8);
+    vectors::put(b" address", word % (1 << 20) / 8);
     vectors::put(b" bit", word % 8);
 }
 

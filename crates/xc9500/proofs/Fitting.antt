@@ -1,5 +1,5 @@
 -- Every answer of the interface fits its word: the results are below the sizes of a part, and so are the values of the refusals.
--- Assumes nothing.
+-- And a caller reads the parts of a word that has several (parts-read).
 use mathlib.Core.Path.{_≡_, refl, _∙_, ap, subst}
 use mathlib.Core.Bool.{Bool, true, false, cond, _&&_}
 use mathlib.Core.List.{List}
@@ -16,7 +16,7 @@ use Rattle.part.specs.Outcome.{Outcome}
 use Rattle.part.specs.Outcome.Outcome.{accepted, refused}
 use Rattle.part.specs.Device.{known, fuseCount, imageBytes, readoutBytes, textBytes}
 use Rattle.part.specs.Place.{widthOf, fuseOfPlace, placeOfFuse}
-use Rattle.addresses.specs.Address.{addressOfByte, byteOfAddress, valid}
+use Rattle.addresses.specs.Address.{addressOfByte, addressOfPlace, byteOfAddress, valid}
 use Rattle.part.specs.Sizes.{sizesOf}
 use Rattle.addresses.specs.Convert.{addressOfFuse, fuseOfAddress}
 use Rattle.part.specs.declared.Device.{Device}
@@ -33,7 +33,7 @@ use Rattle.settings.specs.Operations.{countOfSettings, settingOfNumber, through
 use Rattle.settings.specs.declared.Setting.{Setting}
 use Rattle.settings.proofs.Numbering.{number-below, number-inverse}
 use Rattle.settings.proofs.CodeNumbers.{count-small}
-use Rattle.setting_places.specs.Places.{bitsOf, fuseOf, addressOf}
+use Rattle.setting_places.specs.Places.{LocatedFuse, bitsOf, fuseOf, addressOf}
 use Rattle.setting_places.proofs.Laws.{fuse-below, converted}
 use Rattle.fuse_settings.specs.Back.{settingAt}
 use Rattle.setting_places.specs.Operations.{locatedBit, locatedByNumber}
@@ -51,7 +51,7 @@ use Rattle.jedec_reader.specs.Reader.{verdict, toImageFromText}
 use Rattle.edit.specs.Edit.{aboveIn, ifClean}
 use Rattle.edit_by_number.specs.ByNumber.{readPattern, setPattern}
 use Rattle.xc9500.specs.Packed.{addressAndBit, fuseAndAddress, itself, noResult, orNone, packed, settingAndBit}
-use Rattle.xc9500.specs.Packed.{addressIn, bitIn, fuseIn, WordFits, WordFitsOrNone}
+use Rattle.xc9500.specs.Packed.{WordFits, WordFitsOrNone}
 use Rattle.xc9500.specs.Packed.{fusesIn, imageBytesIn, readoutBytesIn, textBytesIn}
 use Rattle.xc9500.specs.Words.{EachFits, PartsRead}
 
@@ -84,6 +84,11 @@ module _ (d : Device) where
   unfolding sizesOf
   text-bytes = chosen (WordFits textBytesIn) (known d) (omega arith, omega arith) text-small
 
+  -- An address has 17 bits and a bit 3.
+  address-fits : (fuse address bit : ℕ) → addressOfFuse d fuse ≡ accepted (address, bit) → (address < 2 ^ 17) × (bit < 8)
+  address-fits fuse address bit e =
+      let its = at-valid d fuse address bit e in (its .1, omega (arith, its .2, width-small (byteOfAddress address)))
+
   address-of-fuse : (fuse : ℕ) → WordFits addressAndBit (addressOfFuse d fuse)
   unfolding addressOfFuse
   address-of-fuse fuse =
@@ -92,9 +97,8 @@ module _ (d : Device) where
       by-cases (WordFits addressAndBit) fuse (fuseCount d)
       (λ l.
       let place = placeOfFuse d fuse in
-      let at : addressOfFuse d fuse ≡ accepted (addressOfByte (place .byte), place .bit) = rw (k, lt-ltb fuse (fuseCount d) l) in
-      let its = at-valid d fuse (addressOfByte (place .byte)) (place .bit) at in
-      omega (arith, its .1, its .2, width-small (byteOfAddress (addressOfByte (place .byte)))))
+      let at : addressOfFuse d fuse ≡ accepted (addressOfPlace place) = rw (k, lt-ltb fuse (fuseCount d) l) in
+      omega (arith, address-fits fuse (addressOfByte (place .byte)) (place .bit) at))
       (λ g. (omega arith, omega arith)))
 
   fuse-of-address : (address bit : ℕ) → WordFits itself (fuseOfAddress d address bit)
@@ -169,15 +173,11 @@ module _ (d : Device) where
   unfolding countOfSettings
   setting-count = chosen (WordFits itself) (known d) (omega arith, omega arith) (λ k. omega (arith, count-small d k))
 
-  -- A fuse has 19 bits, an address 17 and a bit 3.
-  abbrev PartsFit : Outcome (Option (ℕ × (ℕ × ℕ))) → Type 0
+  -- Of a located fuse: the fuse has 19 bits.
+  abbrev PartsFit : Outcome (Option LocatedFuse) → Type 0
   PartsFit (accepted none) = Unit {0}
   PartsFit (accepted (some q)) = (q .0 < 2 ^ 19) × (q .1 .0 < 2 ^ 17) × (q .1 .1 < 8)
   PartsFit (refused number value) = (0 < number) × (value < 2 ^ 56)
-
-  address-fits : (fuse address bit : ℕ) → addressOfFuse d fuse ≡ accepted (address, bit) → (address < 2 ^ 17) × (bit < 8)
-  address-fits fuse address bit e =
-      let its = at-valid d fuse address bit e in (its .1, omega (arith, its .2, width-small (byteOfAddress address)))
 
   located-fits : (s : Setting) (bit : ℕ) → PartsFit (locatedBit d s bit)
   unfolding locatedBit
@@ -186,7 +186,7 @@ module _ (d : Device) where
       (λ k.
       chosen PartsFit (hasSetting d s) (omega arith, omega arith)
       (λ h.
-      by-cases (λ (o : Option (ℕ × (ℕ × ℕ))). PartsFit (accepted o)) bit (bitsOf s)
+      by-cases (λ (o : Option LocatedFuse). PartsFit (accepted o)) bit (bitsOf s)
       (λ l.
       let at = address-fits (fuseOf d s bit) (addressOf s bit .0) (addressOf s bit .1) (converted d s bit k h l) in
       (omega (arith, fuse-below d s bit k h l, fuses-small d k), at .0, at .1))
@@ -201,7 +201,7 @@ module _ (d : Device) where
       chosen (ThroughFits bit) (known d) (omega arith, omega arith)
       (λ k. by-cases (ThroughFits bit) setting (countOf d) (λ l. located-fits (settingOf d setting) bit) (λ g. (omega arith, omega arith)))
 
-  parts-fit : (o : Outcome (Option (ℕ × (ℕ × ℕ)))) → PartsFit o → WordFitsOrNone fuseAndAddress o
+  parts-fit : (o : Outcome (Option LocatedFuse)) → PartsFit o → WordFitsOrNone fuseAndAddress o
   parts-fit (accepted none) h = tt
   parts-fit (accepted (some q)) h = omega arith
   parts-fit (refused number value) h = h
@@ -289,9 +289,8 @@ parts-read =
           let fits = address-fits d fuse address bit e in
           let is : word ≡ address * 8 + bit = w ∙ ap (packed addressAndBit) e in
           (omega arith, omega arith);
-      of-setting = λ d setting bit fuse address place word e w.
-          let o = locatedByNumber d setting bit in
+      of-setting = λ d setting bit fuse address bitThere word e w.
           let fits = subst (PartsFit d) e (setting-parts d setting bit) in
-          let is : word ≡ fuse * 2 ^ 20 + (address * 8 + place) = w ∙ ap (packed (orNone fuseAndAddress)) e in
+          let is : word ≡ fuse * 2 ^ 20 + (address * 8 + bitThere) = w ∙ ap (packed (orNone fuseAndAddress)) e in
           (omega arith, omega arith, omega arith);
     }

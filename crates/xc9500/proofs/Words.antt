@@ -3,6 +3,7 @@
 --   unpacked        a caller reads 0 and the result, or the refusal's number, which is not 0, and its value; where these have 56 bits
 --   unpacked-none   the same where a result may be missing, and it is XC9500_NONE exactly where there is none
 --   each-fits       every answer of the interface is such (proofs/Fitting.antt)
+--   parts-read      a caller reads address and bit of a fuse, and fuse, address and bit of a setting's bit (proofs/Fitting.antt)
 use mathlib.Core.Path.{_≡_, refl, _∙_, ap}
 use mathlib.Core.Logic.{_↔_}
 use mathlib.Core.Option.{Option}
@@ -14,7 +15,7 @@ use lib.Pow.{high, low}
 use Rattle.part.specs.Outcome.{Outcome}
 use Rattle.part.specs.Outcome.Outcome.{accepted, refused}
 use Rattle.xc9500.specs.Packed.{packed, orNone, resultIn, WordReads, WordFits, WordFitsOrNone}
-pub use Rattle.xc9500.proofs.Fitting.{each-fits}
+pub use Rattle.xc9500.proofs.Fitting.{each-fits, parts-read}
 
 pub packed-same : {A : Type 0} (word : A → ℕ) {w : ℕ} {answer o : Outcome A} → w ≡ packed word answer → answer ≡ o → w ≡ packed word o
 packed-same word e f = e ∙ ap (packed word) f

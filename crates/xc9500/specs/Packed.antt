@@ -10,6 +10,7 @@ use Rattle.part.specs.declared.Device.{Device}
 use Rattle.part.specs.declared.Sizes.{Sizes}
 use Rattle.settings.specs.Order.{numberOf}
 use Rattle.settings.specs.declared.Setting.{Setting}
+use Rattle.setting_places.specs.Places.{LocatedFuse}
 
 abbrev pub refusalWord : (number value : ℕ) → ℕ
 refusalWord number value = number * 2 ^ 56 + value
@@ -18,15 +19,12 @@ abbrev pub packed : {A : Type 0} → (A → ℕ) → Outcome A → ℕ
 packed result (accepted x) = result x
 packed result (refused number value) = refusalWord number value
 
-abbrev pub device : ℕ → ℕ → Device
-device blocks class = record { blocks = blocks; class = class }
-
 -- The result of an address and a bit: the address times 8 plus the bit.
 abbrev pub addressAndBit : ℕ × ℕ → ℕ
 addressAndBit p = p .0 * 8 + p .1
 
 -- The result of a fuse with its address and bit: the fuse times 2^20, plus that of the address and the bit.
-abbrev pub fuseAndAddress : ℕ × (ℕ × ℕ) → ℕ
+abbrev pub fuseAndAddress : LocatedFuse → ℕ
 fuseAndAddress q = q .0 * 2 ^ 20 + addressAndBit (q .1)
 
 -- The four results of the sizes of a device.
@@ -69,7 +67,7 @@ resultIn word = word % 2 ^ 56
 -- And of the parts of a result by its xc9500_result_address, xc9500_result_bit and xc9500_result_setting_fuse: an
 -- address has 17 bits, so address and bit are read alike from both results that have them.
 abbrev pub addressIn : (word : ℕ) → ℕ
-addressIn word = resultIn word / 8 % 2 ^ 17
+addressIn word = word / 8 % 2 ^ 17
 
 abbrev pub bitIn : (word : ℕ) → ℕ
 bitIn word = word % 8

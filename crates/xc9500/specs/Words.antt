@@ -1,5 +1,5 @@
 -- Every answer of the interface fits its word, so that a caller reads it back by `unpacked` and `unpacked-none`
--- (proofs/Words.antt): a field for each definition that the contracts of src/lib.rt pack. And the parts of results.
+-- (proofs/Words.antt): a field for each definition that the contracts of src/lib.rt pack. `PartsRead` is on its parts.
 use mathlib.Core.Path.{_≡_}
 use Prim.Native.Nat.{ℕ}
 use mathlib.Core.List.{List}
@@ -43,11 +43,12 @@ pub record EachFits : Type 0 where
   pub set : (d : Device) (layout : Layout) (bytes : List ℕ) (setting pattern : ℕ)
       → WordFits noResult (setPattern d layout bytes setting pattern)
 
--- A caller reads the address and the bit of a fuse as they are answered; so fuse, address and bit of a setting's bit.
+-- By the header's functions a caller reads address and bit of the word of a fuse, and fuse, address and bit of the word
+-- of a setting's bit, as they are answered.
 pub record PartsRead : Type 0 where
   pub of-fuse : (d : Device) (fuse address bit word : ℕ) → addressOfFuse d fuse ≡ accepted (address, bit)
       → word ≡ packed addressAndBit (addressOfFuse d fuse) → (addressIn word ≡ address) × (bitIn word ≡ bit)
-  pub of-setting : (d : Device) (setting bit fuse address place word : ℕ)
-      → locatedByNumber d setting bit ≡ accepted (some (fuse, (address, place)))
+  pub of-setting : (d : Device) (setting bit fuse address bitThere word : ℕ)
+      → locatedByNumber d setting bit ≡ accepted (some (fuse, (address, bitThere)))
       → word ≡ packed (orNone fuseAndAddress) (locatedByNumber d setting bit)
-      → (fuseIn word ≡ fuse) × (addressIn word ≡ address) × (bitIn word ≡ place)
+      → (fuseIn word ≡ fuse) × (addressIn word ≡ address) × (bitIn word ≡ bitThere)

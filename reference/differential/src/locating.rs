@@ -1,5 +1,5 @@
-// The comparison of a function that finds a setting's fuses, be it this or that program's, with the reference.
-// Every bit of every setting of every device, bits past the width, then edges, random numbers, unknown devices.
+// The comparison of a function that finds the fuses of settings with the reference.
+// It asks for every bit of every setting of every device, bits past a width, edges, random numbers, unknown devices.
 
 use crate::inputs::{edges, odd_devices, random_number};
 use crate::library::XC9500_NONE;
@@ -52,7 +52,7 @@ fn bits_past(setting: Setting, width: u32) -> Vec<u32> {
 /// Compares a function with the reference, and sees that it found every bit of every setting.
 pub fn compare_locating(name: &'static str, locate: Locate, random: &mut Random) {
     let mut tally = Tally::new(name);
-    // Tells whether the setting has the bit.
+    // Tells whether there is an answer other than none.
     let mut compare = |device: Device, setting: u32, bit: u32| {
         let answer = locate(device, setting, bit);
         let reference = locate_bit(device, setting, bit).map(word_of_located);

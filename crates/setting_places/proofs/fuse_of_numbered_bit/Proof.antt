@@ -10,18 +10,19 @@ use Rattle.part.specs.Outcome.{Outcome}
 use Rattle.part.specs.Device.{known}
 use Rattle.part.specs.declared.Device.{Device}
 use Rattle.part.proofs.Devices.{is-known}
-use Rattle.settings.specs.Order.{Group, start, size, countOf, inGroup, settingOf}
+use Rattle.settings.specs.Order.{start, size, countOf, inGroup, settingOf}
 use Rattle.settings.specs.Order.Group.{literals, wireAnds, macrocellSettings, blockSettings}
 use Rattle.settings.specs.Operations.{settingOfNumber}
 use Rattle.settings.specs.declared.Setting.{Setting}
 use Rattle.settings.proofs.Numbering.{ends}
 use Rattle.settings.proofs.Among.{among-wire-ands, among-macrocells}
+use Rattle.setting_places.specs.Places.{LocatedFuse}
 use Rattle.setting_places.specs.Operations.{locatedBit, locatedByNumber}
 use borrow.Author.Needs.{needs}
 use Rattle.setting_places.proofs.fuse_of_numbered_bit.Statement.{statement}
 use Rattle.setting_places.proofs.fuse_of_numbered_bit.Tie as tie
 
-module _ (d : Device) (x bit : ℕ) (o : Outcome (Option (ℕ × (ℕ × ℕ)))) (k : known d ≡ true) where
+module _ (d : Device) (x bit : ℕ) (o : Outcome (Option LocatedFuse)) (k : known d ≡ true) where
   for-setting : (s : Setting) → x < countOf d → s ≡ settingOf d x → o ≡ locatedBit d s bit → o ≡ locatedByNumber d x bit
   unfolding locatedByNumber settingOfNumber
   for-setting s l e f = rw (k, lt-ltb x (countOf d) l, ← e) f

@@ -11,13 +11,15 @@ use Rattle.part.specs.declared.Device.{Device}
 use Rattle.part.specs.declared.Place.{Place}
 use Rattle.part.proofs.Fuses.{has-byte}
 use Rattle.addresses.specs.Address.{addressOfByte}
+use Rattle.setting_places.specs.Places.{LocatedFuse}
+use Rattle.setting_places.proofs.AtPlace.{atPlace}
 use borrow.Author.Needs.{needs}
 use Rattle.setting_places.proofs.located.Statement.{statement}
 use Rattle.setting_places.proofs.located.Tie as tie
 
 together : (d : Device) (p : Place) (f a : ℕ) → f ≡ fuseOfPlace d p → a ≡ addressOfByte (p .byte)
-    → _≡_ {A = Outcome (Option (ℕ × (ℕ × ℕ)))} (accepted (some (f, (a, p .bit))))
-    (accepted (some (fuseOfPlace d p, (addressOfByte (p .byte), p .bit))))
+    → _≡_ {A = Outcome (Option LocatedFuse)} (accepted (some (f, (a, p .bit))))
+    (atPlace d p)
 together d p f a e g = rw (e, g)
 
 fuse-of-place-requires : tie.Need-fuse-of-place-requires

@@ -13,13 +13,14 @@ use Rattle.settings.specs.Operations.{settingOfNumber}
 use Rattle.settings.specs.declared.Setting.{Setting}
 use Rattle.settings.specs.declared.SettingAnswer.{SettingAnswer}
 use Rattle.settings.specs.declared.SettingAnswer.the-variants as setting
+use Rattle.setting_places.specs.Places.{LocatedFuse}
 use Rattle.setting_places.specs.Operations.{locatedBit, locatedByNumber}
 use borrow.Author.Needs.{needs}
 use Rattle.setting_places.proofs.through_setting.Statement.{statement}
 use Rattle.setting_places.proofs.through_setting.Tie as tie
 
 module _ (d : Device) (x bit : ℕ) (a : SettingAnswer) (e : settingOutcome a ≡ settingOfNumber d x) where
-  its-bit : (s : Setting) (o : Outcome (Option (ℕ × (ℕ × ℕ)))) → a ≡ setting.Setting s → o ≡ locatedBit d s bit
+  its-bit : (s : Setting) (o : Outcome (Option LocatedFuse)) → a ≡ setting.Setting s → o ≡ locatedBit d s bit
       → o ≡ locatedByNumber d x bit
   unfolding locatedByNumber
   its-bit s o f g = rw (← e, f) g

@@ -354,7 +354,7 @@ type Asked = Vec<(u32, u32)>;
 
 /// The literals of a block, and the fields of its macrocells.
 const LITERALS: u32 = 18 * 5 * 72;
-const MACROCELL_FIELDS: u32 = 18 * 27;
+const FIELDS: u32 = 18 * 27;
 
 /// Random literals of the last block with random states.
 fn literals(device: Device) -> Asked {
@@ -385,10 +385,10 @@ fn wire_and_bits(device: Device) -> Asked {
 /// Random fields of the last block's macrocells, with a random bit of each.
 fn field_bits(device: Device) -> Asked {
     let blocks = device.blocks;
-    let first = (LITERALS + 36 * 18 * blocks) * blocks + MACROCELL_FIELDS * (blocks - 1);
+    let first = (LITERALS + 36 * 18 * blocks) * blocks + FIELDS * (blocks - 1);
     let mut random = Random::new(0x9500_1004);
     let mut field = || {
-        let setting = first + random.below(u64::from(MACROCELL_FIELDS)) as u32;
+        let setting = first + random.below(u64::from(FIELDS)) as u32;
         let width = reference::setting_width(device, setting).expect("the setting is there");
         (setting, random.below(u64::from(width)) as u32)
     };

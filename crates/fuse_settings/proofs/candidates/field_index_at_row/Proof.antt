@@ -4,9 +4,11 @@ use mathlib.Core.Path.{_≡_, refl, _∙_, ap}
 use mathlib.Core.List.{List, [], _∷_}
 use Prim.Native.Nat.{ℕ, _+_, _-_, _<_, _≤_}
 use native.Mathlib.Omega.{arith}
+use lib.Dec.{eqb}
 use lib.ListN.{getD}
+use borrow.Author.Tests.{eqb-true}
+use Rattle.part.proofs.Tables.{below-all}
 use Rattle.fuse_settings.specs.Back.{lastUpTo, fieldIndexAtRow}
-use Rattle.fuse_settings.proofs.TableEntries.{entries}
 use borrow.Author.Needs.{needs}
 use Rattle.fuse_settings.proofs.candidates.field_index_at_row.Statement.{statement}
 use Rattle.fuse_settings.proofs.candidates.field_index_at_row.Tie as tie
@@ -20,7 +22,8 @@ right : (row : ℕ) → 12 ≤ row → row < 55 → getD table (row - 12) 0 ≡ 
 unfolding table fieldIndexAtRow lastUpTo
 right row low high =
     let back : 12 + (row - 12) ≡ row = omega arith in
-    entries table (λ i. fieldIndexAtRow (12 + i)) 43 refl (row - 12) (omega arith) ∙ ap fieldIndexAtRow back
+    eqb-true _ _ (below-all (λ i. eqb (getD table i 0) (fieldIndexAtRow (12 + i))) 43 refl (row - 12) (omega arith))
+    ∙ ap fieldIndexAtRow back
 
 sub-result : tie.Need-sub-result
 sub-result c = search needs

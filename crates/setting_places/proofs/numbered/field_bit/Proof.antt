@@ -12,7 +12,7 @@ use Rattle.settings.specs.Order.{size, macrocellFieldAt, inGroup}
 use Rattle.settings.specs.Order.Group.{macrocellSettings}
 use Rattle.settings.proofs.Among.{has-in-group}
 use Rattle.setting_places.specs.Places.{main, firstRow, rows, placeOf, bitsOf}
-use Rattle.setting_places.proofs.OnePlaceEach.{rows-few}
+use Rattle.setting_places.proofs.OnePlaceEach.{first-in-byte, rows-in-byte}
 use Rattle.setting_places.proofs.AtPlace.{no-bit, there, at-place}
 use borrow.Author.Needs.{needs}
 use Rattle.setting_places.proofs.numbered.field_bit.Statement.{statement}
@@ -32,7 +32,7 @@ module _ (d : Device) (x i byte : ℕ) (ei : i ≡ x % 27) (e : byte ≡ firstRo
 
   width : byte % 4 ≡ bitsOf (inGroup d macrocellSettings x)
   unfolding bitsOf
-  width = rw index (omega (arith, rows-few i (omega arith)))
+  width = rw index (rows-in-byte i byte (omega arith) e)
 
   its-place : (m bit : ℕ) (p : Place) → m ≡ x / 27 → p ≡ main (m / 18) (byte / 4 + bit) (m % 18 % 9) (6 + m % 18 / 9)
       → p ≡ placeOf (inGroup d macrocellSettings x) bit
@@ -40,8 +40,7 @@ module _ (d : Device) (x i byte : ℕ) (ei : i ≡ x % 27) (e : byte ≡ firstRo
   its-place m bit p em g =
       let block : x / 486 ≡ m / 18 = omega arith in
       let macrocell : x % 486 / 27 ≡ m % 18 = omega arith in
-      let row : byte / 4 ≡ firstRow (macrocellFieldAt i) = omega (arith, rows-few i (omega arith)) in
-      rw (index, block, macrocell, ← row) g
+      rw (index, block, macrocell, ← first-in-byte i byte (omega arith) e) g
 
 divided-requires : tie.Need-divided-requires
 divided-requires c κs = search (needs, field-quotient)
@@ -55,11 +54,8 @@ returns c = search (needs, has-in-group, width, no-bit)
 add-row : tie.Need-add-row
 add-row c = search needs
 
-add-main-place : tie.Need-add-main-place
-add-main-place c = search needs
-
-main-place-requires : tie.Need-main-place-requires
-main-place-requires c κs = search needs
+macrocell-place-requires : tie.Need-macrocell-place-requires
+macrocell-place-requires c κs = search needs
 
 located-requires : tie.Need-located-requires
 located-requires c κs = search (needs, has-in-group, width, its-place, there)
@@ -75,7 +71,6 @@ field-bit-spec =
     rows-byte-requires
     returns
     add-row
-    add-main-place
-    main-place-requires
+    macrocell-place-requires
     located-requires
     returns-2)

@@ -1,9 +1,7 @@
 -- `fuse_of` meets its contract: the place is the device's, and its fuse is the fuse of the bit.
 -- Assumes nothing.
 use mathlib.Core.Path.{_≡_}
-use mathlib.Core.Bool.{true}
-use Prim.Native.Nat.{ℕ, _<_}
-use Rattle.part.specs.Device.{known}
+use Prim.Native.Nat.{ℕ}
 use Rattle.part.specs.Place.{fuseOfPlace}
 use Rattle.part.specs.declared.Device.{Device}
 use Rattle.part.specs.declared.Place.{Place}

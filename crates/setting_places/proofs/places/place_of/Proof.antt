@@ -70,11 +70,8 @@ row-of-requires c κs =
     (c .before .before .before .before .pre .1) (c .before .before .s3 .given .1) (c .macrocell-index .ensures)
     (c .before .before .before .before .args .bit) (c .before .before .before .before .pre .2)
 
-add-main-place : tie.Need-add-main-place
-add-main-place c = search needs
-
-main-place-requires : tie.Need-main-place-requires
-main-place-requires c κs = search needs
+macrocell-place-requires : tie.Need-macrocell-place-requires
+macrocell-place-requires c κs = search needs
 
 enum-known-s-4 : tie.Need-enum-known-s-4
 enum-known-s-4 c = search needs
@@ -121,8 +118,7 @@ place-of-spec =
     enum-known-s-3
     macrocell-index-requires
     row-of-requires
-    add-main-place
-    main-place-requires
+    macrocell-place-requires
     enum-known-s-4
     block-place-requires
     enum-known-s-5

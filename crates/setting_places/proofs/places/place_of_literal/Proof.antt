@@ -12,6 +12,7 @@ use Rattle.settings.specs.Order.{start, polarityAt, inGroup, settingOf}
 use Rattle.settings.specs.Order.Group.{literals, wireAnds}
 use Rattle.settings.specs.declared.Polarity.{Polarity}
 use Rattle.settings.specs.declared.Setting.{Setting}
+use Rattle.settings.proofs.CodeNumbers.{whole}
 use Rattle.settings.proofs.Among.{among-literals}
 use Rattle.setting_places.specs.Places.{main, literalRow, placeOf}
 use borrow.Author.Needs.{needs}
@@ -32,15 +33,12 @@ module _ (x : ℕ) where
   in-term : x % 6480 % 360 % 72 ≡ x % 72
   in-term = omega arith
 
-  whole : x % 72 % 2 / 1 ≡ x % 72 % 2
-  whole = omega arith
-
 the-place : (d : Device) (x row : ℕ) (p : Polarity) (r : Place) → x < start d wireAnds → p ≡ polarityAt (x % 72 % 2)
     → row ≡ literalRow (x % 72 / 2) p → r ≡ main (x / 72 / 15 / 6) row (x / 72 % 15) (x / 72 / 15 % 6) → r ≡ placeOf (settingOf d x) 0
 unfolding placeOf
 the-place d x row p r l e f g =
     let same : placeOf (inGroup d literals x) 0 ≡ main (x / 72 / 15 / 6) row (x / 72 % 15) (x / 72 / 15 % 6) =
-    rw (block x, column x, bit x, in-term x, whole x, ← e, ← f) in
+    rw (block x, column x, bit x, in-term x, whole (x % 72 % 2), ← e, ← f) in
     g ∙ sym same ∙ ap (λ (s : Setting). placeOf s 0) (among-literals d x (start d wireAnds) 0 (inGroup d literals x) refl l refl)
 
 -- With what the code has found: the term of the number and what is left, its columns and its bits.

@@ -1,25 +1,15 @@
 -- `rows_of` meets its contract: no field has more than three rows.
 -- Assumes nothing.
-use mathlib.Core.Path.{_≡_}
-use Prim.Native.Nat.{ℕ, _+_, _*_, _%_, _<_}
-use native.Mathlib.Omega.{arith}
-use Rattle.settings.specs.Fields.{macrocellFields}
-use Rattle.settings.specs.Order.{macrocellFieldAt}
-use Rattle.setting_places.specs.Places.{firstRow, rows}
-use Rattle.setting_places.proofs.OnePlaceEach.{rows-few}
+use Rattle.setting_places.proofs.OnePlaceEach.{rows-in-byte}
 use borrow.Author.Needs.{needs}
 use Rattle.setting_places.proofs.places.rows_of.Statement.{statement}
 use Rattle.setting_places.proofs.places.rows_of.Tie as tie
-
-in-byte : (i byte : ℕ) → i < macrocellFields → byte ≡ firstRow (macrocellFieldAt i) * 4 + rows (macrocellFieldAt i)
-    → byte % 4 ≡ rows (macrocellFieldAt i)
-in-byte i byte h e = omega (arith, rows-few i h)
 
 rows-byte-requires : tie.Need-rows-byte-requires
 rows-byte-requires c κs = search needs
 
 returns : tie.Need-returns
-returns c = search (needs, in-byte)
+returns c = search (needs, rows-in-byte)
 
 pub rows-of-spec : {M : Type 1} → statement M
 rows-of-spec = tie.close (tie.spec rows-byte-requires returns)

@@ -2,7 +2,6 @@
 -- Assumes nothing.
 use mathlib.Core.Path.{refl}
 use Rattle.setting_places.specs.Places.{placeOf}
-use borrow.Author.Needs.{needs}
 use Rattle.setting_places.proofs.places.wire_and_place.Statement.{statement}
 use Rattle.setting_places.proofs.places.wire_and_place.Tie as tie
 
