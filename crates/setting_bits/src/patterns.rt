@@ -58,15 +58,19 @@ pub fn location_at(d: Device, layout: Layout, place: Place) -> Location
     match layout {
         Layout::Image => {
             let fuse = part::places::fuse_of_place(d, place);
+            let index = (fuse.0 / 8) as usize;
             Location {
-                index: (fuse.0 / 8) as usize,
+                index,
                 bit: fuse.0 % 8,
             }
         }
-        Layout::Readout => Location {
-            index: addresses::bytes::index_of_byte(d, byte) as usize,
-            bit: place.bit,
-        },
+        Layout::Readout => {
+            let index = addresses::bytes::index_of_byte(d, byte) as usize;
+            Location {
+                index,
+                bit: place.bit,
+            }
+        }
     }
 }
 

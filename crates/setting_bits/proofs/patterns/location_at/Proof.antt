@@ -35,8 +35,8 @@ enum-told c = search needs
 fuse-of-place-requires : tie.Need-fuse-of-place-requires
 fuse-of-place-requires c κs = search needs
 
-cast-t8 : tie.Need-cast-t8
-cast-t8 c = search needs
+cast-index : tie.Need-cast-index
+cast-index c = search needs
 
 enum-told-2 : tie.Need-enum-told-2
 enum-told-2 c = search needs
@@ -44,8 +44,8 @@ enum-told-2 c = search needs
 index-of-byte-requires : tie.Need-index-of-byte-requires
 index-of-byte-requires c κs = search (needs, has-byte)
 
-cast-t11 : tie.Need-cast-t11
-cast-t11 c = search needs
+cast-index-2 : tie.Need-cast-index-2
+cast-index-2 c = search needs
 
 returns : tie.Need-returns
 returns c = (search (needs, image-byte), search (needs, image-bit))
@@ -59,9 +59,9 @@ location-at-spec =
     (tie.spec
     enum-told
     fuse-of-place-requires
-    cast-t8
+    cast-index
     enum-told-2
     index-of-byte-requires
-    cast-t11
+    cast-index-2
     returns
     returns-2)
