@@ -24,7 +24,7 @@ use Rattle.settings.specs.declared.Setting.{Setting}
 use Rattle.settings.proofs.Numbering.{ends}
 use Rattle.setting_places.specs.Places.{placeOf, bitsOf, fuseOf}
 use Rattle.setting_places.proofs.OnePlaceEach.{has-place}
-use Rattle.setting_places.proofs.AtPlace.{has-literal, literal-bits}
+use Rattle.setting_places.proofs.AtPlace.{literal-there, literal-bits}
 use Rattle.setting_bits.specs.declared.Layout.{Layout}
 use Rattle.setting_bits.specs.declared.Layout.the-variants.{Image, Readout}
 use Rattle.setting_bits.specs.SettingBits.{isReadout, bytesOf, byteOf, bitIn, patternAt, withBits, withPattern}
@@ -51,7 +51,7 @@ module _ (d : Device) (x : ℕ) (l : x < start d wireAnds) where
   one-bit = sym (literal-bits d x l)
 
   its : hasSetting d (settingOf d x) ≡ true
-  its = has-literal d x l
+  its = literal-there d x l
 
   bit-0 : 0 < bitsOf (settingOf d x)
   bit-0 = omega (arith, one-bit)

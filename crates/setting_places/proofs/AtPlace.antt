@@ -56,8 +56,8 @@ module _ (d : Device) (s : Setting) (k : known d ≡ true) (h : hasSetting d s �
 
 -- A literal by its number: the device has it, and it has one bit.
 module _ (d : Device) (x : ℕ) (l : x < start d wireAnds) where
-  pub has-literal : hasSetting d (settingOf d x) ≡ true
-  has-literal = number-inverse d x (omega (arith, ends d literals)) .0
+  pub literal-there : hasSetting d (settingOf d x) ≡ true
+  literal-there = number-inverse d x (omega (arith, ends d literals)) .0
 
   pub literal-bits : 1 ≡ bitsOf (settingOf d x)
   unfolding bitsOf
