@@ -1,5 +1,7 @@
 // Fuse numbers and device addresses, and the two conversions between them.
 // The definitions that the contracts cite stand in specs/, the laws about them in proofs/Laws.antt.
+#![tactic(auto)]
+
 ghost use Rattle.std.specs.Prelude.{◌≡◌};
 ghost use Rattle.addresses.specs.Answer.{address_outcome, fuse_outcome};
 ghost use Rattle.addresses.specs.Convert.{address_of_fuse, fuse_of_address};
@@ -9,16 +11,16 @@ use part::{Device, FuseNumber, Place, Refusal};
 pub mod bytes;
 
 // The address of a byte of the device, as the programmer sends it.
-#[derive(Drop)]
+#[derive(Clone, Copy)]
 pub struct DeviceAddress(pub u32);
 
-#[derive(Drop)]
+#[derive(Clone, Copy)]
 pub enum AddressAnswer {
     At(DeviceAddress, u32),
     Refused(Refusal),
 }
 
-#[derive(Drop)]
+#[derive(Clone, Copy)]
 pub enum FuseAnswer {
     Fuse(FuseNumber),
     Refused(Refusal),

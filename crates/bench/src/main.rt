@@ -1,5 +1,7 @@
 // The bench program: reads a text from standard input and writes the counts of its image, or its refusal.
 // What it writes is decided by `report::report`; no contract can say what is read or written.
+#![tactic(auto)]
+
 ghost use Rattle.std.specs.Prelude.{◌≡◌, length};
 
 use libc::{STDIN_FILENO, STDOUT_FILENO};

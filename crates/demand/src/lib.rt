@@ -1,5 +1,7 @@
 // Demand 3 as a run of calls: a setting is set in an image and straight in its readout, both are converted, and
 // settings are read before and after. It cites specs/BothWays.antt here and specs/Demand.antt of crate `edit`.
+#![tactic(auto)]
+
 ghost use Rattle.std.specs.Prelude.{◌≡◌};
 ghost use Rattle.demand.specs.BothWays.{ReadInBoth, copied, Begun, SetInBoth, BothConverted, BothWays};
 
@@ -9,28 +11,28 @@ use settings::Setting;
 use values::Value;
 
 // What reading a setting in an image and in a readout answered.
-#[derive(Drop)]
+#[derive(Clone, Copy)]
 pub struct BothRead {
     pub image: ValueAnswer,
     pub readout: ValueAnswer,
 }
 
 // What two calls without a result answered, one on an image and one on a readout.
-#[derive(Drop)]
+#[derive(Clone, Copy)]
 pub struct BothDone {
     pub image: DoneAnswer,
     pub readout: DoneAnswer,
 }
 
 // What the calls before the change answered: the conversion, and reading the other setting.
-#[derive(Drop)]
+#[derive(Clone, Copy)]
 pub struct BeforeAnswer {
     pub converted: DoneAnswer,
     pub other: BothRead,
 }
 
 // What the calls of `both_ways` answered.
-#[derive(Drop)]
+#[derive(Clone, Copy)]
 pub struct BothAnswer {
     pub before: BeforeAnswer,
     pub set: BothDone,

@@ -1,5 +1,7 @@
 // What changed between two images of one device, by name: how many fuses differ, and a line for each.
 // The definitions that the contract cites stand in specs/Differences.antt, the laws about them in proofs/Laws.antt.
+#![tactic(auto)]
+
 ghost use Rattle.part.specs.Answer.{number_outcome};
 ghost use Rattle.part.specs.Outcome.{Written};
 ghost use Rattle.differences.specs.Differences.{to_differences, with_differences};

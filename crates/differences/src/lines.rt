@@ -11,7 +11,7 @@ use names::pieces::{Name, Piece};
 use part::Device;
 
 // A line in pieces: the number, the two states, the name, and what stands behind it.
-#[derive(Drop)]
+#[derive(Clone, Copy)]
 pub struct Line {
     pub number: Piece,
     pub states: Piece,

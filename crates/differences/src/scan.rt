@@ -11,7 +11,7 @@ use super::words::{skip_same, word_at};
 use part::Device;
 
 // How many fuses differ, and how many bytes their lines have.
-#[derive(Drop)]
+#[derive(Clone, Copy)]
 pub struct Tally {
     pub fuses: u32,
     pub bytes: usize,

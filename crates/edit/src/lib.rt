@@ -1,5 +1,7 @@
 // Reading and setting a setting, in an image and in a readout, by name and value.
 // The definitions stand in specs/Edit.antt; demand 3 as one record in specs/Demand.antt.
+#![tactic(auto)]
+
 ghost use Rattle.std.specs.Prelude.{◌≡◌};
 ghost use Rattle.part.specs.Answer.{done_outcome};
 ghost use Rattle.part.specs.Outcome.{Written};

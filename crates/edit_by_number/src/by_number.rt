@@ -16,7 +16,7 @@ use setting_bits::Layout;
 use settings::SettingNumber;
 
 // Where a literal stands, and whether its byte has a bit above its width: an image has no such bits.
-#[derive(Drop)]
+#[derive(Clone, Copy)]
 struct LiteralLocation {
     index: usize,
     bit: u32,

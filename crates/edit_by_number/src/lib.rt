@@ -1,5 +1,7 @@
 // Reading and setting a setting, in an image and in a readout, by setting number and pattern.
 // The definitions stand in specs/ByNumber.antt.
+#![tactic(auto)]
+
 ghost use Rattle.std.specs.Prelude.{◌≡◌};
 ghost use Rattle.part.specs.Answer.{number_outcome, done_outcome};
 ghost use Rattle.part.specs.Outcome.{Written};

@@ -1,5 +1,7 @@
 // Prints what reading and setting one setting answer in an image and in a readout: document 01's case, then each
 // device; then both ways at once. The file stdout beside src/ is what the independent program prints.
+#![tactic(auto)]
+
 use part::{Device, DoneAnswer};
 use setting_values::ValueAnswer;
 use settings::{MacrocellField, Setting};

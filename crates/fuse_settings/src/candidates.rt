@@ -20,7 +20,7 @@ const FIELD_INDEX_AT_ROW: [u32; 43] = [
 ];
 
 // A setting and a bit that may be those at a place.
-#[derive(Drop)]
+#[derive(Clone, Copy)]
 pub struct Candidate {
     pub setting: Setting,
     pub bit: u32,

@@ -1,5 +1,7 @@
 // The setting at each fuse of a part, if a setting has it: the way back from the places of `setting_places`.
 // The definitions that the contract cites stand in specs/, the laws about them in proofs/Laws.antt.
+#![tactic(auto)]
+
 ghost use Rattle.std.specs.Prelude.{◌≡◌};
 ghost use Rattle.fuse_settings.specs.Answer.{named_outcome};
 ghost use Rattle.fuse_settings.specs.Operations.{setting_at_fuse};
@@ -10,7 +12,7 @@ use settings::Setting;
 pub mod candidates;
 
 // The setting that a fuse belongs to, and which of its bits the fuse is.
-#[derive(Drop)]
+#[derive(Clone, Copy)]
 pub enum NamedAnswer {
     Bit(Setting, u32),
     Unnamed,

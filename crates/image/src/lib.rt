@@ -1,5 +1,7 @@
 // The fuse image: the fuse sum and the zero count over it. The state of a fuse and the change of one stand in
 // `bytes`. The definitions stand in specs/Image.antt.
+#![tactic(auto)]
+
 ghost use Rattle.std.specs.Prelude.{◌≡◌};
 ghost use Rattle.part.specs.Answer.{number_outcome};
 ghost use Rattle.image.specs.Image.{fuse_sum, zero_count};

@@ -1,5 +1,7 @@
 // JEDEC texts, for any fuse count and any line pattern: STX, ETX and the blanks of a text, which all that read one
 // share. What a text means and what the writer writes is defined in specs/.
+#![tactic(auto)]
+
 ghost use Rattle.std.specs.Prelude.{◌≡◌};
 ghost use Rattle.jedec.specs.Characters.{is_blank};
 

@@ -8,7 +8,7 @@ use jedec::is_blank;
 use jedec_judge::digits::hex_value;
 
 // What follows ETX: a transmission sum, or the offset of the first wrong byte.
-#[derive(Drop)]
+#[derive(Clone, Copy)]
 pub enum TailSays {
     Given(u32),
     Wrong(usize),

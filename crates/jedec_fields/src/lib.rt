@@ -1,5 +1,7 @@
 // Fields of a JEDEC text by position: where the next one stands, and what it says.
 // The functions for the reader stand in `scan`, and L fields, which most fields of a text are, in `lists`.
+#![tactic(auto)]
+
 use jedec_judge::FieldSays;
 
 mod lists;
@@ -7,7 +9,7 @@ pub mod scan;
 
 // What stands next in a text: a field up to its `*`, with what it says, the ETX after the fields, or neither, where the
 // text ends early.
-#[derive(Drop)]
+#[derive(Clone, Copy)]
 pub enum NextSays {
     Field {
         start: usize,

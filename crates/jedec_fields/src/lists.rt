@@ -7,7 +7,7 @@ use jedec_judge::digits::leading_digits;
 use jedec_runs::states::{bits_at, blank_at, states_at};
 
 // Bytes from the first on that are 0, 1 and blanks, how many states they write, and these states if they are few.
-#[derive(Drop)]
+#[derive(Clone, Copy)]
 pub struct StatesRun {
     pub length: usize,
     pub count: usize,
@@ -16,7 +16,7 @@ pub struct StatesRun {
 
 // An L field by what follows the L: its first fuse, how many bytes stand before the states, how many states there are,
 // the states if they are few, and how many bytes stand before its `*`.
-#[derive(Drop)]
+#[derive(Clone, Copy)]
 pub enum ListField {
     Good {
         first: u32,

@@ -5,14 +5,14 @@ ghost use Rattle.jedec.specs.Characters.{decimal_value, hex_value, number_in, su
 ghost use Rattle.jedec_judge.specs.Judged.{value_or, number_read, DigitsStand};
 
 // A number, or bytes that write none.
-#[derive(Drop)]
+#[derive(Clone, Copy)]
 pub enum Digits {
     Number(u32),
     Wrong,
 }
 
 // Decimal digits from the first byte on, and the number that they write.
-#[derive(Drop)]
+#[derive(Clone, Copy)]
 pub struct LeadingDigits {
     pub value: u32,
     pub length: usize,

@@ -1,5 +1,7 @@
 // Fields of a JEDEC text judged by their bytes: numbers and sums, and what a field says by its letters.
 // What a field may say is defined in crate `jedec`, and how the answers here say it in specs/.
+#![tactic(auto)]
+
 ghost use Rattle.std.specs.Prelude.{◌≡◌};
 ghost use Rattle.jedec.specs.Characters.{is_mark};
 ghost use Rattle.jedec.specs.Cut.{holds_mark};
@@ -15,7 +17,7 @@ pub const STATES_IN_WORD: usize = 64 - 8;
 
 // What a field says. Of an L field these are the first fuse, how many bytes after the L stand before the states, how
 // many states there are, and the states themselves, the first as the lowest bit, if they are at most `STATES_IN_WORD`.
-#[derive(Drop)]
+#[derive(Clone, Copy)]
 pub enum FieldSays {
     Count(u32),
     Start(u32),

@@ -10,14 +10,14 @@ ghost use Rattle.jedec_progress.specs.Progress.{with_sum, FewStates, after_field
 use jedec_judge::FieldSays;
 
 // A number that a field gave, and where the field starts.
-#[derive(Drop)]
+#[derive(Clone, Copy)]
 pub enum OptionalField {
     None,
     Some { at: u32, value: u32 },
 }
 
 // A number, if there is one.
-#[derive(Drop)]
+#[derive(Clone, Copy)]
 pub enum OptionalNumber {
     None,
     Some(u32),
@@ -25,7 +25,7 @@ pub enum OptionalNumber {
 
 // What the fields so far gave: QF, the start state, whether there was an L, where the last one ended, where the first
 // misplaced one starts, the first fuse that no L gave (unless one is misplaced), and C.
-#[derive(Drop)]
+#[derive(Clone, Copy)]
 pub struct Progress {
     pub count: OptionalField,
     pub start: OptionalNumber,

@@ -1,5 +1,7 @@
 // Text to image: the JEDEC reader.
 // The definition stands in specs/Reader.antt, on top of what a text means in crate `jedec`.
+#![tactic(auto)]
+
 ghost use Rattle.part.specs.Answer.{done_outcome};
 ghost use Rattle.part.specs.Outcome.{Written};
 ghost use Rattle.jedec_reader.specs.Reader.{to_image_from_text, image_in};

@@ -1,5 +1,7 @@
 // The JEDEC text of an image.
 // The definitions stand in specs/Pattern.antt, the laws about them in proofs/Laws.antt.
+#![tactic(auto)]
+
 ghost use Rattle.std.specs.Prelude.{length};
 ghost use Rattle.part.specs.Answer.{number_outcome};
 ghost use Rattle.part.specs.Outcome.{Written};

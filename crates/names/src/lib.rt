@@ -1,4 +1,6 @@
 // The names of the settings of a part, of their bits and of its fuses, in pieces of up to eight bytes.
 // The definitions that the contracts cite stand in specs/, the laws about them in proofs/Laws.antt.
+#![tactic(auto)]
+
 pub mod pieces;
 pub mod setting_names;

@@ -7,14 +7,14 @@ ghost use Rattle.names.specs.Names.Part.{fb, mc, pt, im};
 ghost use Rattle.names.specs.Pieces.{text_of, Alone, Holds};
 
 // Up to eight bytes: a word, and how many of its bytes are meant.
-#[derive(Drop)]
+#[derive(Clone, Copy)]
 pub struct Piece {
     pub word: u64,
     pub len: usize,
 }
 
 // Words of a name in up to three pieces.
-#[derive(Drop)]
+#[derive(Clone, Copy)]
 pub struct Words {
     pub one: Piece,
     pub two: Piece,
@@ -22,7 +22,7 @@ pub struct Words {
 }
 
 // A name of up to five pieces.
-#[derive(Drop)]
+#[derive(Clone, Copy)]
 pub struct Name {
     pub one: Piece,
     pub two: Piece,
@@ -32,7 +32,7 @@ pub struct Name {
 }
 
 // A name, and the bit behind it.
-#[derive(Drop)]
+#[derive(Clone, Copy)]
 pub struct BitName {
     pub name: Name,
     pub bit: Piece,

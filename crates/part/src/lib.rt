@@ -1,5 +1,7 @@
 // A part: which devices there are, how large each is, where each fuse lies, and why a call is refused.
 // The definitions that the contracts cite stand in specs/, the laws about them in proofs/Laws.antt.
+#![tactic(auto)]
+
 ghost use Rattle.std.specs.Prelude.{◌≡◌};
 ghost use Rattle.part.specs.Device.{known};
 ghost use Rattle.part.specs.Answer.{sizes_outcome, refusal_number, refusal_value};
@@ -11,25 +13,25 @@ pub mod quotients;
 
 // A device of the family: its number of function blocks, and its output-enable class (0 small, 1 large).
 // Any two numbers; twelve pairs are known.
-#[derive(Drop)]
+#[derive(Clone, Copy)]
 pub struct Device {
     pub blocks: u32,
     pub class: u32,
 }
 
 // The number of a fuse, as a fuse file counts them.
-#[derive(Drop)]
+#[derive(Clone, Copy)]
 pub struct FuseNumber(pub u32);
 
 // The two kinds of rows of a block: those of its main area, and those of its wire-AND subareas.
-#[derive(Drop)]
+#[derive(Clone, Copy)]
 pub enum Area {
     Main,
     WireAnd,
 }
 
 // Where a byte of the device lies: block, area, row and column; in the wire-AND area also the subarea.
-#[derive(Drop)]
+#[derive(Clone, Copy)]
 pub enum BytePlace {
     Main {
         block: u32,
@@ -45,14 +47,14 @@ pub enum BytePlace {
 }
 
 // Where a fuse lies: a byte and one of its bits.
-#[derive(Drop)]
+#[derive(Clone, Copy)]
 pub struct Place {
     pub byte: BytePlace,
     pub bit: u32,
 }
 
 // Why a call was refused: a variant for each numbered refusal, with what it returns besides.
-#[derive(Drop)]
+#[derive(Clone, Copy)]
 pub enum Refusal {
     // 1: the block count or the class is unknown
     UnknownDevice,
@@ -83,7 +85,7 @@ pub enum Refusal {
 }
 
 // How many fuses a device has, and how many bytes an image, a readout and a JEDEC text of it.
-#[derive(Drop)]
+#[derive(Clone, Copy)]
 pub struct Sizes {
     pub fuses: u32,
     pub image_bytes: u32,
@@ -91,21 +93,21 @@ pub struct Sizes {
     pub text_bytes: u32,
 }
 
-#[derive(Drop)]
+#[derive(Clone, Copy)]
 pub enum SizesAnswer {
     Of(Sizes),
     Refused(Refusal),
 }
 
 // A call that has no result.
-#[derive(Drop)]
+#[derive(Clone, Copy)]
 pub enum DoneAnswer {
     Done,
     Refused(Refusal),
 }
 
 // A plain number: a sum, a count.
-#[derive(Drop)]
+#[derive(Clone, Copy)]
 pub enum NumberAnswer {
     Number(u32),
     Refused(Refusal),

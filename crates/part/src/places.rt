@@ -109,7 +109,7 @@ pub fn fuse_of_place(d: Device, place: Place) -> FuseNumber
 }
 
 // A column of a row, and a bit of it.
-#[derive(Drop)]
+#[derive(Clone, Copy)]
 struct ColumnBit {
     column: u32,
     bit: u32,

@@ -6,7 +6,7 @@ ghost use Rattle.part.specs.Device.{known, block_fuses};
 use super::Device;
 
 // A quotient, and what is left.
-#[derive(Drop)]
+#[derive(Clone, Copy)]
 pub struct QuotientAndRest {
     pub quotient: u32,
     pub rest: u32,

@@ -1,5 +1,7 @@
 // Prints what `part` answers: the sizes of each device, document 01's bench cases, and digests over all fuses and
 // addresses. The file stdout beside src/ is what the independent program prints.
+#![tactic(auto)]
+
 
 use part::{Device, SizesAnswer};
 

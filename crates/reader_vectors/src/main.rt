@@ -1,5 +1,7 @@
 // Prints what the reader of texts answers for each device: a written text whole, cut short, with a byte changed, and
 // without F. The file stdout beside src/ is what the independent program prints.
+#![tactic(auto)]
+
 ghost use Rattle.std.specs.Prelude.{◌≡◌, length};
 
 use part::Device;

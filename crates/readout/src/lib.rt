@@ -1,5 +1,7 @@
 // The conversions between an image and a device readout.
 // The definitions stand in specs/Readout.antt.
+#![tactic(auto)]
+
 ghost use Rattle.part.specs.Answer.{done_outcome};
 ghost use Rattle.part.specs.Outcome.{Written};
 ghost use Rattle.readout.specs.Readout.{to_readout, readout_of, to_image, image_of};

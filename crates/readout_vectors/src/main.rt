@@ -1,5 +1,7 @@
 // Prints what `image` and `readout` answer for each device, with slices of the right length and of wrong ones.
 // The file stdout beside src/ is what the independent program prints.
+#![tactic(auto)]
+
 use part::Device;
 use vectors::near;
 

@@ -1,5 +1,7 @@
 // What the bench program writes for a text: the counts of its image, or its refusal.
 // The definitions stand in specs/Report.antt.
+#![tactic(auto)]
+
 ghost use Rattle.std.specs.Prelude.{◌≡◌, true, ◌≤◌, length, drop};
 ghost use Rattle.std.proofs.Math.Option.Option.{some};
 ghost use Rattle.part.specs.Answer.{number_outcome};

@@ -18,7 +18,7 @@ use part::{Device, Place};
 use settings::Setting;
 
 // A byte of an image or a readout, and one of its bits.
-#[derive(Drop)]
+#[derive(Clone, Copy)]
 pub struct Location {
     pub index: usize,
     pub bit: u32,

@@ -1,5 +1,7 @@
 // The fuses of each setting of a part with their addresses, lowest bit first.
 // The definitions that the contracts cite stand in specs/, the laws about them in proofs/Laws.antt.
+#![tactic(auto)]
+
 ghost use Rattle.std.specs.Prelude.{◌≡◌, true};
 ghost use Rattle.std.proofs.Math.Option.Option.{some};
 ghost use Rattle.part.specs.Answer.{number_outcome};
@@ -19,7 +21,7 @@ pub mod places;
 
 // The fuse of a bit of a setting, the address of the byte that holds it and its bit there; `NoSuchBit` where the bit is
 // at or over the setting's width.
-#[derive(Drop)]
+#[derive(Clone, Copy)]
 pub enum BitAnswer {
     At(FuseNumber, DeviceAddress, u32),
     NoSuchBit,

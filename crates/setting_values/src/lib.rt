@@ -1,5 +1,7 @@
 // The values of the settings of a device: which kind of value each setting has, and the two ways between values and
 // patterns. The definitions stand in specs/Kinds.antt; the lists of names are those of the crate `values`.
+#![tactic(auto)]
+
 ghost use Rattle.std.specs.Prelude.{◌≡◌};
 ghost use Rattle.part.specs.Answer.{number_outcome};
 ghost use Rattle.setting_values.specs.Operations.{value_outcome, value_of_pattern, pattern_of_value};
@@ -11,7 +13,7 @@ use values::Value;
 
 pub mod kinds;
 
-#[derive(Drop)]
+#[derive(Clone, Copy)]
 pub enum ValueAnswer {
     Value(Value),
     Refused(Refusal),

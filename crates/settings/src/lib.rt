@@ -1,5 +1,7 @@
 // The named settings of a part: their groups and fields, which of them a device has, and their numbers.
 // The definitions that the contracts cite stand in specs/, the laws about them in proofs/Laws.antt.
+#![tactic(auto)]
+
 ghost use Rattle.std.specs.Prelude.{◌≡◌};
 ghost use Rattle.part.specs.Answer.{number_outcome};
 ghost use Rattle.settings.specs.Answer.{setting_outcome, setting_number_outcome};
@@ -11,14 +13,14 @@ pub mod fields;
 pub mod numbers;
 
 // Which sense of an input a literal takes: the input itself, or its complement.
-#[derive(Drop)]
+#[derive(Clone, Copy)]
 pub enum Polarity {
     P,
     N,
 }
 
 // The 27 fields of a macrocell; ALLOC and HP carry their term.
-#[derive(Drop)]
+#[derive(Clone, Copy)]
 pub enum MacrocellField {
     Alloc(u32),
     Inv,
@@ -42,7 +44,7 @@ pub enum MacrocellField {
 }
 
 // The fields that each block has.
-#[derive(Drop)]
+#[derive(Clone, Copy)]
 pub enum BlockField {
     Enable,
     ExportEnable,
@@ -53,7 +55,7 @@ pub enum BlockField {
 }
 
 // The fields of the whole part; those of FCLK carry c, those of FOE carry e.
-#[derive(Drop)]
+#[derive(Clone, Copy)]
 pub enum GlobalField {
     FsrInv,
     FclkInv(u32),
@@ -65,7 +67,7 @@ pub enum GlobalField {
 
 // A setting: its group, its indices and, where the group has fields, its field. Any numbers;
 // `has_setting` tells which exist.
-#[derive(Drop)]
+#[derive(Clone, Copy)]
 pub enum Setting {
     Literal {
         block: u32,
@@ -93,16 +95,16 @@ pub enum Setting {
 }
 
 // The number of a setting in the listing order.
-#[derive(Drop)]
+#[derive(Clone, Copy)]
 pub struct SettingNumber(pub u32);
 
-#[derive(Drop)]
+#[derive(Clone, Copy)]
 pub enum SettingAnswer {
     Setting(Setting),
     Refused(Refusal),
 }
 
-#[derive(Drop)]
+#[derive(Clone, Copy)]
 pub enum SettingNumberAnswer {
     Number(SettingNumber),
     Refused(Refusal),

@@ -154,7 +154,7 @@ pub fn number_of(d: Device, s: Setting) -> SettingNumber
 }
 
 // The indices of a literal.
-#[derive(Drop)]
+#[derive(Clone, Copy)]
 struct LiteralIndices {
     block: u32,
     macrocell: u32,
@@ -179,7 +179,7 @@ fn literal_indices(d: Device, x: u32) -> LiteralIndices
 }
 
 // The indices of a wire-AND.
-#[derive(Drop)]
+#[derive(Clone, Copy)]
 pub struct WireAndIndices {
     pub block: u32,
     pub input: u32,

@@ -1,5 +1,7 @@
 // Prints what `settings`, `setting_places` and `setting_values` answer: document 01's cases, and digests over all
 // settings and fuses. The file stdout beside src/ is what the independent program prints.
+#![tactic(auto)]
+
 ghost use Rattle.std.specs.Prelude.{◌≤◌};
 
 use part::{Device, NumberAnswer, Refusal, SizesAnswer};
@@ -607,7 +609,7 @@ fn absent_global(digest: u64, d: Device, field: GlobalField) -> u64 {
 }
 
 // Settings that have one index of these and else 0.
-#[derive(Drop)]
+#[derive(Clone, Copy)]
 struct Past {
     block: u32,
     macrocell: u32,

@@ -1,5 +1,7 @@
 // Prints what the writer of texts answers for each device: images and buffers of the right length and of wrong ones.
 // The file stdout beside src/ is what the independent program prints.
+#![tactic(auto)]
+
 ghost use Rattle.std.specs.Prelude.{◌≡◌, length};
 
 use part::Device;

@@ -1,9 +1,11 @@
 // The values of settings, by document 003's names, and the kinds of settings: which of 003's assignment lists applies.
 // What each pattern stands for is in `lists`; the definitions that its contracts cite are in specs/.
+#![tactic(auto)]
+
 pub mod lists;
 
 // The names of document 003's assignment lists, in its order.
-#[derive(Drop)]
+#[derive(Clone, Copy)]
 pub enum TermAlloc {
     None,
     Sum,
@@ -11,32 +13,32 @@ pub enum TermAlloc {
     Special,
 }
 
-#[derive(Drop)]
+#[derive(Clone, Copy)]
 pub enum ImportAlloc {
     Export,
     Sum,
 }
 
-#[derive(Drop)]
+#[derive(Clone, Copy)]
 pub enum ExportDir {
     Up,
     Down,
 }
 
-#[derive(Drop)]
+#[derive(Clone, Copy)]
 pub enum IobOeMux {
     Gnd,
     OeMux,
     Vcc,
 }
 
-#[derive(Drop)]
+#[derive(Clone, Copy)]
 pub enum OutMux {
     Comb,
     Ff,
 }
 
-#[derive(Drop)]
+#[derive(Clone, Copy)]
 pub enum OeMux {
     Pt,
     Foe0,
@@ -45,7 +47,7 @@ pub enum OeMux {
     Foe3,
 }
 
-#[derive(Drop)]
+#[derive(Clone, Copy)]
 pub enum ClkMux {
     Fclk1,
     Fclk2,
@@ -53,33 +55,33 @@ pub enum ClkMux {
     Pt,
 }
 
-#[derive(Drop)]
+#[derive(Clone, Copy)]
 pub enum RegMode {
     Dff,
     Tff,
 }
 
 // Of RST_MUX and of SET_MUX.
-#[derive(Drop)]
+#[derive(Clone, Copy)]
 pub enum RstSetMux {
     Pt,
     Fsr,
 }
 
-#[derive(Drop)]
+#[derive(Clone, Copy)]
 pub enum UimOeMux {
     OeMux,
     Gnd,
     Vcc,
 }
 
-#[derive(Drop)]
+#[derive(Clone, Copy)]
 pub enum IobSlew {
     Slow,
     Fast,
 }
 
-#[derive(Drop)]
+#[derive(Clone, Copy)]
 pub enum FclkMux {
     None,
     Gclk0,
@@ -87,7 +89,7 @@ pub enum FclkMux {
     Gclk2,
 }
 
-#[derive(Drop)]
+#[derive(Clone, Copy)]
 pub enum FoeMux {
     None,
     Goe0,
@@ -97,7 +99,7 @@ pub enum FoeMux {
 }
 
 // The value of a setting: a flag, a name, the number of USERCODE, or a pattern that has no name.
-#[derive(Drop)]
+#[derive(Clone, Copy)]
 pub enum Value {
     Flag(bool),
     TermAlloc(TermAlloc),
@@ -118,7 +120,7 @@ pub enum Value {
 }
 
 // Which assignment list applies. FCLK[c].MUX has a list for each c, FOE[e].MUX for each e and class.
-#[derive(Drop)]
+#[derive(Clone, Copy)]
 pub enum Kind {
     Flag,
     TermAlloc,

@@ -1,5 +1,7 @@
 // What the programs that run vectors share: the devices to ask, a digest of many answers in one number, the printing of
 // a line. Nothing here is proved of what is printed: it is compared with what the independent program prints.
+#![tactic(auto)]
+
 ghost use Rattle.std.specs.Prelude.{◌≤◌};
 
 use part::{Device, Sizes, SizesAnswer};

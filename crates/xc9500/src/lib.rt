@@ -1,5 +1,7 @@
 // The C interface, declared in include/xc9500.h: numbers are u32, a slice is a pointer and a length, every answer is
 // one u64. Each function only calls its library function and packs the answer: specs/Packed.antt says how.
+#![tactic(auto)]
+
 ghost use Rattle.std.specs.Prelude.{◌≡◌, length};
 ghost use Rattle.part.specs.Answer.{refusal_number, refusal_value, number_outcome};
 ghost use Rattle.addresses.specs.Answer.{address_outcome, fuse_outcome};

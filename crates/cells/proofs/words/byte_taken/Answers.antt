@@ -12,8 +12,7 @@ use mir.Val.{Fits}
 use Rattle.cells.specs.Cells.{join}
 use Rattle.cells.proofs.Laws.{join_append, join_few, total_replicate}
 use borrow.Author.Rules.{rules}
-use Rattle.cells.proofs.words.byte_taken.Statement.{statement}
-use Rattle.cells.proofs.words.byte_taken.Tie as tie
+use Rattle.cells.proofs.words.byte_taken.Goals as goal
 
 one_byte : (cells : List ℕ) → Fits w8 (get_or cells 0 0) → join (replicate 1 8) cells ≡ get_or cells 0 0
 unfolding join
@@ -39,28 +38,8 @@ fits : (l : List ℕ) (at k word : ℕ) → Fits w8 (get_or l (at + k) 0) → k 
     → Fits w64 (word + get_or l (at + k) 0 * 2 ^ (k * 8) % 2 ^ 64)
 fits l at k word h hk e = rw (taken l at k word h hk e) (omega (arith, join_few (k + 1) 8 8 (drop at l) (omega arith) (omega arith)))
 
-add-byte : tie.Need-overflow-add-byte
-add-byte c = search rules
+pub overflow_add-result : goal.overflow_add-result
+overflow_add-result c = search (rules, fits, c.shared_slice_known-1.given)
 
-shared-slice-read-byte : tie.Need-shared-slice-read-byte
-shared-slice-read-byte c = search rules
-
-cast-byte : tie.Need-overflow-cast-byte
-cast-byte c = omega (arith, c.shared-slice-known.given (c.before.args.at + c.before.args.k))
-
-mul-there : tie.Need-overflow-mul-there
-mul-there c = search rules
-
-shl-there : tie.Need-overflow-shl-there
-shl-there c = search rules
-
-add-result : tie.Need-overflow-add-result
-add-result c = search (rules, fits, c.shared-slice-known.given)
-
-returns : tie.Need-returns
-returns c = search (rules, taken, c.shared-slice-known.given)
-
-pub byte_taken_spec : {M : Type 1} → statement M
-byte_taken_spec =
-    tie.close
-    (tie.spec add-byte shared-slice-read-byte cast-byte mul-there shl-there add-result returns)
+pub returns : goal.returns
+returns c = search (rules, taken, c.shared_slice_known-1.given)

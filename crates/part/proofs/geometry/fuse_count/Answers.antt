@@ -1,0 +1,8 @@
+-- `fuse_count` meets its contract: the definition's two numbers are the constants'.
+-- Assumes nothing.
+use Rattle.part.specs.Device.{fuse_count}
+use Rattle.part.proofs.geometry.fuse_count.Goals as goal
+
+pub returns : goal.returns
+unfolding fuse_count
+returns c = c.in_device.ensures
