@@ -192,8 +192,8 @@ short_word bytes at left r e h f =
 pub fours_on : (old new : List ℕ) (from at : ℕ) (t : Bool) → differing_from old new from ≡ differing_from old new at
     → length new ≡ length old → at + 32 ≤ length old
     → t ≡ ((same_word old new at && same_word old new (at + 8)) && (same_word old new (at + 16) && same_word old new (at + 24)))
-    → not t ≡ false → differing_from old new from ≡ differing_from old new (at + 32)
-fours_on old new from at t e same h f g = e ∙ four_passed old new at t same h f (not-false t g)
+    → t ≡ true → differing_from old new from ≡ differing_from old new (at + 32)
+fours_on old new from at t e same h f g = e ∙ four_passed old new at t same h f g
 
 pub eight_on : (old new : List ℕ) (from at a b : ℕ) → differing_from old new from ≡ differing_from old new at → length new ≡ length old
     → at + 8 ≤ length old → a ≡ join (replicate 8 8) (drop at old) → b ≡ join (replicate 8 8) (drop at new) → a ≡ b

@@ -17,18 +17,18 @@ use Rattle.jedec_judge.specs.Judged.{value_or}
 use Rattle.jedec_judge.proofs.DigitsRead.{hex_digit_lem}
 
 module _ (text : List ℕ) (i sum : ℕ) (all : Tail) where
-  pub tail_goes : (t : Bool) → t ≡ is_blank (get_or text i 0) → not t ≡ false → i < length text → tail_from i 0 sum (drop i text) ≡ all
+  pub tail_goes : (t : Bool) → t ≡ is_blank (get_or text i 0) → t ≡ true → i < length text → tail_from i 0 sum (drop i text) ≡ all
       → tail_from (i + 1) 0 sum (drop (i + 1) text) ≡ all
   unfolding tail_from
   tail_goes t e n l h =
-      let blank : is_blank (get_or text i 0) ≡ true = sym e ∙ not-false t n in
+      let blank : is_blank (get_or text i 0) ≡ true = sym e ∙ n in
       let to : drop (i + 1) text ≡ drop (suc i) text = ap (λ (k : ℕ). drop k text) (add-one i) in
       rw to (rw (drop-cons text i 0 l, blank) at h)
 
-  pub tail_stops : (t : Bool) → t ≡ is_blank (get_or text i 0) → not t ≡ true → i < length text
+  pub tail_stops : (t : Bool) → t ≡ is_blank (get_or text i 0) → t ≡ false → i < length text
       → tail_from i 0 sum (drop i text) ≡ all → wrong i ≡ all
   unfolding tail_from
-  tail_stops t e n l h = let other : is_blank (get_or text i 0) ≡ false = sym e ∙ not-true t n in rw (drop-cons text i 0 l, other) at h
+  tail_stops t e n l h = let other : is_blank (get_or text i 0) ≡ false = sym e ∙ n in rw (drop-cons text i 0 l, other) at h
 
   pub tail_ends : length text ≤ i → tail_from i 0 sum (drop i text) ≡ all → given sum ≡ all
   unfolding tail_from

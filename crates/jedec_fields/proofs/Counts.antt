@@ -53,10 +53,10 @@ module _ (text : List ℕ) (i all : ℕ) where
   star_ends h l = ends until_star (λ b. eqb b 42) star_counts text i all h l
 
   module _ (t : Bool) (is : t ≡ is_blank (get_or text i 0)) where
-    pub blanks_stop : i + blanks_before (drop i text) ≡ all → i < length text → not t ≡ true → i ≡ all
+    pub blanks_stop : i + blanks_before (drop i text) ≡ all → i < length text → t ≡ false → i ≡ all
     blanks_stop h l e = stops blanks_before (λ b. not (is_blank b)) blanks_counts text i all h l (rw is at e)
 
-    pub blanks_go : i + blanks_before (drop i text) ≡ all → i < length text → not t ≡ false → i + 1 + blanks_before (drop (i + 1) text) ≡ all
+    pub blanks_go : i + blanks_before (drop i text) ≡ all → i < length text → t ≡ true → i + 1 + blanks_before (drop (i + 1) text) ≡ all
     blanks_go h l e = goes blanks_before (λ b. not (is_blank b)) blanks_counts text i all h l (rw is at e)
 
   pub blanks_end : i + blanks_before (drop i text) ≡ all → length text ≤ i → i ≡ all

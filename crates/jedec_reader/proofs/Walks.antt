@@ -126,11 +126,11 @@ module _ (fuses : ℕ) (text : List ℕ) (from : ℕ) (image₀ image : List ℕ
       order : may_stand p fs ≡ in_order r.k (judge field)
       order = in_order_lem fuses p r.k image (drop 1 field) fs r.given ∙ ap (in_order r.k) j.is
 
-      pub a_bad_field : (t : Bool) → t ≡ may_stand p fs → not t ≡ true
+      pub a_bad_field : (t : Bool) → t ≡ may_stand p fs → t ≡ false
           → TextRead (of_cut fuses text (fields_at from (drop from text))) (refused 7 start) image
       unfolding all_fields
       a_bad_field t e h =
-          let bad : in_order r.k (judge field) ≡ false = sym order ∙ sym e ∙ not-true t h in
+          let bad : in_order r.k (judge field) ≡ false = sym order ∙ sym e ∙ h in
           refused_reads _ 7 start image (sym (by_next (next.Field start star fs) w) ∙ rw bad)
 
       pub few_states : length text ≤ longest → FewStates fs
@@ -154,12 +154,12 @@ module _ (fuses : ℕ) (text : List ℕ) (from : ℕ) (image₀ image : List ℕ
         pub goes_in : PutFits fuses (drop 1 (take (star - start) (drop start text))) fs q.misplaced
         goes_in = rw e (put_fits fuses p start (drop 1 field) fs j.fits)
 
-        pub one_more : (t : Bool) (image' : List ℕ) → t ≡ may_stand p fs → not t ≡ false
+        pub one_more : (t : Bool) (image' : List ℕ) → t ≡ may_stand p fs → t ≡ true
             → image' ≡ put_field fuses (drop 1 (take (star - start) (drop start text))) fs q.misplaced image
             → Walks fuses text from image₀ image' q (star + 1)
         unfolding all_fields
         one_more t image' f h i =
-            let good : in_order r.k (judge field) ≡ true = sym order ∙ sym f ∙ not-false t h in
+            let good : in_order r.k (judge field) ≡ true = sym order ∙ sym f ∙ h in
             let good-here : in_order r.k (judged_after (drop 1 field) fs) ≡ true = ap (in_order r.k) j.is ∙ good in
             let known : ProgressKnows fuses q (after r.k start (judge field)) image' =
             rw (i, e, ← j.is) (given_after fuses p r.k image (drop 1 field) start r.given fs j.fits good-here) in

@@ -34,11 +34,11 @@ blocks_small d h =
     (known_count d h)
 
 -- What the code's test says of the device.
-pub is_known : (d : Device) (t : Bool) → t ≡ known d → not t ≡ false → known d ≡ true
-is_known d t e h = sym e ∙ not-false t h
+pub is_known : (d : Device) (t : Bool) → t ≡ known d → t ≡ true → known d ≡ true
+is_known d t e h = sym e ∙ h
 
-pub is_unknown : (d : Device) (t : Bool) → t ≡ known d → not t ≡ true → known d ≡ false
-is_unknown d t e h = sym e ∙ not-true t h
+pub is_unknown : (d : Device) (t : Bool) → t ≡ known d → t ≡ false → known d ≡ false
+is_unknown d t e h = sym e ∙ h
 
 -- What a known device has of so much in each main area and subarea.
 pub in_block_small : (d : Device) (main subarea : ℕ) → known d ≡ true → in_block d main subarea ≤ main + 16 * subarea

@@ -37,13 +37,13 @@ module _ (d : Device) (s : Setting) (p : ℕ) (kd : Kind) (bits : ℕ) (t : Bool
   same_test : ltb p (2 ^ bits) ≡ ltb p (2 ^ bits_of s)
   same_test = ap (λ (w : ℕ). ltb p (2 ^ w)) (b ∙ ap bits_in e ∙ kind_bits d s h)
 
-  not_fitting : not t ≡ true → refused 5 0 ≡ value_of_pattern d s p
+  not_fitting : t ≡ false → refused 5 0 ≡ value_of_pattern d s p
   unfolding value_of_pattern
-  not_fitting n = rw (k, h, sym same_test ∙ sym g ∙ not-true t n)
+  not_fitting n = rw (k, h, sym same_test ∙ sym g ∙ n)
 
-  the_value : (v : Value) → not t ≡ false → v ≡ value_in kd p → accepted v ≡ value_of_pattern d s p
+  the_value : (v : Value) → t ≡ true → v ≡ value_in kd p → accepted v ≡ value_of_pattern d s p
   unfolding value_of_pattern
-  the_value v n w = rw (k, h, sym same_test ∙ sym g ∙ not-false t n, w, e)
+  the_value v n w = rw (k, h, sym same_test ∙ sym g ∙ n, w, e)
 
 is-known-requires : tie.Need-is-known-requires
 is-known-requires c κs = search rules

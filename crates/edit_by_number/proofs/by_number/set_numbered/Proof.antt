@@ -47,17 +47,17 @@ module _ (d : Device) (layout : Layout) (bytes : List ℕ) (x pattern size : ℕ
       its_test : ltb pattern (2 ^ bits_of s) ≡ t
       its_test = rw (← w) (sym u)
 
-      not_fitting : not t ≡ true → PatternGives d layout bytes x pattern (refused 5 0) bytes
-      not_fitting y = sets_none d layout bytes x k (n ∙ e) (below d x count f l) s g pattern (its_test ∙ not-true t y)
+      not_fitting : t ≡ false → PatternGives d layout bytes x pattern (refused 5 0) bytes
+      not_fitting y = sets_none d layout bytes x k (n ∙ e) (below d x count f l) s g pattern (its_test ∙ y)
 
-      module _ (y : not t ≡ false) (above : ℕ) (q : above ≡ above_in d layout bytes s) where
+      module _ (y : t ≡ true) (above : ℕ) (q : above ≡ above_in d layout bytes s) where
         one_above : above < length bytes → PatternGives d layout bytes x pattern (refused 6 above) bytes
-        one_above m = sets_above d layout bytes x k (n ∙ e) (below d x count f l) s g pattern (its_test ∙ not-false t y) above (sym q) m
+        one_above m = sets_above d layout bytes x k (n ∙ e) (below d x count f l) s g pattern (its_test ∙ y) above (sym q) m
 
         the_set : (after : List ℕ) → length bytes ≤ above → after ≡ with_pattern d layout bytes s pattern
             → PatternGives d layout bytes x pattern (accepted tt) after
         the_set after m z =
-            sets_clean d layout bytes x k (n ∙ e) (below d x count f l) s g pattern (its_test ∙ not-false t y) above (sym q) after m z
+            sets_clean d layout bytes x k (n ∙ e) (below d x count f l) s g pattern (its_test ∙ y) above (sym q) after m z
 
 few : (d : Device) (x count : ℕ) (s : Setting) (bits : ℕ) → count ≡ count_of d → x < count → s ≡ setting_of d x → bits ≡ bits_of s → bits ≤ 32
 few d x count s bits e l f w = rw w (bits_few d s (there d x count s e l f))

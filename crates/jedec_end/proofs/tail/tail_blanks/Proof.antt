@@ -17,7 +17,7 @@ use Rattle.jedec_end.proofs.tail.tail_blanks.Statement.{statement}
 use Rattle.jedec_end.proofs.tail.tail_blanks.Tie as tie
 
 module _ (text : List ℕ) (at i sum : ℕ) (all : Tail) (h : tail_from i 0 sum (drop i text) ≡ all) where
-  a_wrong_byte : (t : Bool) → t ≡ is_blank (get_or text i 0) → not t ≡ true → i < length text → TailStands text at all (Wrong i)
+  a_wrong_byte : (t : Bool) → t ≡ is_blank (get_or text i 0) → t ≡ false → i < length text → TailStands text at all (Wrong i)
   a_wrong_byte t e n l = record { is = tail_stops text i sum all t e n l h; fits = omega arith }
 
   at_the_end : length text ≤ i → TailStands text at all (Given sum)

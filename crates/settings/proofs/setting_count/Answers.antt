@@ -1,0 +1,27 @@
+-- `setting_count` meets its contract: the test is the definition's.
+-- Assumes nothing.
+use mathlib.Core.Path.{◌≡◌}
+use mathlib.Core.Bool.{true, false}
+use Prim.Native.Nat.{ℕ}
+use Rattle.part.specs.Outcome.Outcome.{accepted, refused}
+use Rattle.part.specs.Device.{known}
+use Rattle.part.specs.declared.Device.{Device}
+use Rattle.part.proofs.Devices.{is_known, is_unknown}
+use Rattle.settings.specs.Order.{count_of}
+use Rattle.settings.specs.Operations.{count_of_settings}
+use borrow.Author.Rules.{rules}
+use Rattle.settings.proofs.setting_count.Goals as goal
+
+no_device : (d : Device) → known d ≡ false → refused 1 0 ≡ count_of_settings d
+unfolding count_of_settings
+no_device d k = rw k
+
+the_count : (d : Device) (x : ℕ) → known d ≡ true → x ≡ count_of d → accepted x ≡ count_of_settings d
+unfolding count_of_settings
+the_count d x k e = rw (k, e)
+
+pub returns-then-not-is_known : goal.returns-then-not-is_known
+returns-then-not-is_known c = search (rules, is_unknown, no_device)
+
+pub returns : goal.returns
+returns c = search (rules, is_known, the_count)

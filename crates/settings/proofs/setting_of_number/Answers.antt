@@ -1,0 +1,41 @@
+-- `setting_of_number` meets its contract: the tests are the definition's.
+-- Assumes nothing.
+use mathlib.Core.Path.{◌≡◌}
+use mathlib.Core.Bool.{true, false}
+use Prim.Native.Nat.{ℕ, ◌<◌, ◌≤◌}
+use native.Mathlib.Omega.{arith}
+use borrow.Author.Tests.{lt-ltb, le-ltb}
+use Rattle.part.specs.Outcome.Outcome.{accepted, refused}
+use Rattle.part.specs.Device.{known}
+use Rattle.part.specs.declared.Device.{Device}
+use Rattle.part.proofs.Devices.{is_known, is_unknown}
+use Rattle.settings.specs.Order.{count_of, setting_of}
+use Rattle.settings.specs.Operations.{setting_of_number}
+use Rattle.settings.specs.declared.Setting.{Setting}
+use borrow.Author.Rules.{rules}
+use Rattle.settings.proofs.setting_of_number.Goals as goal
+
+no_device : (d : Device) (x : ℕ) → known d ≡ false → refused 1 0 ≡ setting_of_number d x
+unfolding setting_of_number
+no_device d x k = rw k
+
+module _ (d : Device) (x count : ℕ) (k : known d ≡ true) (e : count ≡ count_of d) where
+  no_setting_lem : count ≤ x → refused 4 0 ≡ setting_of_number d x
+  unfolding setting_of_number
+  no_setting_lem h = rw (k, le-ltb x (count_of d) (omega arith))
+
+  below : x < count → x < count_of d
+  below h = omega arith
+
+  the_setting : (s : Setting) → x < count → s ≡ setting_of d x → accepted s ≡ setting_of_number d x
+  unfolding setting_of_number
+  the_setting s h g = rw (k, lt-ltb x (count_of d) (omega arith), g)
+
+pub returns-then-not-is_known : goal.returns-then-not-is_known
+returns-then-not-is_known c = search (rules, is_unknown, no_device)
+
+pub returns-then-count_of-number : goal.returns-then-count_of-number
+returns-then-count_of-number c = search (rules, is_known, no_setting_lem)
+
+pub returns : goal.returns
+returns c = search (rules, is_known, the_setting)
