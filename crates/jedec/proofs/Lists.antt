@@ -11,6 +11,7 @@ module _ (P : Listed → Type 0) (l : Listed) where
   each_more (a ∷ lists) e h = (e.0, each_more lists e.1 h)
 
   pub any_more : (lists : List Listed) → Any P lists → Any P (lists ++ (l ∷ []))
+  any_more [] x' = elim x' [ ]
   any_more (a ∷ lists) (inl h) = inl h
   any_more (a ∷ lists) (inr h) = inr (any_more lists h)
 

@@ -40,6 +40,7 @@ module _ (fuse : ℕ) where
 
   given_some : (lists : List Listed) → Any (Inside fuse) lists → is_given lists fuse ≡ true
   unfolding is_given
+  given_some [] x' = elim x' [ ]
   given_some (l ∷ lists) (inl here) = rw (one_in l here)
   given_some (l ∷ lists) (inr later) = rw (given_some lists later, or-true)
 
@@ -55,6 +56,7 @@ module _ (fuse : ℕ) where
 
   -- A fuse outside each L is in none.
   not_both : (lists : List Listed) → Each (Outside fuse) lists → Any (Inside fuse) lists → ⊥
+  not_both [] _ x3 = elim x3 [ ]
   not_both (l ∷ lists) (inl m, o) (inl h) = omega (arith, h.0)
   not_both (l ∷ lists) (inr m, o) (inl h) = omega (arith, h.1)
   not_both (l ∷ lists) (m, o) (inr h) = not_both lists o h

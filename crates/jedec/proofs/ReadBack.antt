@@ -96,11 +96,11 @@ lines_in_place fuses end at image fuse (widths ∷ pattern) before fits =
     rw (le-ltb fuse end before, long, le-ltb fuses (fuse + total widths) (omega arith))
     (lines_in_place fuses (fuse + total widths) _ image (fuse + total widths) pattern (omega arith) (omega arith))
 
-lines_give : (at : ℕ) (image : List ℕ) (fuse : ℕ) (pattern : List (List ℕ)) (g : ℕ) → fuse ≤ g → g < fuse + pattern_fuses pattern
+lines_give : (image : List ℕ) (fuse at : ℕ) (pattern : List (List ℕ)) (g : ℕ) → fuse ≤ g → g < fuse + pattern_fuses pattern
     → state_given 0 (lists_of at image fuse pattern) g ≡ state image g
 unfolding state_given lists_of pattern_fuses
-lines_give at image fuse [] g low high = absurd (omega arith)
-lines_give at image fuse (widths ∷ pattern) g low high =
+lines_give image fuse at [] g low high = absurd (omega arith)
+lines_give image fuse at (widths ∷ pattern) g low high =
     compared g (fuse + total widths)
     (λ inside.
     let own : fuse + (g - fuse) ≡ g = omega arith in
@@ -114,7 +114,7 @@ lines_give at image fuse (widths ∷ pattern) g low high =
     ))
     (λ past.
     rw (le-leb fuse g low, states_length image fuse (total widths), le-ltb g (fuse + total widths) past)
-    (lines_give _ image (fuse + total widths) pattern g past (omega arith)))
+    (lines_give image (fuse + total widths) _ pattern g past (omega arith)))
 
 -- An image is what its states give.
 byte_state : (image : List ℕ) (i b : ℕ) → b < 8 → state image (i * 8 + b) ≡ bit_of (get_or image i 0) b
@@ -215,7 +215,7 @@ module _ (fuses : ℕ) (pattern : List (List ℕ)) (image : List ℕ) (few : fus
         as_image =
             sym
             (image_given fuses image is_image (state_given 0 lists)
-            (λ f l. lines_give lines_at image 0 pattern f (omega arith) (omega (arith, every-fuse))));
+            (λ f l. lines_give image 0 lines_at pattern f (omega arith) (omega (arith, every-fuse))));
         right_sum =
             λ c e. let same : record { at = form.offset_after_all lines_at (line_fields image 0 pattern) + 1; value = sum16 image } ≡ c = cc in
             ap (λ (x : At). x.value) (sym same);

@@ -1,0 +1,37 @@
+-- `bits_of_setting` meets its contract: the tests are the definition's.
+-- Assumes nothing.
+use mathlib.Core.Path.{◌≡◌}
+use mathlib.Core.Bool.{true, false}
+use Prim.Native.Nat.{ℕ}
+use Rattle.part.specs.Outcome.Outcome.{accepted, refused}
+use Rattle.part.specs.Device.{known}
+use Rattle.part.specs.declared.Device.{Device}
+use Rattle.part.proofs.Devices.{is_known, is_unknown}
+use Rattle.settings.specs.Settings.{has_setting}
+use Rattle.settings.specs.declared.Setting.{Setting}
+use Rattle.settings.proofs.Asked.{has, has_not}
+use Rattle.setting_places.specs.Places.{bits_of}
+use Rattle.setting_places.specs.Operations.{bits_of_setting}
+use borrow.Author.Rules.{rules}
+use Rattle.setting_places.proofs.bits_of_setting.Goals as goal
+
+no_device : (d : Device) (s : Setting) → known d ≡ false → refused 1 0 ≡ bits_of_setting d s
+unfolding bits_of_setting
+no_device d s k = rw k
+
+no_setting_lem : (d : Device) (s : Setting) → known d ≡ true → has_setting d s ≡ false → refused 4 0 ≡ bits_of_setting d s
+unfolding bits_of_setting
+no_setting_lem d s k h = rw (k, h)
+
+the_bits : (d : Device) (s : Setting) (x : ℕ) → known d ≡ true → has_setting d s ≡ true → x ≡ bits_of s → accepted x ≡ bits_of_setting d s
+unfolding bits_of_setting
+the_bits d s x k h e = rw (k, h, e)
+
+pub returns-then-not-is_known : goal.returns-then-not-is_known
+returns-then-not-is_known c = search (rules, is_unknown, no_device)
+
+pub returns-then-not-has_setting : goal.returns-then-not-has_setting
+returns-then-not-has_setting c = search (rules, is_known, has_not, no_setting_lem)
+
+pub returns : goal.returns
+returns c = search (rules, is_known, has, the_bits)

@@ -1,0 +1,31 @@
+-- `wire_and_bit` meets its contract: the setting at the position is a wire-AND, which has one bit.
+-- Assumes nothing.
+use mathlib.Core.Path.{◌≡◌, refl}
+use Prim.Native.Nat.{ℕ}
+use Rattle.part.specs.declared.Device.{Device}
+use Rattle.part.specs.declared.Place.{Place}
+use Rattle.settings.specs.Order.{in_group}
+use Rattle.settings.specs.Order.Group.{wire_ands}
+use Rattle.settings.specs.declared.Setting.TheVariants.{WireAnd}
+use Rattle.settings.proofs.Among.{has_in_group}
+use Rattle.setting_places.specs.Places.{place_of, bits_of}
+use Rattle.setting_places.proofs.AtPlace.{no_second_bit, there_once, at_one_place}
+use borrow.Author.Rules.{rules}
+use Rattle.setting_places.proofs.numbered.wire_and_bit.Goals as goal
+
+one_bit : (d : Device) (x : ℕ) → 1 ≡ bits_of (in_group d wire_ands x)
+unfolding bits_of
+one_bit d x = refl
+
+its_place : (d : Device) (x block j k l : ℕ) (p : Place) → WireAnd block j k l ≡ in_group d wire_ands x
+    → p ≡ place_of (WireAnd block j k l) 0 → p ≡ place_of (in_group d wire_ands x) 0
+its_place d x block j k l p e g = rw (← e) g
+
+pub returns-then-bit-gt0 : goal.returns-then-bit-gt0
+returns-then-bit-gt0 c = search (rules, has_in_group, one_bit, no_second_bit)
+
+pub located-requires : goal.located-requires
+located-requires c = search (rules, has_in_group, one_bit, its_place, there_once)
+
+pub returns : goal.returns
+returns c = search (rules, has_in_group, one_bit, its_place, at_one_place)
