@@ -9,11 +9,10 @@ use lib.ListN.{length, get_or}
 use borrow.Author.Tests.{eq-eqb, ne_eqb}
 use Rattle.jedec.specs.Characters.{hex_value, digits_read, sum_in}
 use Rattle.jedec_judge.specs.Judged.{value_or}
-use Rattle.jedec_judge.proofs.DigitsRead.{hex_digit_lem, Reading, reading_starts, reading_goes, reading_stops, reading_ends}
+use Rattle.jedec_judge.proofs.DigitsRead.{hex_digit_lem, Reading, reading_goes, reading_stops, reading_ends}
 use Rattle.jedec_judge.proofs.DigitsRead.{reading_small}
 use borrow.Author.Rules.{rules}
-use Rattle.jedec_judge.proofs.digits.sum_in.Statement.{statement}
-use Rattle.jedec_judge.proofs.digits.sum_in.Tie as tie
+use Rattle.jedec_judge.proofs.digits.sum_in.Goals as goal
 
 not_four : (bytes : List ℕ) → (length bytes ≡ 4 → ⊥) → none ≡ sum_in bytes
 unfolding sum_in
@@ -44,59 +43,17 @@ module _ (bytes : List ℕ) where
       no_overflow_for : (y ≡ 16 → ⊥) → x * 16 + y < 2 ^ 32
       no_overflow_for z = let less : y < 16 = rw e ((hex_digit_lem (get_or bytes i 0)).below (λ w. z (e ∙ w))) in omega (arith, small h)
 
-abbrev invariant-loop : tie.invariant-loop
-invariant-loop bytes x₀ i₀ x i = Reading 16 hex_value bytes x i × (length bytes ≡ 4)
+pub returns-then-bytes-ne4 : goal.returns-then-bytes-ne4
+returns-then-bytes-ne4 c = search (rules, not_four)
 
-abbrev decreases-loop : tie.decreases-loop
-decreases-loop bytes x₀ i₀ x i = length bytes - i
+pub returns-then-y-eq16 : goal.returns-then-y-eq16
+returns-then-y-eq16 c = search (rules, no_digit)
 
-returns : tie.Need-returns invariant-loop decreases-loop
-returns c = search (rules, not_four)
+pub overflow_add-x : goal.overflow_add-x
+overflow_add-x c = record { fits = search (rules, no_overflow_for) }
 
-loop-holds : tie.Need-loop-init invariant-loop decreases-loop
-loop-holds c = (reading_starts 16 hex_value _, omega arith)
+pub loop-i-preserved : goal.loop-i-preserved
+loop-i-preserved c = (search (rules, one_more), omega arith)
 
-shared-slice-read-hex-value : tie.Need-shared-slice-read-hex-value invariant-loop decreases-loop
-shared-slice-read-hex-value c = omega arith
-
-hex-value-requires : tie.Need-hex-value-requires invariant-loop decreases-loop
-hex-value-requires c κs = search rules
-
-returns-2 : tie.Need-returns-2 invariant-loop decreases-loop
-returns-2 c = search (rules, no_digit)
-
-mul-x : tie.Need-overflow-mul-x invariant-loop decreases-loop
-mul-x c = record { fits = search (rules, no_overflow) }
-
-add-x : tie.Need-overflow-add-x invariant-loop decreases-loop
-add-x c = record { fits = search (rules, no_overflow_for) }
-
-add-i : tie.Need-overflow-add-i invariant-loop decreases-loop
-add-i c = omega arith
-
-loop-less : tie.Need-loop-smaller invariant-loop decreases-loop
-loop-less c = omega arith
-
-loop-again : tie.Need-loop-preserved invariant-loop decreases-loop
-loop-again c = (search (rules, one_more), omega arith)
-
-returns-3 : tie.Need-returns-3 invariant-loop decreases-loop
-returns-3 c = search (rules, all_digits)
-
-pub sum_in_spec : {M : Type 1} → statement M
-sum_in_spec =
-    tie.close
-    (tie.spec
-    invariant-loop
-    decreases-loop
-    returns
-    loop-holds
-    shared-slice-read-hex-value
-    hex-value-requires
-    returns-2
-    mul-x
-    add-x
-    add-i
-    loop-less
-    loop-again
-    returns-3)
+pub returns : goal.returns
+returns c = search (rules, all_digits)

@@ -5,7 +5,6 @@ use mathlib.Core.Bool.{true, false}
 use mathlib.Core.List.{List}
 use Prim.Native.Nat.{ℕ, ◌*◌, ◌/◌, ◌^◌}
 use native.Mathlib.Nat.{div-one}
-use native.Mathlib.Omega.{arith}
 use lib.ListN.{length}
 use lib.Seq.{sets}
 use Rattle.cells.specs.Cells.{cut, number}
@@ -21,8 +20,7 @@ use Rattle.readout.proofs.Conversions.{readout_cut, sets_whole}
 use Rattle.readout.proofs.States.{from_length}
 use Rattle.part.proofs.Targets.{unknown, wrong_first, wrong_second, right}
 use borrow.Author.Rules.{rules}
-use Rattle.readout.proofs.image_to_readout.Statement.{statement}
-use Rattle.readout.proofs.image_to_readout.Tie as tie
+use Rattle.readout.proofs.image_to_readout.Goals as goal
 
 -- The case of each test, for the definition of this function.
 module _ (d : Device) (image before : List ℕ) where
@@ -65,51 +63,14 @@ all_passed : (d : Device) (image before after : List ℕ) (x y : ℕ) → known 
 all_passed d image before after x y k ex hx ey hy f =
     passed d image before k x ex hx y ey hy (accepted tt) refl after (whole d image before after k (hx ∙ ex) (hy ∙ ey) f)
 
-is-known-requires : tie.Need-is-known-requires
-is-known-requires c κs = search rules
+pub returns-then-not-is_known : goal.returns-then-not-is_known
+returns-then-not-is_known c = search (rules, is_unknown, no_device)
 
-returns : tie.Need-returns
-returns c = search (rules, is_unknown, no_device)
+pub returns-then-image-image_bytes : goal.returns-then-image-image_bytes
+returns-then-image-image_bytes c = search (rules, is_known, first_length)
 
-image-bytes-requires : tie.Need-image-bytes-requires
-image-bytes-requires c κs = search (rules, is_known)
+pub returns-then-readout-readout_bytes : goal.returns-then-readout-readout_bytes
+returns-then-readout-readout_bytes c = search (rules, is_known, second_length)
 
-cast-if2 : tie.Need-overflow-cast-if2
-cast-if2 c = search rules
-
-returns-2 : tie.Need-returns-2
-returns-2 c = search (rules, is_known, first_length)
-
-readout-bytes-requires : tie.Need-readout-bytes-requires
-readout-bytes-requires c κs = search (rules, is_known)
-
-cast-if3 : tie.Need-overflow-cast-if3
-cast-if3 c = search rules
-
-returns-3 : tie.Need-returns-3
-returns-3 c = search (rules, is_known, second_length)
-
-blocks-out-requires : tie.Need-blocks-out-requires
-blocks-out-requires c κs = (search (rules, is_known), omega arith, omega arith)
-
-same_length : tie.Need-same-length
-same_length c = search rules
-
-returns-4 : tie.Need-returns-4
-returns-4 c = search (rules, is_known, all_passed)
-
-pub image_to_readout_spec : {M : Type 1} → statement M
-image_to_readout_spec =
-    tie.close
-    (tie.spec
-    is-known-requires
-    returns
-    image-bytes-requires
-    cast-if2
-    returns-2
-    readout-bytes-requires
-    cast-if3
-    returns-3
-    blocks-out-requires
-    same_length
-    returns-4)
+pub returns : goal.returns
+returns c = search (rules, is_known, all_passed)

@@ -11,8 +11,7 @@ use Rattle.jedec_judge.specs.Judged.{Says}
 use Rattle.jedec_judge.specs.declared.FieldSays.{FieldSays}
 use Rattle.jedec_judge.specs.declared.FieldSays.TheVariants.{Bad}
 use borrow.Author.Rules.{rules}
-use Rattle.jedec_judge.proofs.letters.judge_field.Statement.{statement}
-use Rattle.jedec_judge.proofs.letters.judge_field.Tie as tie
+use Rattle.jedec_judge.proofs.letters.judge_field.Goals as goal
 
 module _ (field : List ℕ) (t : Bool) (e : t ≡ holds_mark field) where
   marked : t ≡ true → Says (drop 1 field) (judge field) Bad
@@ -23,17 +22,8 @@ module _ (field : List ℕ) (t : Bool) (e : t ≡ holds_mark field) where
   unfolding judge
   unmarked r h s = record { is = s.is ∙ rw (sym e ∙ h); fits = s.fits }
 
-holds-mark-requires : tie.Need-holds-mark-requires
-holds-mark-requires c κs = search rules
+pub returns-then-holds_mark : goal.returns-then-holds_mark
+returns-then-holds_mark c = search (rules, marked)
 
-returns : tie.Need-returns
-returns c = search (rules, marked)
-
-by-letters-requires : tie.Need-by-letters-requires
-by-letters-requires c κs = search rules
-
-returns-2 : tie.Need-returns-2
-returns-2 c = search (rules, unmarked)
-
-pub judge_field_spec : {M : Type 1} → statement M
-judge_field_spec = tie.close (tie.spec holds-mark-requires returns by-letters-requires returns-2)
+pub returns : goal.returns
+returns c = search (rules, unmarked)

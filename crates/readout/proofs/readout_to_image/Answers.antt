@@ -21,8 +21,7 @@ use Rattle.readout.proofs.Conversions.{image_bytes_in_lem, image_length, sets_wh
 use Rattle.readout.proofs.FirstAbove.{first_above_lem}
 use Rattle.part.proofs.Targets.{unknown, wrong_first, wrong_second, right}
 use borrow.Author.Rules.{rules}
-use Rattle.readout.proofs.readout_to_image.Statement.{statement}
-use Rattle.readout.proofs.readout_to_image.Tie as tie
+use Rattle.readout.proofs.readout_to_image.Goals as goal
 
 -- What follows the tests of lengths.
 abbrev after_scan : Device → List ℕ → Outcome (Unit {0})
@@ -90,63 +89,17 @@ all_passed d readout before after x y above k ex hx ey hy e h f =
     passed d readout before k x ex hx y ey hy (accepted tt) (no_above d readout above k (hx ∙ ex) e h) after
     (whole d readout before after k (hy ∙ ey) f)
 
-is-known-requires : tie.Need-is-known-requires
-is-known-requires c κs = search rules
+pub returns-then-not-is_known : goal.returns-then-not-is_known
+returns-then-not-is_known c = search (rules, is_unknown, no_device)
 
-returns : tie.Need-returns
-returns c = search (rules, is_unknown, no_device)
+pub returns-then-readout-readout_bytes : goal.returns-then-readout-readout_bytes
+returns-then-readout-readout_bytes c = search (rules, is_known, first_length)
 
-readout-bytes-requires : tie.Need-readout-bytes-requires
-readout-bytes-requires c κs = search (rules, is_known)
+pub returns-then-image-image_bytes : goal.returns-then-image-image_bytes
+returns-then-image-image_bytes c = search (rules, is_known, second_length)
 
-cast-if2 : tie.Need-overflow-cast-if2
-cast-if2 c = search rules
+pub returns-then-above-readout : goal.returns-then-above-readout
+returns-then-above-readout c = search (rules, is_known, one_above_refused)
 
-returns-2 : tie.Need-returns-2
-returns-2 c = search (rules, is_known, first_length)
-
-image-bytes-requires : tie.Need-image-bytes-requires
-image-bytes-requires c κs = search (rules, is_known)
-
-cast-if3 : tie.Need-overflow-cast-if3
-cast-if3 c = search rules
-
-returns-3 : tie.Need-returns-3
-returns-3 c = search (rules, is_known, second_length)
-
-first-above-requires : tie.Need-first-above-requires
-first-above-requires c κs = (search (rules, is_known), omega arith)
-
-cast-index : tie.Need-overflow-cast-index
-cast-index c = search rules
-
-returns-4 : tie.Need-returns-4
-returns-4 c = search (rules, is_known, one_above_refused)
-
-blocks-in-requires : tie.Need-blocks-in-requires
-blocks-in-requires c κs = (search (rules, is_known), omega arith, omega arith)
-
-same_length : tie.Need-same-length
-same_length c = search rules
-
-returns-5 : tie.Need-returns-5
-returns-5 c = search (rules, is_known, all_passed)
-
-pub readout_to_image_spec : {M : Type 1} → statement M
-readout_to_image_spec =
-    tie.close
-    (tie.spec
-    is-known-requires
-    returns
-    readout-bytes-requires
-    cast-if2
-    returns-2
-    image-bytes-requires
-    cast-if3
-    returns-3
-    first-above-requires
-    cast-index
-    returns-4
-    blocks-in-requires
-    same_length
-    returns-5)
+pub returns : goal.returns
+returns c = search (rules, is_known, all_passed)
