@@ -11,6 +11,7 @@ use lib.Dec.{eqb}
 use lib.ListN.{length, get_or, drop, drop_of_length-le}
 use lib.Seq.{drop-cons}
 use borrow.Author.Tests.{eq-eqb, ne_eqb, not-true, not-false}
+use Rattle.std.proofs.lemmas.Bool.{not_from_false, not_from_true}
 use Rattle.jedec.specs.Characters.{is_blank}
 use Rattle.jedec.specs.Cut.{blanks_before}
 use Rattle.jedec_fields.specs.Fields.{until_star}
@@ -54,10 +55,10 @@ module _ (text : List ℕ) (i all : ℕ) where
 
   module _ (t : Bool) (is : t ≡ is_blank (get_or text i 0)) where
     pub blanks_stop : i + blanks_before (drop i text) ≡ all → i < length text → t ≡ false → i ≡ all
-    blanks_stop h l e = stops blanks_before (λ b. not (is_blank b)) blanks_counts text i all h l (rw is at e)
+    blanks_stop h l e = stops blanks_before (λ b. not (is_blank b)) blanks_counts text i all h l (not_from_false _ (rw is at e))
 
     pub blanks_go : i + blanks_before (drop i text) ≡ all → i < length text → t ≡ true → i + 1 + blanks_before (drop (i + 1) text) ≡ all
-    blanks_go h l e = goes blanks_before (λ b. not (is_blank b)) blanks_counts text i all h l (rw is at e)
+    blanks_go h l e = goes blanks_before (λ b. not (is_blank b)) blanks_counts text i all h l (not_from_true _ (rw is at e))
 
   pub blanks_end : i + blanks_before (drop i text) ≡ all → length text ≤ i → i ≡ all
   blanks_end h l = ends blanks_before (λ b. not (is_blank b)) blanks_counts text i all h l

@@ -2,7 +2,6 @@
 -- Assumes nothing.
 use mathlib.Core.Path.{◌≡◌, sym, ◌∙◌}
 use mathlib.Core.Bool.{true≢false}
-use mathlib.Core.Logic.{⊎_elim}
 use mathlib.Core.List.{List, ◌∷◌}
 use Prim.Native.Nat.{ℕ, zero, suc, ◌+◌, ◌-◌, ◌^◌, ◌≤◌, ◌<◌}
 use native.Mathlib.Omega.{arith}
@@ -22,6 +21,7 @@ use Rattle.jedec_judge.proofs.Slices.{rest_whole}
 use Rattle.jedec_fields.proofs.Fields.{nothing_left, the_end, no_star, a_field}
 use borrow.Author.Rules.{rules}
 use Rattle.jedec_fields.proofs.scan.next_judged.Goals as goal
+use Rattle.jedec_fields.proofs.scan.next_judged.Goals.{then-b-eq76+in_default, else-b-eq76}
 
 -- An L field is told by what follows the L.
 module _ (text : List ℕ) (start : ℕ) (l : start ≤ length text) (n : start ≡ length text → ⊥) (b : get_or text start 0 ≡ 76) (o : ListField)
@@ -79,7 +79,7 @@ returns-then-star-text c = search (rules, no_star)
 
 pub judge_field-says-requires : goal.judge_field-says-requires
 judge_field-says-requires c =
-    ⊎_elim (λ w. search (rules, bad_list)) (λ w. search (rules, other_letter)) c.if-b-eq76.branch
+    elim c.if-b-eq76.branch [ then-b-eq76+in_default w ↦ search (rules, bad_list) | else-b-eq76 w ↦ search (rules, other_letter) ]
 
 pub returns : goal.returns
 returns c = search (rules, a_field)

@@ -19,7 +19,7 @@ overflow_add-f c =
       fuses_fit c.loop-left.invariant c.loop-left-test.true,
       image_few c.args.d c.args.image.now c.requires.0 c.requires.1,
       c.block_fuses-fuses.ensures,
-      c.well-formed,
+      c.well_formed,
     )
 
 pub loop-left-preserved : goal.loop-left-preserved

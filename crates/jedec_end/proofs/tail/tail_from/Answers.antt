@@ -1,6 +1,6 @@
 -- `tail_from` meets its contract: the digits so far, and what is left of the text.
 -- Assumes nothing.
-use mathlib.Core.Path.{◌≡◌, refl, ◌∙◌}
+use mathlib.Core.Path.{◌≡◌, ◌∙◌}
 use mathlib.Core.List.{List}
 use Prim.Native.Nat.{ℕ, suc, ◌+◌, ◌*◌, ◌-◌, ◌^◌, ◌≤◌, ◌<◌}
 use native.Mathlib.Nat.{pow-suc, pow-le-pow_right, lt_of_lt_of_le}
@@ -16,18 +16,8 @@ use Rattle.jedec_end.specs.declared.tail.TailSays.TheVariants.{Wrong}
 use Rattle.jedec_judge.proofs.DigitsRead.{hex_digit_lem}
 use Rattle.jedec_end.proofs.Tails.{tail_early, tail_wrong, tail_digit}
 use borrow.Author.Rules.{rules}
-use Rattle.jedec_end.proofs.tail.tail_from.Statement.{statement}
-use Rattle.jedec_end.proofs.tail.tail_from.Tie as tie
-
--- The digits so far write a sum, and the bytes still to come say what the whole says.
-record Run (text : List ℕ) (at sum i left : ℕ) : Type 0 where
-  inside : i ≤ length text
-  few : left ≤ 4
-  small : sum < 16 ^ (4 - left)
-  rest : tail_from i left sum (drop i text) ≡ tail_from at 4 0 (drop at text)
-
-starts : (text : List ℕ) (at : ℕ) → at ≤ length text → Run text at 0 at 4
-starts text at l = record { inside = l; few = omega arith; small = omega arith; rest = refl }
+use Rattle.jedec_end.proofs.tail.tail_from.Invariants.{Run}
+use Rattle.jedec_end.proofs.tail.tail_from.Goals as goal
 
 module _ (text : List ℕ) (at sum i left : ℕ) (r : Run text at sum i left) where
   within : i ≤ length text
@@ -79,67 +69,17 @@ module _ (text : List ℕ) (at sum i left : ℕ) (r : Run text at sum i left) wh
             rest = tail_digit text i sum _ left more r.rest y (there n) e z;
           }
 
-abbrev invariant-loop : tie.invariant-loop
-invariant-loop text at sum₀ i₀ left₀ sum i left = Run text at sum i left
+pub returns-then-i-text : goal.returns-then-i-text
+returns-then-i-text c = search (rules, early)
 
-abbrev decreases-loop : tie.decreases-loop
-decreases-loop text at sum₀ i₀ left₀ sum i left = left
+pub returns-then-x-eq16 : goal.returns-then-x-eq16
+returns-then-x-eq16 c = search (rules, no_digit)
 
-loop-holds : tie.Need-loop-init invariant-loop decreases-loop
-loop-holds c = search (rules, starts)
+pub overflow_mul-sum : goal.overflow_mul-sum
+overflow_mul-sum c = record { fits = search (rules, no_overflow) }
 
-returns : tie.Need-returns invariant-loop decreases-loop
-returns c = search (rules, early)
+pub overflow_add-sum : goal.overflow_add-sum
+overflow_add-sum c = record { fits = search (rules, no_overflow_for) }
 
-shared-slice-read-hex-value : tie.Need-shared-slice-read-hex-value invariant-loop decreases-loop
-shared-slice-read-hex-value c = search (rules, there)
-
-hex-value-requires : tie.Need-hex-value-requires invariant-loop decreases-loop
-hex-value-requires c κs = search rules
-
-returns-2 : tie.Need-returns-2 invariant-loop decreases-loop
-returns-2 c = search (rules, no_digit)
-
-mul-sum : tie.Need-overflow-mul-sum invariant-loop decreases-loop
-mul-sum c = record { fits = search (rules, no_overflow) }
-
-add-sum : tie.Need-overflow-add-sum invariant-loop decreases-loop
-add-sum c = record { fits = search (rules, no_overflow_for) }
-
-add-i : tie.Need-overflow-add-i invariant-loop decreases-loop
-add-i c = search (rules, in_text)
-
-sub-left : tie.Need-overflow-sub-left invariant-loop decreases-loop
-sub-left c = search rules
-
-loop-less : tie.Need-loop-smaller invariant-loop decreases-loop
-loop-less c = search rules
-
-loop-again : tie.Need-loop-preserved invariant-loop decreases-loop
-loop-again c = search (rules, one_more)
-
-tail-blanks-requires : tie.Need-tail-blanks-requires invariant-loop decreases-loop
-tail-blanks-requires c κs = search (rules, within)
-
-returns-3 : tie.Need-returns-3 invariant-loop decreases-loop
-returns-3 c = search (rules, then_blanks)
-
-pub tail_from_spec : {M : Type 1} → statement M
-tail_from_spec =
-    tie.close
-    (tie.spec
-    invariant-loop
-    decreases-loop
-    loop-holds
-    returns
-    shared-slice-read-hex-value
-    hex-value-requires
-    returns-2
-    mul-sum
-    add-sum
-    add-i
-    sub-left
-    loop-less
-    loop-again
-    tail-blanks-requires
-    returns-3)
+pub loop-left-preserved : goal.loop-left-preserved
+loop-left-preserved c = search (rules, one_more)
