@@ -35,8 +35,9 @@ returns-then-bits_of-bit c = search (rules, is_known, has, no_bit_lem)
 
 pub located-requires : goal.located-requires
 located-requires c =
-    let its = place-of-requires c κs in
-    (its.0, there _ _ _ _ its.0 its.1 c.bits_of.ensures c.if-bits_of-bit.false _ c.place_of-place.ensures)
+    let its = is_known _ _ c.is_known.ensures c.if-not-is_known.false in
+    let had = has _ _ _ c.has_setting.ensures c.if-not-has_setting.false in
+    (its, there _ _ _ _ its had c.bits_of.ensures c.if-bits_of-bit.false _ c.place_of-place.ensures)
 
 pub returns : goal.returns
 returns c = search (rules, is_known, has, at_place_lem)
