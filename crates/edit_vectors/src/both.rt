@@ -4,6 +4,8 @@ use demand::{BothAnswer, BothDone, BothRead};
 use part::{Device, DoneAnswer, NumberAnswer, Refusal};
 use setting_values::ValueAnswer;
 use settings::{Setting, SettingAnswer, SettingNumber};
+use std::io;
+use std::io::Write;
 use values::Value;
 use vectors::{near, taken_in};
 
@@ -134,21 +136,26 @@ fn answers(
     as_image: &mut [u8],
 ) -> u64 {
     let mut digest: u64 = 0;
-    let mut k: u32 = 0;
-    while k < TURNS {
+    for k in 0..TURNS {
         digest = turn(d, image, readout, kept, as_readout, as_image, k, digest);
-        k += 1;
     }
     digest
 }
 
-fn put_all(image: &[u8], readout: &[u8], kept: &[u8], as_readout: &[u8], as_image: &[u8]) {
-    vectors::put(b" image", vectors::digest_of(image));
-    vectors::put(b" readout", vectors::digest_of(readout));
-    vectors::put(b" before", vectors::digest_of(kept));
-    vectors::put(b" its readout", vectors::digest_of(as_readout));
-    vectors::put(b" its image", vectors::digest_of(as_image));
-    vectors::end_line();
+fn put_all<W: Write>(
+    out: &mut W,
+    image: &[u8],
+    readout: &[u8],
+    kept: &[u8],
+    as_readout: &[u8],
+    as_image: &[u8],
+) -> io::Result<()> {
+    vectors::put(out, b" image", vectors::digest_of(image))?;
+    vectors::put(out, b" readout", vectors::digest_of(readout))?;
+    vectors::put(out, b" before", vectors::digest_of(kept))?;
+    vectors::put(out, b" its readout", vectors::digest_of(as_readout))?;
+    vectors::put(out, b" its image", vectors::digest_of(as_image))?;
+    vectors::end_line(out)
 }
 
 fn fill_all(
@@ -165,25 +172,28 @@ fn fill_all(
     vectors::fill(as_image, 7);
 }
 
-fn on_slices(
+fn on_slices<W: Write>(
+    out: &mut W,
     d: Device,
     image: &mut [u8],
     readout: &mut [u8],
     kept: &mut [u8],
     as_readout: &mut [u8],
     as_image: &mut [u8],
-) {
-    vectors::put_device(d);
+) -> io::Result<()> {
+    vectors::put_device(out, d)?;
     fill_all(image, readout, kept, as_readout, as_image);
     vectors::put(
+        out,
         b" both ways",
         answers(d, image, readout, kept, as_readout, as_image),
-    );
-    put_all(image, readout, kept, as_readout, as_image);
+    )?;
+    put_all(out, image, readout, kept, as_readout, as_image)
 }
 
 // Lengths k of three, as for the other edits; the kept readout is as long as the readout for the right lengths alone.
-fn with_lengths(
+fn with_lengths<W: Write>(
+    out: &mut W,
     d: Device,
     image: &mut [u8],
     readout: &mut [u8],
@@ -191,7 +201,7 @@ fn with_lengths(
     as_readout: &mut [u8],
     as_image: &mut [u8],
     k: u32,
-) {
+) -> io::Result<()> {
     let sizes = vectors::sizes(d);
     let i = near(sizes.image_bytes, k % 3, image.len());
     let r = near(sizes.readout_bytes, 2 - k % 3, readout.len());
@@ -199,27 +209,28 @@ fn with_lengths(
     let ir = near(sizes.readout_bytes, k % 3, as_readout.len());
     let ii = near(sizes.image_bytes, 2 - k % 3, as_image.len());
     on_slices(
+        out,
         d,
         &mut image[..i],
         &mut readout[..r],
         &mut kept[..b],
         &mut as_readout[..ir],
         &mut as_image[..ii],
-    );
+    )
 }
 
 // Each device, with each of the lengths.
-pub fn each_device(
+pub fn each_device<W: Write>(
+    out: &mut W,
     image: &mut [u8],
     readout: &mut [u8],
     kept: &mut [u8],
     as_readout: &mut [u8],
     as_image: &mut [u8],
-) {
-    let mut k: u32 = 0;
-    while k < 3 * vectors::DEVICES {
+) -> io::Result<()> {
+    for k in 0..3 * vectors::DEVICES {
         let d = vectors::device(k / 3);
-        with_lengths(d, image, readout, kept, as_readout, as_image, k % 3);
-        k += 1;
+        with_lengths(out, d, image, readout, kept, as_readout, as_image, k % 3)?;
     }
+    Ok(())
 }

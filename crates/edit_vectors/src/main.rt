@@ -5,6 +5,8 @@
 use part::{Device, DoneAnswer};
 use setting_values::ValueAnswer;
 use settings::{MacrocellField, Setting};
+use std::io;
+use std::io::{BufWriter, Write};
 use values::{OeMux, Value};
 use vectors::{SMALLEST, at_most, near};
 
@@ -60,12 +62,10 @@ fn pattern(k: u32, turn: u32) -> u32 {
 fn reads(in_readout: bool, d: Device, bytes: &[u8], count: u32) -> u64 {
     let mut digest: u64 = 0;
     let mut setting = first_asked(count);
-    let mut k: u32 = 0;
-    while k < 4900 {
+    for k in 0..4900 {
         let answer = read(in_readout, d, bytes, setting);
         digest = vectors::taken_in(digest, answer);
         setting = next_asked(count, k, setting);
-        k += 1;
     }
     digest
 }
@@ -74,72 +74,105 @@ fn reads(in_readout: bool, d: Device, bytes: &[u8], count: u32) -> u64 {
 fn sets(in_readout: bool, d: Device, bytes: &mut [u8], count: u32, turn: u32) -> u64 {
     let mut digest: u64 = 0;
     let mut setting = first_asked(count);
-    let mut k: u32 = 0;
-    while k < 4900 {
+    for k in 0..4900 {
         let answer = set(in_readout, d, bytes, setting, pattern(k, turn));
         digest = vectors::taken_in(digest, answer);
         setting = next_asked(count, k, setting);
-        k += 1;
     }
     digest
 }
 
 // What is read, what setting answers, what is read then, and the bytes.
-fn edits(in_readout: bool, d: Device, bytes: &mut [u8], turn: u32) {
+fn edits<W: Write>(
+    out: &mut W,
+    in_readout: bool,
+    d: Device,
+    bytes: &mut [u8],
+    turn: u32,
+) -> io::Result<()> {
     let count = setting_count(d);
-    vectors::put(b" read", reads(in_readout, d, &bytes[..], count));
-    vectors::put(b" set", sets(in_readout, d, bytes, count, turn));
-    vectors::put(b" then", reads(in_readout, d, &bytes[..], count));
-    vectors::put(b" bytes", vectors::digest_of(&bytes[..]));
+    vectors::put(out, b" read", reads(in_readout, d, &bytes[..], count))?;
+    vectors::put(out, b" set", sets(in_readout, d, bytes, count, turn))?;
+    vectors::put(out, b" then", reads(in_readout, d, &bytes[..], count))?;
+    vectors::put(out, b" bytes", vectors::digest_of(&bytes[..]))
 }
 
 // On bytes that look random: most bytes of such a readout that can have a bit above a width have one.
-fn on_any_bytes(d: Device, image: &mut [u8], readout: &mut [u8]) {
+fn on_any_bytes<W: Write>(
+    out: &mut W,
+    d: Device,
+    image: &mut [u8],
+    readout: &mut [u8],
+) -> io::Result<()> {
     vectors::fill(image, 1);
-    vectors::put(b" image", image.len() as u64);
-    edits(false, d, image, 0);
+    vectors::put(out, b" image", image.len() as u64)?;
+    edits(out, false, d, image, 0)?;
     vectors::fill(readout, 2);
-    vectors::put(b" readout", readout.len() as u64);
-    edits(true, d, readout, 1);
+    vectors::put(out, b" readout", readout.len() as u64)?;
+    edits(out, true, d, readout, 1)
 }
 
 // On the readout of the image, which has no bit above a width.
-fn on_as_readout(d: Device, image: &[u8], readout: &mut [u8]) {
+fn on_as_readout<W: Write>(
+    out: &mut W,
+    d: Device,
+    image: &[u8],
+    readout: &mut [u8],
+) -> io::Result<()> {
     let answer = xc9500::xc9500_image_to_readout(d.blocks, d.class, image, readout);
-    vectors::put_answer(answer);
-    edits(true, d, readout, 2);
+    vectors::put_answer(out, answer)?;
+    edits(out, true, d, readout, 2)
 }
 
-fn answers(d: Device, image: &mut [u8], readout: &mut [u8]) {
-    on_any_bytes(d, image, readout);
-    on_as_readout(d, &image[..], readout);
-    vectors::end_line();
+fn answers<W: Write>(
+    out: &mut W,
+    d: Device,
+    image: &mut [u8],
+    readout: &mut [u8],
+) -> io::Result<()> {
+    on_any_bytes(out, d, image, readout)?;
+    on_as_readout(out, d, &image[..], readout)?;
+    vectors::end_line(out)
 }
 
 // Lengths k of three: the image one byte too short and the readout one too long, both right, and the other way round.
-fn with_lengths(d: Device, image: &mut [u8], readout: &mut [u8], k: u32) {
-    vectors::put_device(d);
+fn with_lengths<W: Write>(
+    out: &mut W,
+    d: Device,
+    image: &mut [u8],
+    readout: &mut [u8],
+    k: u32,
+) -> io::Result<()> {
+    vectors::put_device(out, d)?;
     let sizes = vectors::sizes(d);
     let i = near(sizes.image_bytes, k % 3, image.len());
     let r = near(sizes.readout_bytes, 2 - k % 3, readout.len());
-    answers(d, &mut image[..i], &mut readout[..r]);
+    answers(out, d, &mut image[..i], &mut readout[..r])
 }
 
-fn each_device(image: &mut [u8], readout: &mut [u8]) {
-    let mut k: u32 = 0;
-    while k < 3 * vectors::DEVICES {
-        with_lengths(vectors::device(k / 3), image, readout, k % 3);
-        k += 1;
+fn each_device<W: Write>(out: &mut W, image: &mut [u8], readout: &mut [u8]) -> io::Result<()> {
+    for k in 0..3 * vectors::DEVICES {
+        with_lengths(out, vectors::device(k / 3), image, readout, k % 3)?;
     }
+    Ok(())
 }
 
 // OE_MUX as it is read, then set to FOE2 and read once more.
-fn set_to_foe2(name: &[u8], in_readout: bool, bytes: &mut [u8]) {
-    vectors::put(name, read(in_readout, SMALLEST, &bytes[..], OE_MUX));
-    vectors::put(b" set", set(in_readout, SMALLEST, bytes, OE_MUX, 4));
-    vectors::put(b" then", read(in_readout, SMALLEST, &bytes[..], OE_MUX));
-    vectors::put(b" bytes", vectors::digest_of(&bytes[..]));
-    vectors::end_line();
+fn set_to_foe2<W: Write>(
+    out: &mut W,
+    name: &[u8],
+    in_readout: bool,
+    bytes: &mut [u8],
+) -> io::Result<()> {
+    vectors::put(out, name, read(in_readout, SMALLEST, &bytes[..], OE_MUX))?;
+    vectors::put(out, b" set", set(in_readout, SMALLEST, bytes, OE_MUX, 4))?;
+    vectors::put(
+        out,
+        b" then",
+        read(in_readout, SMALLEST, &bytes[..], OE_MUX),
+    )?;
+    vectors::put(out, b" bytes", vectors::digest_of(&bytes[..]))?;
+    vectors::end_line(out)
 }
 
 // OE_MUX of macrocell 0 of block 0 by its name.
@@ -195,68 +228,78 @@ fn refusal(answer: DoneAnswer) -> u64 {
     }
 }
 
-fn set_to_foe2_by_name(name: &[u8], in_readout: bool, bytes: &mut [u8]) {
-    vectors::put(name, which(read_by_name(in_readout, &bytes[..])));
+fn set_to_foe2_by_name<W: Write>(
+    out: &mut W,
+    name: &[u8],
+    in_readout: bool,
+    bytes: &mut [u8],
+) -> io::Result<()> {
+    vectors::put(out, name, which(read_by_name(in_readout, &bytes[..])))?;
     vectors::put(
+        out,
         b" set",
         refusal(set_by_name(in_readout, bytes, OeMux::Foe2)),
-    );
-    vectors::put(b" then", which(read_by_name(in_readout, &bytes[..])));
-    vectors::put(b" bytes", vectors::digest_of(&bytes[..]));
-    vectors::end_line();
+    )?;
+    vectors::put(out, b" then", which(read_by_name(in_readout, &bytes[..])))?;
+    vectors::put(out, b" bytes", vectors::digest_of(&bytes[..]))?;
+    vectors::end_line(out)
 }
 
-fn put_byte(name: &[u8], bytes: &[u8], i: usize) {
+fn put_byte<W: Write>(out: &mut W, name: &[u8], bytes: &[u8], i: usize) -> io::Result<()> {
     if i < bytes.len() {
-        vectors::put(name, bytes[i] as u64);
-        vectors::end_line();
+        vectors::put(out, name, bytes[i] as u64)?;
+        vectors::end_line(out)?;
     }
+    Ok(())
 }
 
 // Document 01's case: an image of ones, in which two fuses are cleared and one is kept; the same in its readout.
-fn by_number(image: &mut [u8], readout: &mut [u8]) {
+fn by_number<W: Write>(out: &mut W, image: &mut [u8], readout: &mut [u8]) -> io::Result<()> {
     vectors::fill_with(image, 255);
     let answer = xc9500::xc9500_image_to_readout(2, 0, &image[..], readout);
-    vectors::put(b"readout of ones", answer);
-    vectors::end_line();
-    set_to_foe2(b"OE_MUX in the image", false, image);
-    put_byte(b"byte of fuse 3138", &image[..], 392);
-    put_byte(b"byte of fuse 3246", &image[..], 405);
-    put_byte(b"byte of fuse 3354", &image[..], 419);
-    set_to_foe2(b"OE_MUX in the readout", true, readout);
+    vectors::put(out, b"readout of ones", answer)?;
+    vectors::end_line(out)?;
+    set_to_foe2(out, b"OE_MUX in the image", false, image)?;
+    put_byte(out, b"byte of fuse 3138", &image[..], 392)?;
+    put_byte(out, b"byte of fuse 3246", &image[..], 405)?;
+    put_byte(out, b"byte of fuse 3354", &image[..], 419)?;
+    set_to_foe2(out, b"OE_MUX in the readout", true, readout)
 }
 
-fn by_name(image: &mut [u8], readout: &mut [u8]) {
+fn by_name<W: Write>(out: &mut W, image: &mut [u8], readout: &mut [u8]) -> io::Result<()> {
     vectors::fill_with(image, 255);
-    set_to_foe2_by_name(b"by name in the image", false, image);
+    set_to_foe2_by_name(out, b"by name in the image", false, image)?;
     vectors::fill_with(readout, 255);
-    set_to_foe2_by_name(b"by name in a readout of bytes 255", true, readout);
+    set_to_foe2_by_name(out, b"by name in a readout of bytes 255", true, readout)
 }
 
-fn document_case(image: &mut [u8], readout: &mut [u8]) {
-    by_number(image, readout);
-    by_name(image, readout);
+fn document_case<W: Write>(out: &mut W, image: &mut [u8], readout: &mut [u8]) -> io::Result<()> {
+    by_number(out, image, readout)?;
+    by_name(out, image, readout)
 }
 
-fn on_the_smallest(image: &mut [u8], readout: &mut [u8]) {
+fn on_the_smallest<W: Write>(out: &mut W, image: &mut [u8], readout: &mut [u8]) -> io::Result<()> {
     let a = at_most(2268, image.len());
     let b = at_most(2520, readout.len());
-    document_case(&mut image[..a], &mut readout[..b]);
+    document_case(out, &mut image[..a], &mut readout[..b])
 }
 
-fn main() {
-    let mut image = io::large_buffer();
-    let mut readout = io::large_buffer();
-    on_the_smallest(&mut image, &mut readout);
-    each_device(&mut image, &mut readout);
-    let mut kept = io::large_buffer();
-    let mut as_readout = io::large_buffer();
-    let mut as_image = io::large_buffer();
+fn main(rt: HostRuntime) -> io::Result<()> {
+    let mut out = BufWriter::new(rt.alloc(), io::writer(&rt))?;
+    let mut image = [0u8; vectors::BUFFER];
+    let mut readout = [0u8; vectors::BUFFER];
+    on_the_smallest(&mut out, &mut image, &mut readout)?;
+    each_device(&mut out, &mut image, &mut readout)?;
+    let mut kept = [0u8; vectors::BUFFER];
+    let mut as_readout = [0u8; vectors::BUFFER];
+    let mut as_image = [0u8; vectors::BUFFER];
     both::each_device(
+        &mut out,
         &mut image,
         &mut readout,
         &mut kept,
         &mut as_readout,
         &mut as_image,
-    );
+    )?;
+    out.flush()
 }

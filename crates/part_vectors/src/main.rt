@@ -2,57 +2,58 @@
 // addresses. The file stdout beside src/ is what the independent program prints.
 #![tactic(auto)]
 
-
 use part::{Device, SizesAnswer};
+use std::io;
+use std::io::{BufWriter, Write};
 
-fn refusal(r: part::Refusal) {
-    vectors::put(b" refused", part::refusal_number(r) as u64);
-    vectors::put(b" value", part::refusal_value(r) as u64);
+fn refusal<W: Write>(out: &mut W, r: part::Refusal) -> io::Result<()> {
+    vectors::put(out, b" refused", part::refusal_number(r) as u64)?;
+    vectors::put(out, b" value", part::refusal_value(r) as u64)
 }
 
-fn sizes(d: Device) {
-    vectors::put_device(d);
+fn sizes<W: Write>(out: &mut W, d: Device) -> io::Result<()> {
+    vectors::put_device(out, d)?;
     let answer = part::sizes_of(d);
     match answer {
         SizesAnswer::Of(s) => {
-            vectors::put(b" fuses", s.fuses as u64);
-            vectors::put(b" image", s.image_bytes as u64);
-            vectors::put(b" readout", s.readout_bytes as u64);
-            vectors::put(b" text", s.text_bytes as u64);
+            vectors::put(out, b" fuses", s.fuses as u64)?;
+            vectors::put(out, b" image", s.image_bytes as u64)?;
+            vectors::put(out, b" readout", s.readout_bytes as u64)?;
+            vectors::put(out, b" text", s.text_bytes as u64)?;
         }
-        SizesAnswer::Refused(r) => refusal(r),
+        SizesAnswer::Refused(r) => refusal(out, r)?,
     }
-    vectors::end_line();
+    vectors::end_line(out)
 }
 
-fn fuse(f: u32) {
-    vectors::put(b"fuse", f as u64);
-    vectors::put_answer(xc9500::xc9500_address_of_fuse(2, 0, f));
-    vectors::end_line();
+fn fuse<W: Write>(out: &mut W, f: u32) -> io::Result<()> {
+    vectors::put(out, b"fuse", f as u64)?;
+    vectors::put_answer(out, xc9500::xc9500_address_of_fuse(2, 0, f))?;
+    vectors::end_line(out)
 }
 
-fn address(a: u32) {
-    vectors::put(b"address", a as u64);
-    vectors::put_answer(xc9500::xc9500_fuse_of_address(2, 0, a, 0));
-    vectors::end_line();
+fn address<W: Write>(out: &mut W, a: u32) -> io::Result<()> {
+    vectors::put(out, b"address", a as u64)?;
+    vectors::put_answer(out, xc9500::xc9500_fuse_of_address(2, 0, a, 0))?;
+    vectors::end_line(out)
 }
 
-fn bench_cases() {
-    fuse(0);
-    fuse(71);
-    fuse(72);
-    fuse(107);
-    fuse(108);
-    fuse(7775);
-    fuse(7776);
-    fuse(7784);
-    fuse(9072);
-    fuse(18143);
-    fuse(18144);
-    address(5);
-    address(24);
-    address(2304);
-    address(16384);
+fn bench_cases<W: Write>(out: &mut W) -> io::Result<()> {
+    fuse(out, 0)?;
+    fuse(out, 71)?;
+    fuse(out, 72)?;
+    fuse(out, 107)?;
+    fuse(out, 108)?;
+    fuse(out, 7775)?;
+    fuse(out, 7776)?;
+    fuse(out, 7784)?;
+    fuse(out, 9072)?;
+    fuse(out, 18143)?;
+    fuse(out, 18144)?;
+    address(out, 5)?;
+    address(out, 24)?;
+    address(out, 2304)?;
+    address(out, 16384)
 }
 
 // Call number i: the address of a fuse, or the fuse of an address with bits 0 to 8 in turn.
@@ -65,10 +66,8 @@ fn call(by_fuse: bool, d: Device, i: u32) -> u64 {
 
 fn digest(by_fuse: bool, d: Device, calls: u32) -> u64 {
     let mut digest: u64 = 0;
-    let mut i: u32 = 0;
-    while i < calls {
+    for i in 0..calls {
         digest = vectors::taken_in(digest, call(by_fuse, d, i));
-        i += 1;
     }
     digest
 }
@@ -78,30 +77,31 @@ const FUSES: u32 = 300000;
 
 const ADDRESSES: u32 = 9 * 131072;
 
-fn digests(d: Device) {
-    vectors::put_device(d);
-    vectors::put(b" fuses", FUSES as u64);
-    vectors::put(b" digest", digest(true, d, FUSES));
-    vectors::put(b" addresses", ADDRESSES as u64);
-    vectors::put(b" digest", digest(false, d, ADDRESSES));
-    vectors::end_line();
+fn digests<W: Write>(out: &mut W, d: Device) -> io::Result<()> {
+    vectors::put_device(out, d)?;
+    vectors::put(out, b" fuses", FUSES as u64)?;
+    vectors::put(out, b" digest", digest(true, d, FUSES))?;
+    vectors::put(out, b" addresses", ADDRESSES as u64)?;
+    vectors::put(out, b" digest", digest(false, d, ADDRESSES))?;
+    vectors::end_line(out)
 }
 
-fn each_device(sizes_only: bool) {
-    let mut k: u32 = 0;
-    while k < vectors::DEVICES {
+fn each_device<W: Write>(out: &mut W, sizes_only: bool) -> io::Result<()> {
+    for k in 0..vectors::DEVICES {
         let d = vectors::device(k);
         if sizes_only {
-            sizes(d);
+            sizes(out, d)?;
         } else {
-            digests(d);
+            digests(out, d)?;
         }
-        k += 1;
     }
+    Ok(())
 }
 
-fn main() {
-    each_device(true);
-    bench_cases();
-    each_device(false);
+fn main(rt: HostRuntime) -> io::Result<()> {
+    let mut out = BufWriter::new(rt.alloc(), io::writer(&rt))?;
+    each_device(&mut out, true)?;
+    bench_cases(&mut out)?;
+    each_device(&mut out, false)?;
+    out.flush()
 }

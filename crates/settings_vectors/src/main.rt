@@ -11,6 +11,8 @@ use settings::{
     BlockField, GlobalField, MacrocellField, Polarity, Setting, SettingAnswer, SettingNumber,
     SettingNumberAnswer,
 };
+use std::io;
+use std::io::{BufWriter, Write};
 use values::{
     ClkMux, ExportDir, FclkMux, FoeMux, ImportAlloc, IobOeMux, IobSlew, OeMux, OutMux, RegMode,
     RstSetMux, TermAlloc, UimOeMux, Value,
@@ -327,10 +329,8 @@ fn fuse_of(digest: u64, d: Device, s: Setting, bit: u32) -> u64 {
 // The fuse of each bit, and of the bit after the last.
 fn fuses_of(digest: u64, d: Device, s: Setting, width: u32) -> u64 {
     let mut digest = digest;
-    let mut bit: u32 = 0;
-    while bit < width {
+    for bit in 0..width {
         digest = fuse_of(digest, d, s, bit);
-        bit += 1;
     }
     fuse_of(digest, d, s, width)
 }
@@ -383,10 +383,8 @@ fn value_of(digest: u64, d: Device, s: Setting, pattern: u32) -> u64 {
 fn values_of(digest: u64, d: Device, s: Setting, width: u32) -> u64 {
     let mut digest = digest;
     let count = pattern_count(width);
-    let mut k: u32 = 0;
-    while k < count {
+    for k in 0..count {
         digest = value_of(digest, d, s, pattern_number(width, k));
-        k += 1;
     }
     digest
 }
@@ -422,10 +420,8 @@ fn item(of_fuses: bool, digest: u64, d: Device, i: u32) -> u64 {
 // All fuses or all settings, and the number after the last.
 fn digest(of_fuses: bool, d: Device, count: u32) -> u64 {
     let mut digest: u64 = 0;
-    let mut i: u32 = 0;
-    while i < count {
+    for i in 0..count {
         digest = item(of_fuses, digest, d, i);
-        i += 1;
     }
     item(of_fuses, digest, d, count)
 }
@@ -454,10 +450,8 @@ fn one_if_unnamed(d: Device, fuse: u32) -> u32
 // How many fuses are unnamed.
 fn unnamed(d: Device, count: u32) -> u32 {
     let mut unnamed: u32 = 0;
-    let mut fuse: u32 = 0;
-    while fuse < count {
+    for fuse in 0..count {
         unnamed += one_if_unnamed(d, fuse);
-        fuse += 1;
     }
     unnamed
 }
@@ -484,10 +478,8 @@ fn offer(digest: u64, d: Device, number: u32, v: Value) -> u64 {
 // A value offered to each setting of the sample.
 fn offers(digest: u64, d: Device, v: Value) -> u64 {
     let mut digest = digest;
-    let mut number: u32 = FIRST_OF_SAMPLE;
-    while number < END_OF_SAMPLE {
+    for number in FIRST_OF_SAMPLE..END_OF_SAMPLE {
         digest = offer(digest, d, number, v);
-        number += 1;
     }
     digest
 }
@@ -503,10 +495,8 @@ fn offers_of_pattern(digest: u64, d: Device, s: Setting, pattern: u32) -> u64 {
 fn offers_of_setting(digest: u64, d: Device, s: Setting, width: u32) -> u64 {
     let mut digest = digest;
     let count = pattern_count(width);
-    let mut k: u32 = 0;
-    while k < count {
+    for k in 0..count {
         digest = offers_of_pattern(digest, d, s, pattern_number(width, k));
-        k += 1;
     }
     digest
 }
@@ -525,10 +515,8 @@ fn offers_of_number(digest: u64, d: Device, number: u32) -> u64 {
 // The digest of the answers for each value offered to each setting of the sample.
 fn values_offered(d: Device) -> u64 {
     let mut digest: u64 = 0;
-    let mut number: u32 = FIRST_OF_SAMPLE;
-    while number < END_OF_SAMPLE {
+    for number in FIRST_OF_SAMPLE..END_OF_SAMPLE {
         digest = offers_of_number(digest, d, number);
-        number += 1;
     }
     digest
 }
@@ -536,10 +524,8 @@ fn values_offered(d: Device) -> u64 {
 // The same digest with patterns offered as "unassigned" taken in.
 fn offers_digest(d: Device) -> u64 {
     let mut digest = values_offered(d);
-    let mut pattern: u32 = 0;
-    while pattern < 9 {
+    for pattern in 0..9 {
         digest = offers(digest, d, Value::Unassigned(pattern));
-        pattern += 1;
     }
     offers(digest, d, Value::Unassigned(0xFFFFFFFF))
 }
@@ -693,26 +679,38 @@ fn past_digest(d: Device) -> u64 {
 }
 
 // A fuse with its address and bit, from their word. The word of a refusal would show as a number that is no fuse.
-fn put_located(word: u64) {
-    vectors::put(b" fuse", word >> 20);
-    vectors::put(b" address", word % (1 << 20) / 8);
-    vectors::put(b" bit", word % 8);
+fn put_located<W: Write>(out: &mut W, word: u64) -> io::Result<()> {
+    vectors::put(out, b" fuse", word >> 20)?;
+    vectors::put(out, b" address", word % (1 << 20) / 8)?;
+    vectors::put(out, b" bit", word % 8)
 }
 
 // Number and fuse, with its address and bit, of a bit of a setting of document 01's cases, and the way back from the
 // fuse that it gives.
-fn document_case(name: &[u8], s: Setting, bit: u32, fuse: u32) {
-    vectors::put(name, bit as u64);
+fn document_case<W: Write>(
+    out: &mut W,
+    name: &[u8],
+    s: Setting,
+    bit: u32,
+    fuse: u32,
+) -> io::Result<()> {
+    vectors::put(out, name, bit as u64)?;
     vectors::put(
+        out,
         b" number",
         setting_number_word(settings::number_of_setting(SMALLEST, s)),
-    );
-    put_located(bit_word(setting_places::fuse_of_bit(SMALLEST, s, bit)));
-    vectors::put(b" back", at_fuse(SMALLEST, fuse));
-    vectors::end_line();
+    )?;
+    put_located(out, bit_word(setting_places::fuse_of_bit(SMALLEST, s, bit)))?;
+    vectors::put(out, b" back", at_fuse(SMALLEST, fuse))?;
+    vectors::end_line(out)
 }
 
-fn literal_case(name: &[u8], polarity: Polarity, fuse: u32) {
+fn literal_case<W: Write>(
+    out: &mut W,
+    name: &[u8],
+    polarity: Polarity,
+    fuse: u32,
+) -> io::Result<()> {
     let s = Setting::Literal {
         block: 0,
         macrocell: 4,
@@ -720,17 +718,17 @@ fn literal_case(name: &[u8], polarity: Polarity, fuse: u32) {
         input: 7,
         polarity,
     };
-    document_case(name, s, 0, fuse);
+    document_case(out, name, s, 0, fuse)
 }
 
-fn wire_and_case() {
+fn wire_and_case<W: Write>(out: &mut W) -> io::Result<()> {
     let s = Setting::WireAnd {
         block: 0,
         input: 7,
         source: 1,
         macrocell: 3,
     };
-    document_case(b"wire-AND bit", s, 0, 8548);
+    document_case(out, b"wire-AND bit", s, 0, 8548)
 }
 
 fn field_of(macrocell: u32, field: MacrocellField) -> Setting {
@@ -741,59 +739,60 @@ fn field_of(macrocell: u32, field: MacrocellField) -> Setting {
     }
 }
 
-fn fuse_cases() {
-    literal_case(b"literal P bit", Polarity::P, 1677);
-    literal_case(b"literal N bit", Polarity::N, 1569);
-    wire_and_case();
-    document_case(b"INV bit", field_of(10, MacrocellField::Inv), 0, 2391);
+fn fuse_cases<W: Write>(out: &mut W) -> io::Result<()> {
+    literal_case(out, b"literal P bit", Polarity::P, 1677)?;
+    literal_case(out, b"literal N bit", Polarity::N, 1569)?;
+    wire_and_case(out)?;
+    document_case(out, b"INV bit", field_of(10, MacrocellField::Inv), 0, 2391)?;
     let usercode = Setting::Global(GlobalField::Usercode);
-    document_case(b"USERCODE bit", usercode, 0, 818);
-    document_case(b"USERCODE bit", usercode, 31, 655);
+    document_case(out, b"USERCODE bit", usercode, 0, 818)?;
+    document_case(out, b"USERCODE bit", usercode, 31, 655)
 }
 
 // OE_MUX of macrocell 0: its three fuses, the value of all ones, the pattern of FOE2.
-fn oe_mux_cases() {
+fn oe_mux_cases<W: Write>(out: &mut W) -> io::Result<()> {
     let s = field_of(0, MacrocellField::OeMux);
-    document_case(b"OE_MUX bit", s, 0, 3138);
-    document_case(b"OE_MUX bit", s, 1, 3246);
-    document_case(b"OE_MUX bit", s, 2, 3354);
+    document_case(out, b"OE_MUX bit", s, 0, 3138)?;
+    document_case(out, b"OE_MUX bit", s, 1, 3246)?;
+    document_case(out, b"OE_MUX bit", s, 2, 3354)?;
     let value = value_word(setting_values::value_of_pattern(SMALLEST, s, 7));
-    vectors::put(b"OE_MUX pattern 7 value", value);
-    vectors::end_line();
+    vectors::put(out, b"OE_MUX pattern 7 value", value)?;
+    vectors::end_line(out)?;
     let foe2 = setting_values::pattern_of_value(SMALLEST, s, Value::OeMux(OeMux::Foe2));
-    vectors::put(b"OE_MUX FOE2 pattern", number_word(foe2));
-    vectors::end_line();
+    vectors::put(out, b"OE_MUX FOE2 pattern", number_word(foe2))?;
+    vectors::end_line(out)
 }
 
-fn count(d: Device) {
-    vectors::put_device(d);
-    vectors::put_answer(number_word(settings::setting_count(d)));
+fn count<W: Write>(out: &mut W, d: Device) -> io::Result<()> {
+    vectors::put_device(out, d)?;
+    vectors::put_answer(out, number_word(settings::setting_count(d)))
 }
 
-fn digests(d: Device) {
-    vectors::put(b" settings", digest(false, d, setting_count(d)));
-    vectors::put(b" fuses", digest(true, d, fuse_count(d)));
-    vectors::put(b" unnamed", unnamed(d, fuse_count(d)) as u64);
-    vectors::put(b" offers", offers_digest(d));
-    vectors::put(b" past", past_digest(d));
+fn digests<W: Write>(out: &mut W, d: Device) -> io::Result<()> {
+    vectors::put(out, b" settings", digest(false, d, setting_count(d)))?;
+    vectors::put(out, b" fuses", digest(true, d, fuse_count(d)))?;
+    vectors::put(out, b" unnamed", unnamed(d, fuse_count(d)) as u64)?;
+    vectors::put(out, b" offers", offers_digest(d))?;
+    vectors::put(out, b" past", past_digest(d))
 }
 
-fn device(d: Device) {
-    count(d);
-    digests(d);
-    vectors::end_line();
+fn device<W: Write>(out: &mut W, d: Device) -> io::Result<()> {
+    count(out, d)?;
+    digests(out, d)?;
+    vectors::end_line(out)
 }
 
-fn each_device() {
-    let mut k: u32 = 0;
-    while k < vectors::DEVICES {
-        device(vectors::device(k));
-        k += 1;
+fn each_device<W: Write>(out: &mut W) -> io::Result<()> {
+    for k in 0..vectors::DEVICES {
+        device(out, vectors::device(k))?;
     }
+    Ok(())
 }
 
-fn main() {
-    fuse_cases();
-    oe_mux_cases();
-    each_device();
+fn main(rt: HostRuntime) -> io::Result<()> {
+    let mut out = BufWriter::new(rt.alloc(), io::writer(&rt))?;
+    fuse_cases(&mut out)?;
+    oe_mux_cases(&mut out)?;
+    each_device(&mut out)?;
+    out.flush()
 }

@@ -1,10 +1,14 @@
 // What the programs that run vectors share: the devices to ask, a digest of many answers in one number, the printing of
-// a line. Nothing here is proved of what is printed: it is compared with what the independent program prints.
+// a line. No contract says which numbers are printed: they are compared with what the independent program prints.
 #![tactic(auto)]
 
-ghost use Rattle.std.specs.Prelude.{◌≤◌};
+ghost use Rattle.std.specs.Prelude.{◌≤◌, ◌++◌, ◌/◌, ◌%◌, ◌^◌, OnOk, codes};
+ghost use Rattle.std.specs.Io.KnownBytes.{Appends};
+ghost use Rattle.std.specs.Fmt.{decimal};
 
 use part::{Device, Sizes, SizesAnswer};
+use std::io;
+use std::io::Write;
 
 // The devices to ask: every block count below 18, known or not, with the two classes and one that is none.
 pub const DEVICES: u32 = 18 * 3;
@@ -16,6 +20,9 @@ pub fn device(k: u32) -> Device {
         class: k % 3,
     }
 }
+
+// The bytes of a buffer that holds an image or a readout of any device, and one of the next length.
+pub const BUFFER: usize = 65536;
 
 // The device with the fewest fuses.
 pub const SMALLEST: Device = Device {
@@ -52,55 +59,58 @@ pub fn next(word: u64) -> u64 {
 // All bytes of a slice, made from the words after `seed`.
 pub fn fill(bytes: &mut [u8], seed: u64) {
     let mut word = seed;
-    let mut i: usize = 0;
-    while i < bytes.len() {
+    for byte in bytes {
         word = next(word);
-        bytes[i] = (word / 65536 % 256) as u8;
-        i += 1;
+        *byte = (word / 65536 % 256) as u8;
     }
 }
 
 // The same byte at each place of a slice.
 pub fn fill_with(bytes: &mut [u8], value: u8) {
-    let mut i: usize = 0;
-    while i < bytes.len() {
-        bytes[i] = value;
-        i += 1;
+    for byte in bytes {
+        *byte = value;
     }
 }
 
 // The digest of the bytes of a slice.
 pub fn digest_of(bytes: &[u8]) -> u64 {
     let mut digest: u64 = 0;
-    let mut i: usize = 0;
-    while i < bytes.len() {
-        digest = taken_in(digest, bytes[i] as u64);
-        i += 1;
+    for byte in bytes {
+        digest = taken_in(digest, *byte as u64);
     }
     digest
 }
 
 // A word of the C interface: its refusal, or its result.
-pub fn put_answer(w: u64) {
-    put(b" refused", w >> 56);
-    put(b" result", w % 72057594037927936);
+pub fn put_answer<W: Write>(out: &mut W, w: u64) -> io::Result<()>
+    ensures { OnOk result (Appends (W.contents out.old) (W.contents out.new)
+        (codes " refused " ++ decimal (w / 2 ^ 56) ++ codes " result " ++ decimal (w % 2 ^ 56))) }
+{
+    put(out, b" refused", w >> 56)?;
+    put(out, b" result", w % 72057594037927936)
 }
 
 // A device, at the start of a line.
-pub fn put_device(d: Device) {
-    put(b"blocks", d.blocks as u64);
-    put(b" class", d.class as u64);
+pub fn put_device<W: Write>(out: &mut W, d: Device) -> io::Result<()>
+    ensures { OnOk result (Appends (W.contents out.old) (W.contents out.new)
+        (codes "blocks " ++ decimal d.blocks ++ codes " class " ++ decimal d.class)) }
+{
+    put(out, b"blocks", d.blocks as u64)?;
+    put(out, b" class", d.class as u64)
 }
 
 // A word and a number after it, with a space before each number.
-pub fn put(word: &[u8], n: u64) {
-    io::write_all(libc::STDOUT_FILENO, word);
-    io::write_all(libc::STDOUT_FILENO, b" ");
-    io::print_decimal(libc::STDOUT_FILENO, n);
+pub fn put<W: Write>(out: &mut W, word: &[u8], n: u64) -> io::Result<()>
+    ensures { OnOk result (Appends (W.contents out.old) (W.contents out.new) (word.now ++ codes " " ++ decimal n)) }
+{
+    out.write_all(word)?;
+    write!(out, " {n}")
 }
 
-pub fn end_line() {
-    io::write_all(libc::STDOUT_FILENO, b"\n");
+pub fn end_line<W: Write>(out: &mut W) -> io::Result<()>
+    ensures { OnOk result (Appends (W.contents out.old) (W.contents out.new) (codes "\n")) }
+{
+    out.write_all(b"\n")
 }
 
 // A number, or a limit that it is over.
