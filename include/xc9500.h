@@ -1,4 +1,4 @@
-/* The C interface of the XC9500 fuse-map library. Link with libxc9500.a, which `rt staticlib xc9500` makes.
+/* The C interface of the XC9500 fuse-map library. Link with libxc9500.a, which `tools/staticlib` makes.
    Every function takes any numbers and any bytes, always returns, and answers one word; nothing else is shared. */
 #ifndef XC9500_H
 #define XC9500_H

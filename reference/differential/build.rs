@@ -3,7 +3,7 @@
 
 use std::env;
 use std::fs::{self, File};
-use std::io::{self, ErrorKind};
+use std::io;
 use std::path::{Path, PathBuf};
 use std::process::{exit, Command};
 use std::time::SystemTime;
@@ -16,25 +16,19 @@ fn fail(reason: &str) -> ! {
     exit(1);
 }
 
-/// Runs `rt staticlib xc9500`, which proves what is not proved yet and writes the archive.
+/// Runs `tools/staticlib`, which proves what is not proved yet and writes the archive.
 fn make_archive(root: &Path) {
-    // What rt prints is kept from cargo, which would read it as directives.
-    let run = Command::new("rt")
-        .args(["staticlib", "xc9500"])
-        .current_dir(root)
-        .output();
+    // What it prints is kept from cargo, which would read it as directives.
+    let run = Command::new(root.join("tools").join("staticlib")).output();
     match run {
         Ok(run) if run.status.success() => {}
         Ok(run) => fail(&format!(
-            "`rt staticlib xc9500` failed, {}\n{}{}",
+            "`tools/staticlib` failed, {}; mend that, or name the archive's folder in {ARCHIVE_DIR}\n{}{}",
             run.status,
             String::from_utf8_lossy(&run.stdout),
             String::from_utf8_lossy(&run.stderr),
         )),
-        Err(error) if error.kind() == ErrorKind::NotFound => fail(&format!(
-            "`rt` is not on PATH; put it there, or name the archive's folder in {ARCHIVE_DIR}"
-        )),
-        Err(error) => fail(&format!("`rt staticlib xc9500` did not start: {error}")),
+        Err(error) => fail(&format!("`tools/staticlib` did not start: {error}")),
     }
 }
 
@@ -59,13 +53,24 @@ fn date_as_newest(made: &Path, sources: &[PathBuf]) -> io::Result<()> {
     File::options().append(true).open(made)?.set_modified(date)
 }
 
+/// What the archive is made of: the list of crates, and of each crate the folders that are not made by a check.
+fn sources(root: &Path) -> io::Result<Vec<PathBuf>> {
+    let mut sources = vec![root.join("crates.txt")];
+    for entry in fs::read_dir(root.join("crates"))? {
+        let entry = entry?.path();
+        let folders = ["src", "specs", "proofs"].map(|name| entry.join(name));
+        sources.extend(folders.into_iter().filter(|folder| folder.is_dir()));
+    }
+    Ok(sources)
+}
+
 /// Makes the archive in the repository that this package lies in; answers its folder.
 fn made_in_repository() -> PathBuf {
     let package = env::var_os("CARGO_MANIFEST_DIR").expect("cargo sets it");
     let Some(root) = Path::new(&package).ancestors().nth(2) else {
         fail("this package does not lie in a repository");
     };
-    let sources = ["crates", "crates.txt"].map(|name| root.join(name));
+    let sources = sources(root).unwrap_or_else(|error| fail(&format!("its sources: {error}")));
     for source in &sources {
         println!("cargo:rerun-if-changed={}", source.display());
     }

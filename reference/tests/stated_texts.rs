@@ -24,19 +24,19 @@ struct List {
 /// Every list of texts in the specification.
 const LISTS: [List; 3] = [
     List {
-        name: "acceptedTexts",
+        name: "accepted_texts",
         fuses: FUSES,
         accepted: 10,
         refused: 0,
     },
     List {
-        name: "refusedTexts",
+        name: "refused_texts",
         fuses: FUSES,
         accepted: 0,
         refused: 79,
     },
     List {
-        name: "eightFuseTexts",
+        name: "eight_fuse_texts",
         fuses: 8,
         accepted: 4,
         refused: 9,
@@ -77,12 +77,12 @@ fn bytes(written: &str) -> Vec<u8> {
 fn expected(answer: &str) -> Answer<Vec<u8>> {
     let words: Vec<&str> = answer.split(' ').collect();
     match words[..] {
-        ["accepted", "allOnes"] => Ok(vec![0xFF; IMAGE_BYTES]),
-        ["accepted", "allZeros"] => Ok(vec![0; IMAGE_BYTES]),
-        ["accepted", "onlyFirst"] => Ok(all_but(0, 0, 1)),
-        ["accepted", "allButFirst"] => Ok(all_but(0xFF, 0, 0xFE)),
-        ["accepted", "onlyLast"] => Ok(all_but(0, IMAGE_BYTES - 1, 0x80)),
-        ["accepted", "eightFuses"] => Ok(vec![165]),
+        ["accepted", "all_ones"] => Ok(vec![0xFF; IMAGE_BYTES]),
+        ["accepted", "all_zeros"] => Ok(vec![0; IMAGE_BYTES]),
+        ["accepted", "only_first"] => Ok(all_but(0, 0, 1)),
+        ["accepted", "all_but_first"] => Ok(all_but(0xFF, 0, 0xFE)),
+        ["accepted", "only_last"] => Ok(all_but(0, IMAGE_BYTES - 1, 0x80)),
+        ["accepted", "eight_fuses"] => Ok(vec![165]),
         ["refused", number, value] => Err(Refusal {
             number: number.parse().expect("a number"),
             value: value.parse().expect("a value"),

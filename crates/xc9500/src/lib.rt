@@ -1,5 +1,5 @@
-// The C interface, declared in include/xc9500.h: numbers are u32, a slice is a pointer and a length, every answer is
-// one u64. Each function only calls its library function and packs the answer: specs/Packed.antt says how.
+// What the C interface answers: xc9500_c exports these functions, and include/xc9500.h declares them. Numbers are u32, every
+// answer is one u64. Each function only calls its library function and packs the answer: specs/Packed.antt says how.
 #![tactic(auto)]
 
 ghost use Rattle.std.specs.Prelude.{◌≡◌, length};
@@ -93,8 +93,7 @@ fn bit_word(answer: BitAnswer) -> u64
 }
 
 // How many fuses a device has.
-#[unsafe(no_mangle)]
-pub extern "C" fn xc9500_fuse_count(blocks: u32, class: u32) -> u64
+pub fn xc9500_fuse_count(blocks: u32, class: u32) -> u64
     ensures { result ≡ packed fuses_in (sizes_of (device blocks class)) }
 {
     let answer = part::sizes_of(Device { blocks, class });
@@ -105,8 +104,7 @@ pub extern "C" fn xc9500_fuse_count(blocks: u32, class: u32) -> u64
 }
 
 // How many bytes an image of a device has.
-#[unsafe(no_mangle)]
-pub extern "C" fn xc9500_image_bytes(blocks: u32, class: u32) -> u64
+pub fn xc9500_image_bytes(blocks: u32, class: u32) -> u64
     ensures { result ≡ packed image_bytes_in (sizes_of (device blocks class)) }
 {
     let answer = part::sizes_of(Device { blocks, class });
@@ -117,8 +115,7 @@ pub extern "C" fn xc9500_image_bytes(blocks: u32, class: u32) -> u64
 }
 
 // How many bytes a readout of a device has.
-#[unsafe(no_mangle)]
-pub extern "C" fn xc9500_readout_bytes(blocks: u32, class: u32) -> u64
+pub fn xc9500_readout_bytes(blocks: u32, class: u32) -> u64
     ensures { result ≡ packed readout_bytes_in (sizes_of (device blocks class)) }
 {
     let answer = part::sizes_of(Device { blocks, class });
@@ -129,8 +126,7 @@ pub extern "C" fn xc9500_readout_bytes(blocks: u32, class: u32) -> u64
 }
 
 // How many bytes the text of an image of a device has.
-#[unsafe(no_mangle)]
-pub extern "C" fn xc9500_text_bytes(blocks: u32, class: u32) -> u64
+pub fn xc9500_text_bytes(blocks: u32, class: u32) -> u64
     ensures { result ≡ packed text_bytes_in (sizes_of (device blocks class)) }
 {
     let answer = part::sizes_of(Device { blocks, class });
@@ -141,45 +137,35 @@ pub extern "C" fn xc9500_text_bytes(blocks: u32, class: u32) -> u64
 }
 
 // The address times 8 plus the bit of a fuse.
-#[unsafe(no_mangle)]
-pub extern "C" fn xc9500_address_of_fuse(blocks: u32, class: u32, fuse: u32) -> u64
+pub fn xc9500_address_of_fuse(blocks: u32, class: u32, fuse: u32) -> u64
     ensures { result ≡ packed address_and_bit (address_of_fuse (device blocks class) fuse) }
 {
     address_word(addresses::address_of_fuse(Device { blocks, class }, FuseNumber(fuse)))
 }
 
 // The fuse of an address and a bit.
-#[unsafe(no_mangle)]
-pub extern "C" fn xc9500_fuse_of_address(blocks: u32, class: u32, address: u32, bit: u32) -> u64
+pub fn xc9500_fuse_of_address(blocks: u32, class: u32, address: u32, bit: u32) -> u64
     ensures { result ≡ packed itself (fuse_of_address (device blocks class) address bit) }
 {
     fuse_word(addresses::fuse_of_address(Device { blocks, class }, DeviceAddress(address), bit))
 }
 
 // The fuse sum of an image.
-#[unsafe(no_mangle)]
-pub extern "C" fn xc9500_fuse_sum(blocks: u32, class: u32, image: &[u8]) -> u64
+pub fn xc9500_fuse_sum(blocks: u32, class: u32, image: &[u8]) -> u64
     ensures { result ≡ packed itself (fuse_sum (device blocks class) image.now) }
 {
     number_word(image::fuse_sum(Device { blocks, class }, image))
 }
 
 // The number of fuses at 0 of an image.
-#[unsafe(no_mangle)]
-pub extern "C" fn xc9500_zero_count(blocks: u32, class: u32, image: &[u8]) -> u64
+pub fn xc9500_zero_count(blocks: u32, class: u32, image: &[u8]) -> u64
     ensures { result ≡ packed itself (zero_count (device blocks class) image.now) }
 {
     number_word(image::zero_count(Device { blocks, class }, image))
 }
 
 // The readout of an image, put into `readout`.
-#[unsafe(no_mangle)]
-pub extern "C" fn xc9500_image_to_readout(
-    blocks: u32,
-    class: u32,
-    image: &[u8],
-    readout: &mut [u8],
-) -> u64
+pub fn xc9500_image_to_readout(blocks: u32, class: u32, image: &[u8], readout: &mut [u8]) -> u64
     ensures value { result ≡ packed no_result (to_readout (device blocks class) image.now readout.old) }
     ensures readout_after { readout.new ≡ written (to_readout (device blocks class) image.now
         readout.old) (readout_of (device blocks class) image.now) readout.old }
@@ -188,13 +174,7 @@ pub extern "C" fn xc9500_image_to_readout(
 }
 
 // The image of a readout, put into `image`.
-#[unsafe(no_mangle)]
-pub extern "C" fn xc9500_readout_to_image(
-    blocks: u32,
-    class: u32,
-    readout: &[u8],
-    image: &mut [u8],
-) -> u64
+pub fn xc9500_readout_to_image(blocks: u32, class: u32, readout: &[u8], image: &mut [u8]) -> u64
     ensures value { result ≡ packed no_result (to_image (device blocks class) readout.now image.old) }
     ensures image_after { image.new ≡ written (to_image (device blocks class) readout.now
         image.old) (image_of (device blocks class) readout.now) image.old }
@@ -203,13 +183,7 @@ pub extern "C" fn xc9500_readout_to_image(
 }
 
 // The JEDEC text of an image, put at the start of `text`: how many bytes it has.
-#[unsafe(no_mangle)]
-pub extern "C" fn xc9500_image_to_text(
-    blocks: u32,
-    class: u32,
-    image: &[u8],
-    text: &mut [u8],
-) -> u64
+pub fn xc9500_image_to_text(blocks: u32, class: u32, image: &[u8], text: &mut [u8]) -> u64
     ensures value { result ≡ packed itself (to_text (device blocks class) image.now (length text.old)) }
     ensures text_after { text.new ≡ written (to_text (device blocks class) image.now (length text.old))
         (with_text (device blocks class) image.now text.old) text.old }
@@ -218,13 +192,7 @@ pub extern "C" fn xc9500_image_to_text(
 }
 
 // The image that a JEDEC text describes, put into `image`.
-#[unsafe(no_mangle)]
-pub extern "C" fn xc9500_text_to_image(
-    blocks: u32,
-    class: u32,
-    text: &[u8],
-    image: &mut [u8],
-) -> u64
+pub fn xc9500_text_to_image(blocks: u32, class: u32, text: &[u8], image: &mut [u8]) -> u64
     ensures value { result ≡ packed no_result (to_image_from_text (device blocks class) text.now image.old) }
     ensures image_after { image.new ≡ written (to_image_from_text (device blocks class) text.now
         image.old) (image_in (device blocks class) text.now) image.old }
@@ -233,16 +201,14 @@ pub extern "C" fn xc9500_text_to_image(
 }
 
 // How many settings a device has.
-#[unsafe(no_mangle)]
-pub extern "C" fn xc9500_setting_count(blocks: u32, class: u32) -> u64
+pub fn xc9500_setting_count(blocks: u32, class: u32) -> u64
     ensures { result ≡ packed itself (count_of_settings (device blocks class)) }
 {
     number_word(settings::setting_count(Device { blocks, class }))
 }
 
 // The fuse of a bit of a setting times 2^20, plus its address times 8, plus its bit, by setting number.
-#[unsafe(no_mangle)]
-pub extern "C" fn xc9500_setting_fuse(blocks: u32, class: u32, setting: u32, bit: u32) -> u64
+pub fn xc9500_setting_fuse(blocks: u32, class: u32, setting: u32, bit: u32) -> u64
     ensures { result ≡ packed (or_none fuse_and_address) (located_by_number (device blocks class) setting bit) }
 {
     let d = Device { blocks, class };
@@ -250,9 +216,9 @@ pub extern "C" fn xc9500_setting_fuse(blocks: u32, class: u32, setting: u32, bit
 }
 
 // The number of the setting at a fuse times 32 plus the bit.
-#[unsafe(no_mangle)]
-pub extern "C" fn xc9500_setting_at_fuse(blocks: u32, class: u32, fuse: u32) -> u64
-    ensures { result ≡ packed (or_none (setting_and_bit (device blocks class))) (setting_at_fuse (device blocks class) fuse) }
+pub fn xc9500_setting_at_fuse(blocks: u32, class: u32, fuse: u32) -> u64
+    ensures { result ≡ packed (or_none (setting_and_bit (device blocks class)))
+        (setting_at_fuse (device blocks class) fuse) }
 {
     let d = Device { blocks, class };
     let answer = fuse_settings::setting_at_fuse(d, FuseNumber(fuse));
@@ -267,8 +233,7 @@ pub extern "C" fn xc9500_setting_at_fuse(blocks: u32, class: u32, fuse: u32) -> 
 }
 
 // The pattern of a setting in an image, by setting number.
-#[unsafe(no_mangle)]
-pub extern "C" fn xc9500_read_in_image(blocks: u32, class: u32, image: &[u8], setting: u32) -> u64
+pub fn xc9500_read_in_image(blocks: u32, class: u32, image: &[u8], setting: u32) -> u64
     ensures { result ≡ packed itself (read_pattern (device blocks class) Image image.now setting) }
 {
     number_word(edit_by_number::read_pattern_in_image(
@@ -279,8 +244,7 @@ pub extern "C" fn xc9500_read_in_image(blocks: u32, class: u32, image: &[u8], se
 }
 
 // A setting set to a pattern in an image, by setting number.
-#[unsafe(no_mangle)]
-pub extern "C" fn xc9500_set_in_image(
+pub fn xc9500_set_in_image(
     blocks: u32,
     class: u32,
     image: &mut [u8],
@@ -296,13 +260,7 @@ pub extern "C" fn xc9500_set_in_image(
 }
 
 // The pattern of a setting in a readout, by setting number.
-#[unsafe(no_mangle)]
-pub extern "C" fn xc9500_read_in_readout(
-    blocks: u32,
-    class: u32,
-    readout: &[u8],
-    setting: u32,
-) -> u64
+pub fn xc9500_read_in_readout(blocks: u32, class: u32, readout: &[u8], setting: u32) -> u64
     ensures { result ≡ packed itself (read_pattern (device blocks class) Readout readout.now setting) }
 {
     number_word(edit_by_number::read_pattern_in_readout(
@@ -313,8 +271,7 @@ pub extern "C" fn xc9500_read_in_readout(
 }
 
 // A setting set to a pattern in a readout, by setting number.
-#[unsafe(no_mangle)]
-pub extern "C" fn xc9500_set_in_readout(
+pub fn xc9500_set_in_readout(
     blocks: u32,
     class: u32,
     readout: &mut [u8],
