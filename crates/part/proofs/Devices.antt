@@ -1,12 +1,12 @@
 -- The known devices: six block counts, one law for what must be shown of each, and the table of sizes.
 -- Assumes nothing.
 use mathlib.Core.Path.{◌≡◌, refl, sym, ◌∙◌, subst}
-use mathlib.Core.Bool.{Bool, true, false, cond, not, ◌||◌}
+use mathlib.Core.Bool.{Bool, true, false, cond, ◌||◌}
 use Prim.Native.Nat.{ℕ, ◌+◌, ◌*◌, ◌-◌, ◌/◌, ◌%◌, ◌^◌, ◌≤◌, ◌<◌}
 use native.Mathlib.Omega.{arith}
 use native.Mathlib.Nat.{mul-le-mul, mul-le-mul_right, div-add-mod', le_of_lt}
 use lib.Dec.{eqb, ltb}
-use borrow.Author.Tests.{eqb-true, not-true, not-false}
+use borrow.Author.Tests.{eqb-true}
 use Rattle.part.specs.Device.{is_block_count, is_class, known, in_block, in_device, fuse_count, image_bytes, decimal_digits}
 use Rattle.part.specs.declared.Device.{Device}
 use Rattle.part.proofs.Facts.{and_iff, either, by_cases}

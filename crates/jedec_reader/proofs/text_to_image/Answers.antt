@@ -19,8 +19,7 @@ use Rattle.jedec_end.specs.Verdict.{verdict}
 use Rattle.jedec_reader.specs.Reader.{to_image_from_text, image_in}
 use Rattle.jedec_reader.specs.Walk.{largest_image, ReadInto}
 use borrow.Author.Rules.{rules}
-use Rattle.jedec_reader.proofs.text_to_image.Statement.{statement}
-use Rattle.jedec_reader.proofs.text_to_image.Tie as tie
+use Rattle.jedec_reader.proofs.text_to_image.Goals as goal
 
 module _ (d : Device) (text before : List ℕ) where
   unknown : known d ≡ false → Written (to_image_from_text d text before) (refused 1 0) (image_in d text) before before
@@ -66,55 +65,20 @@ module _ (d : Device) (x : ℕ) (e : x ≡ image_bytes d) where
   unfolding image_bytes
   buffer_size made fuses k l f = rw f (sym (so_long made k l) ∙ e)
 
-is-known-requires : tie.Need-is-known-requires
-is-known-requires c κs = search rules
+pub returns-then-not-is_known : goal.returns-then-not-is_known
+returns-then-not-is_known c = search (rules, is_unknown, unknown)
 
-returns : tie.Need-returns
-returns c = search (rules, is_unknown, unknown)
+pub returns-then-image-bytes : goal.returns-then-image-bytes
+returns-then-image-bytes c = search (rules, is_known, wrong_length)
 
-image-bytes-requires : tie.Need-image-bytes-requires
-image-bytes-requires c κs = search (rules, is_known)
+pub slice_bounds-made-end : goal.slice_bounds-made-end
+slice_bounds-made-end c = search (rules, is_known, in_space)
 
-cast-bytes : tie.Need-overflow-cast-bytes
-cast-bytes c = search rules
+pub slice_bounds-read_beside-end : goal.slice_bounds-read_beside-end
+slice_bounds-read_beside-end c = search (rules, is_known, so_long)
 
-returns-2 : tie.Need-returns-2
-returns-2 c = search (rules, is_known, wrong_length)
+pub read_beside-requires : goal.read_beside-requires
+read_beside-requires c = (search (rules, is_known, buffer_size), search (rules, image_size))
 
-fuse-count-requires : tie.Need-fuse-count-requires
-fuse-count-requires c κs = search (rules, is_known)
-
-largest-image-requires : tie.Need-largest-image-requires
-largest-image-requires c κs = search rules
-
-array-borrow-prefix-made : tie.Need-array-borrow-prefix-made
-array-borrow-prefix-made c = search (rules, is_known, in_space)
-
-slice-aggregate-read-beside : tie.Need-slice-aggregate-read-beside
-slice-aggregate-read-beside c = search (rules, is_known, so_long)
-
-read-beside-requires : tie.Need-read-beside-requires
-read-beside-requires c κs = (search (rules, is_known, buffer_size), search (rules, image_size))
-
-same_length : tie.Need-same-length
-same_length c = search rules
-
-returns-3 : tie.Need-returns-3
-returns-3 c = search (rules, is_known, a_text)
-
-pub text_to_image_spec : {M : Type 1} → statement M
-text_to_image_spec =
-    tie.close
-    (tie.spec
-    is-known-requires
-    returns
-    image-bytes-requires
-    cast-bytes
-    returns-2
-    fuse-count-requires
-    largest-image-requires
-    array-borrow-prefix-made
-    slice-aggregate-read-beside
-    read-beside-requires
-    same_length
-    returns-3)
+pub returns : goal.returns
+returns c = search (rules, is_known, a_text)

@@ -29,8 +29,7 @@ use Rattle.setting_bits.specs.SettingBits.{bytes_of, with_pattern}
 use Rattle.setting_bits.proofs.Steps.{bytes_between}
 use Rattle.edit.specs.Edit.{above_in, set_in, with_value}
 use borrow.Author.Rules.{rules}
-use Rattle.edit.proofs.by_name.set.Statement.{statement}
-use Rattle.edit.proofs.by_name.set.Tie as tie
+use Rattle.edit.proofs.by_name.set.Goals as goal
 
 -- What the call must give: the outcome's answer, and the bytes that go with it.
 abbrev SetGives : Device → Layout → List ℕ → Setting → Value → Outcome (Unit {0}) → List ℕ → Type 0
@@ -105,85 +104,23 @@ module _ (d : Device) (layout : Layout) (bytes : List ℕ) (s : Setting) (v : Va
             let same = done l in
             record { answers = same; holds = rw (← same, its, w) x }
 
-is-known-requires : tie.Need-is-known-requires
-is-known-requires c κs = search rules
+pub returns-then-not-is_known : goal.returns-then-not-is_known
+returns-then-not-is_known c = search (rules, is_unknown, no_device)
 
-returns : tie.Need-returns
-returns c = search (rules, is_unknown, no_device)
+pub returns-then-bytes-bytes_of : goal.returns-then-bytes-bytes_of
+returns-then-bytes-bytes_of c = search (rules, is_known, wrong_length)
 
-bytes-of-requires : tie.Need-bytes-of-requires
-bytes-of-requires c κs = search (rules, is_known)
+pub returns-then-not-has_setting : goal.returns-then-not-has_setting
+returns-then-not-has_setting c = search (rules, is_known, has_not, no_setting_lem)
 
-returns-2 : tie.Need-returns-2
-returns-2 c = search (rules, is_known, wrong_length)
+pub overflow_cast-index : goal.overflow_cast-index
+overflow_cast-index c = search (rules, is_known, small)
 
-has-setting-requires : tie.Need-has-setting-requires
-has-setting-requires c κs = search rules
+pub returns-then-first_above-bytes : goal.returns-then-first_above-bytes
+returns-then-first_above-bytes c = search (rules, is_known, has, one_above)
 
-returns-3 : tie.Need-returns-3
-returns-3 c = search (rules, is_known, has_not, no_setting_lem)
+pub returns-else-first_above-bytes : goal.returns-else-first_above-bytes
+returns-else-first_above-bytes c = search (rules, is_known, has, the_set)
 
-kind-of-requires : tie.Need-kind-of-requires
-kind-of-requires c κs = search rules
-
-pattern-in-requires : tie.Need-pattern-in-requires
-pattern-in-requires c κs = search rules
-
-enum-known-found : tie.Need-enum-known-found
-enum-known-found c = search rules
-
-above-in-requires : tie.Need-above-in-requires
-above-in-requires c κs =
-    let tested = c.before.before.before in
-    let at = tested.before.before.before in
-    (search (rules, is_known), has _ _ _ at.before.has-setting.ensures at.if3.false, search (rules, its_size))
-
-cast-index : tie.Need-overflow-cast-index
-cast-index c = search (rules, is_known, small)
-
-same_length : tie.Need-same-length
-same_length c = search rules
-
-returns-4 : tie.Need-returns-4
-returns-4 c = search (rules, is_known, has, one_above)
-
-put-pattern-requires : tie.Need-put-pattern-requires
-put-pattern-requires c κs =
-    let tested = c.before.before.before.before.before in
-    let at = tested.before.before.before.before in
-    (search (rules, is_known), has _ _ _ at.before.has-setting.ensures at.if3.false, search (rules, its_size))
-
-enum_told : tie.Need-enum-told
-enum_told c = search rules
-
-same-length-2 : tie.Need-same-length-2
-same-length-2 c = search rules
-
-returns-5 : tie.Need-returns-5
-returns-5 c = search (rules, is_known, has, the_set)
-
-returns-6 : tie.Need-returns-6
-returns-6 c = search (rules, is_known, has, no_value)
-
-pub set_spec : {M : Type 1} → statement M
-set_spec =
-    tie.close
-    (tie.spec
-    is-known-requires
-    returns
-    bytes-of-requires
-    returns-2
-    has-setting-requires
-    returns-3
-    kind-of-requires
-    pattern-in-requires
-    enum-known-found
-    above-in-requires
-    cast-index
-    same_length
-    returns-4
-    put-pattern-requires
-    enum_told
-    same-length-2
-    returns-5
-    returns-6)
+pub returns-in-NoSuchValue : goal.returns-in-NoSuchValue
+returns-in-NoSuchValue c = search (rules, is_known, has, no_value)

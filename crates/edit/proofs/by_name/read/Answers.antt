@@ -25,8 +25,7 @@ use Rattle.setting_bits.specs.SettingBits.{bytes_of, pattern_at}
 use Rattle.setting_bits.proofs.Steps.{bytes_between}
 use Rattle.edit.specs.Edit.{above_in, read_in}
 use borrow.Author.Rules.{rules}
-use Rattle.edit.proofs.by_name.read.Statement.{statement}
-use Rattle.edit.proofs.by_name.read.Tie as tie
+use Rattle.edit.proofs.by_name.read.Goals as goal
 
 no_device : (d : Device) (layout : Layout) (bytes : List ℕ) (s : Setting) → known d ≡ false → refused 1 0 ≡ read_in d layout bytes s
 unfolding read_in
@@ -69,63 +68,20 @@ module _ (d : Device) (layout : Layout) (bytes : List ℕ) (s : Setting) (size :
             p,
           )
 
-is-known-requires : tie.Need-is-known-requires
-is-known-requires c κs = search rules
+pub returns-then-not-is_known : goal.returns-then-not-is_known
+returns-then-not-is_known c = search (rules, is_unknown, no_device)
 
-returns : tie.Need-returns
-returns c = search (rules, is_unknown, no_device)
+pub returns-then-bytes-bytes_of : goal.returns-then-bytes-bytes_of
+returns-then-bytes-bytes_of c = search (rules, is_known, wrong_length)
 
-bytes-of-requires : tie.Need-bytes-of-requires
-bytes-of-requires c κs = search (rules, is_known)
+pub returns-then-not-has_setting : goal.returns-then-not-has_setting
+returns-then-not-has_setting c = search (rules, is_known, has_not, no_setting_lem)
 
-returns-2 : tie.Need-returns-2
-returns-2 c = search (rules, is_known, wrong_length)
+pub overflow_cast-index : goal.overflow_cast-index
+overflow_cast-index c = search (rules, is_known, small)
 
-has-setting-requires : tie.Need-has-setting-requires
-has-setting-requires c κs = search rules
+pub returns-then-above-bytes : goal.returns-then-above-bytes
+returns-then-above-bytes c = search (rules, is_known, has, one_above)
 
-returns-3 : tie.Need-returns-3
-returns-3 c = search (rules, is_known, has_not, no_setting_lem)
-
-above-in-requires : tie.Need-above-in-requires
-above-in-requires c κs = (search (rules, is_known), has _ _ _ c.before.has-setting.ensures c.if3.false, search (rules, its_size))
-
-cast-index : tie.Need-overflow-cast-index
-cast-index c = search (rules, is_known, small)
-
-returns-4 : tie.Need-returns-4
-returns-4 c = search (rules, is_known, has, one_above)
-
-kind-of-requires : tie.Need-kind-of-requires
-kind-of-requires c κs = search rules
-
-pattern-at-requires : tie.Need-pattern-at-requires
-pattern-at-requires c κs = (
-  search (rules, is_known),
-  has _ _ _ c.before.before.before.before.has-setting.ensures c.before.before.before.if3.false,
-  search (rules, its_size),
-)
-
-value-in-requires : tie.Need-value-in-requires
-value-in-requires c κs = search rules
-
-returns-5 : tie.Need-returns-5
-returns-5 c = search (rules, is_known, has, the_value)
-
-pub read_spec : {M : Type 1} → statement M
-read_spec =
-    tie.close
-    (tie.spec
-    is-known-requires
-    returns
-    bytes-of-requires
-    returns-2
-    has-setting-requires
-    returns-3
-    above-in-requires
-    cast-index
-    returns-4
-    kind-of-requires
-    pattern-at-requires
-    value-in-requires
-    returns-5)
+pub returns : goal.returns
+returns c = search (rules, is_known, has, the_value)

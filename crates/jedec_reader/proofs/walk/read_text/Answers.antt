@@ -19,8 +19,7 @@ use Rattle.jedec_fields.proofs.Fields.{Cuts, pieces_star, Uncut, pieces_none}
 use Rattle.jedec_end.specs.End.{TextRead}
 use Rattle.jedec_end.proofs.Ends.{refused_reads}
 use borrow.Author.Rules.{rules}
-use Rattle.jedec_reader.proofs.walk.read_text.Statement.{statement}
-use Rattle.jedec_reader.proofs.walk.read_text.Tie as tie
+use Rattle.jedec_reader.proofs.walk.read_text.Goals as goal
 
 module _ (fuses : ℕ) where
   too_long : (text image : List ℕ) → longest < length text → TextRead (meaning fuses text) (refused 7 longest) image
@@ -86,75 +85,26 @@ module _ (fuses : ℕ) (text image : List ℕ) (l : length text ≤ longest) (n 
         after_stx fuses text l n h ∙ rw (cut.ended, marked, v, cut.rest, length-take-le star text m, add-one star) in
         rw whole r
 
-returns : tie.Need-returns
-returns c = search (rules, too_long)
+pub returns-then-text-gt-LONGEST_LENGTH : goal.returns-then-text-gt-LONGEST_LENGTH
+returns-then-text-gt-LONGEST_LENGTH c = search (rules, too_long)
 
-returns-2 : tie.Need-returns-2
-returns-2 c = search (rules, nothing_there)
+pub returns-then-text-eq0 : goal.returns-then-text-eq0
+returns-then-text-eq0 c = search (rules, nothing_there)
 
-shared-slice-read-if3 : tie.Need-shared-slice-read-if3
-shared-slice-read-if3 c = search rules
+pub returns-then-text-ne-STX : goal.returns-then-text-ne-STX
+returns-then-text-ne-STX c = search (rules, no_stx)
 
-returns-3 : tie.Need-returns-3
-returns-3 c = search (rules, no_stx)
+pub returns-then-star-text : goal.returns-then-star-text
+returns-then-star-text c = search (rules, no_star)
 
-next-star-requires : tie.Need-next-star-requires
-next-star-requires c κs = search rules
+pub slice_bounds-holds_mark-count : goal.slice_bounds-holds_mark-count
+slice_bounds-holds_mark-count c = search (rules, past_stx)
 
-cast-length : tie.Need-overflow-cast-length
-cast-length c = search rules
+pub slice_bounds-holds_mark-start : goal.slice_bounds-holds_mark-start
+slice_bounds-holds_mark-start c = search (rules, past_stx)
 
-returns-4 : tie.Need-returns-4
-returns-4 c = search (rules, no_star)
+pub returns-then-holds_mark : goal.returns-then-holds_mark
+returns-then-holds_mark c = search (rules, a_mark)
 
-sub-holds-mark : tie.Need-overflow-sub-holds-mark
-sub-holds-mark c = search (rules, past_stx)
-
-part-holds-mark-start : tie.Need-slice-bounds-holds-mark-start
-part-holds-mark-start c = search (rules, past_stx)
-
-part-holds-mark-end : tie.Need-slice-bounds-holds-mark-end
-part-holds-mark-end c = search rules
-
-holds-mark-requires : tie.Need-holds-mark-requires
-holds-mark-requires c κs = search rules
-
-returns-5 : tie.Need-returns-5
-returns-5 c = search (rules, a_mark)
-
-fill-requires : tie.Need-fill-requires
-fill-requires c κs = search rules
-
-add-walk : tie.Need-overflow-add-walk
-add-walk c = search rules
-
-walk-requires : tie.Need-walk-requires
-walk-requires c κs = search rules
-
-same_length : tie.Need-same-length
-same_length c = search rules
-
-returns-6 : tie.Need-returns-6
-returns-6 c = search (rules, then_fields)
-
-pub read_text_spec : {M : Type 1} → statement M
-read_text_spec =
-    tie.close
-    (tie.spec
-    returns
-    returns-2
-    shared-slice-read-if3
-    returns-3
-    next-star-requires
-    cast-length
-    returns-4
-    sub-holds-mark
-    part-holds-mark-start
-    part-holds-mark-end
-    holds-mark-requires
-    returns-5
-    fill-requires
-    add-walk
-    walk-requires
-    same_length
-    returns-6)
+pub returns : goal.returns
+returns c = search (rules, then_fields)

@@ -1,0 +1,12 @@
+-- `walk` meets its contract: what the fields so far gave, and the fields still to come.
+-- Assumes nothing.
+use Prim.Native.Nat.{◌-◌}
+use lib.ListN.{length}
+use Rattle.jedec_reader.proofs.Walks.{Walks}
+use Rattle.jedec_reader.proofs.walk.walk.Given as goal
+
+abbrev pub invariant-loop-length : goal.invariant-loop-length
+invariant-loop-length l = Walks l.fuses l.text l.from l.initial.image l.image l.p l.at
+
+abbrev pub decreases-loop-length : goal.decreases-loop-length
+decreases-loop-length l = length l.text - l.at
