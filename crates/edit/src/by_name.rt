@@ -24,7 +24,7 @@ pub fn above_in(d: Device, layout: Layout, bytes: &[u8], s: Setting) -> usize
 {
     match layout {
         Layout::Image => bytes.len(),
-        Layout::Readout => setting_bits::patterns::above_of(d, bytes, s),
+        Layout::Readout => setting_bits::in_bytes::above_of(d, bytes, s),
     }
 }
 
@@ -35,7 +35,7 @@ pub fn read(d: Device, layout: Layout, bytes: &[u8], s: Setting) -> ValueAnswer
     if !part::is_known(d) {
         return ValueAnswer::Refused(Refusal::UnknownDevice);
     }
-    if bytes.len() != setting_bits::patterns::bytes_of(d, layout) {
+    if bytes.len() != setting_bits::in_bytes::bytes_of(d, layout) {
         return ValueAnswer::Refused(Refusal::WrongLength);
     }
     if !settings::fields::has_setting(d, s) {
@@ -47,7 +47,7 @@ pub fn read(d: Device, layout: Layout, bytes: &[u8], s: Setting) -> ValueAnswer
         return ValueAnswer::Refused(Refusal::BitAboveWidth(index));
     }
     let kind = setting_values::kinds::kind_of(d, s);
-    let pattern = setting_bits::patterns::pattern_at(d, layout, bytes, s);
+    let pattern = setting_bits::in_bytes::pattern_at(d, layout, bytes, s);
     ValueAnswer::Value(values::lists::value_in(kind, pattern))
 }
 
@@ -59,7 +59,7 @@ pub fn set(d: Device, layout: Layout, bytes: &mut [u8], s: Setting, v: Value) ->
     if !part::is_known(d) {
         return DoneAnswer::Refused(Refusal::UnknownDevice);
     }
-    if bytes.len() != setting_bits::patterns::bytes_of(d, layout) {
+    if bytes.len() != setting_bits::in_bytes::bytes_of(d, layout) {
         return DoneAnswer::Refused(Refusal::WrongLength);
     }
     if !settings::fields::has_setting(d, s) {
@@ -74,7 +74,7 @@ pub fn set(d: Device, layout: Layout, bytes: &mut [u8], s: Setting, v: Value) ->
                 let index = first_above as u32;
                 return DoneAnswer::Refused(Refusal::BitAboveWidth(index));
             }
-            setting_bits::patterns::put_pattern(d, layout, bytes, s, pattern);
+            setting_bits::in_bytes::put_pattern(d, layout, bytes, s, pattern);
             DoneAnswer::Done
         }
         Found::NoSuchValue => DoneAnswer::Refused(Refusal::NoSuchValue),

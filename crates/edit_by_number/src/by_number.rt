@@ -35,15 +35,15 @@ fn literal_location(
         (setting_of d number.0) ≡ cond result.above result.index (bytes_of d layout)) }
 {
     let place = setting_places::places::place_of_literal(d, number);
-    let location = setting_bits::patterns::location_at(d, layout, place);
+    let location = setting_bits::in_bytes::location_at(d, layout, place);
     let index = location.index;
     let byte = place.byte;
     let width = part::places::width_of(byte);
-    let above = setting_bits::patterns::above_width(bytes, index, width);
+    let above = setting_bits::in_bytes::above_width(bytes, index, width);
     LiteralLocation {
         index,
         bit: location.bit,
-        above: setting_bits::patterns::is_readout(layout) & (above != 0),
+        above: setting_bits::in_bytes::is_readout(layout) & (above != 0),
     }
 }
 
@@ -55,7 +55,7 @@ pub fn is_literal(d: Device, layout: Layout, length: usize, number: SettingNumbe
     if !part::is_known(d) {
         return false;
     }
-    if length != setting_bits::patterns::bytes_of(d, layout) {
+    if length != setting_bits::in_bytes::bytes_of(d, layout) {
         return false;
     }
     number.0 < settings::numbers::start_of_wire_ands(d)
@@ -107,7 +107,7 @@ pub fn read_numbered(d: Device, layout: Layout, bytes: &[u8], number: SettingNum
     if !part::is_known(d) {
         return NumberAnswer::Refused(Refusal::UnknownDevice);
     }
-    if bytes.len() != setting_bits::patterns::bytes_of(d, layout) {
+    if bytes.len() != setting_bits::in_bytes::bytes_of(d, layout) {
         return NumberAnswer::Refused(Refusal::WrongLength);
     }
     if settings::numbers::count_of(d) <= number.0 {
@@ -116,7 +116,7 @@ pub fn read_numbered(d: Device, layout: Layout, bytes: &[u8], number: SettingNum
     // Copies are given to what may be compiled apart: so the pointer and the length of `bytes` stay in registers
     if number.0 == settings::numbers::number_of_usercode(d) {
         let whole = bytes;
-        return NumberAnswer::Number(setting_bits::patterns::usercode_at(d, layout, whole));
+        return NumberAnswer::Number(setting_bits::in_bytes::usercode_at(d, layout, whole));
     }
     let same = bytes;
     let s = settings::numbers::setting_of(d, number);
@@ -125,7 +125,7 @@ pub fn read_numbered(d: Device, layout: Layout, bytes: &[u8], number: SettingNum
         let index = above as u32;
         return NumberAnswer::Refused(Refusal::BitAboveWidth(index));
     }
-    NumberAnswer::Number(setting_bits::patterns::pattern_at(d, layout, same, s))
+    NumberAnswer::Number(setting_bits::in_bytes::pattern_at(d, layout, same, s))
 }
 
 // A setting set to a pattern, by its number. Refused: 1, 2, 4, 5, 6.
@@ -142,14 +142,14 @@ pub fn set_numbered(
     if !part::is_known(d) {
         return DoneAnswer::Refused(Refusal::UnknownDevice);
     }
-    if bytes.len() != setting_bits::patterns::bytes_of(d, layout) {
+    if bytes.len() != setting_bits::in_bytes::bytes_of(d, layout) {
         return DoneAnswer::Refused(Refusal::WrongLength);
     }
     if settings::numbers::count_of(d) <= number.0 {
         return DoneAnswer::Refused(Refusal::NoSuchSetting);
     }
     if number.0 == settings::numbers::number_of_usercode(d) {
-        setting_bits::patterns::put_usercode(d, layout, bytes, pattern);
+        setting_bits::in_bytes::put_usercode(d, layout, bytes, pattern);
         return DoneAnswer::Done;
     }
     let s = settings::numbers::setting_of(d, number);
@@ -162,6 +162,6 @@ pub fn set_numbered(
         let index = above as u32;
         return DoneAnswer::Refused(Refusal::BitAboveWidth(index));
     }
-    setting_bits::patterns::put_pattern(d, layout, bytes, s, pattern);
+    setting_bits::in_bytes::put_pattern(d, layout, bytes, s, pattern);
     DoneAnswer::Done
 }

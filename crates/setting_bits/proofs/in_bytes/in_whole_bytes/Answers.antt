@@ -2,7 +2,7 @@
 -- Assumes nothing.
 use Rattle.setting_places.specs.Places.{bits_of}
 use Rattle.setting_bits.proofs.AboveWidth.{of_macrocell, of_block_lem, of_global}
-use Rattle.setting_bits.proofs.patterns.in_whole_bytes.Goals as goal
+use Rattle.setting_bits.proofs.in_bytes.in_whole_bytes.Goals as goal
 
 pub returns-in-Literal : goal.returns-in-Literal
 unfolding bits_of

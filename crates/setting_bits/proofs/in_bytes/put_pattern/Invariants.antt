@@ -9,7 +9,7 @@ use Rattle.settings.specs.declared.Setting.{Setting}
 use Rattle.setting_places.specs.Places.{bits_of}
 use Rattle.setting_bits.specs.declared.Layout.{Layout}
 use Rattle.setting_bits.specs.SettingBits.{bytes_of, with_bits}
-use Rattle.setting_bits.proofs.patterns.put_pattern.Given as goal
+use Rattle.setting_bits.proofs.in_bytes.put_pattern.Given as goal
 
 -- The bits put in place so far.
 pub record Put (d : Device) (layout : Layout) (before : List ℕ) (s : Setting) (pattern width : ℕ) (bytes : List ℕ) (bit : ℕ) : Type 0 where

@@ -8,7 +8,7 @@ use Rattle.part.specs.declared.Device.{Device}
 use Rattle.setting_bits.specs.declared.Layout.{Layout}
 use Rattle.setting_bits.specs.SettingBits.{bytes_of, with_bits}
 use Rattle.setting_bits.proofs.Usercode.{usercode}
-use Rattle.setting_bits.proofs.patterns.put_usercode.Given as goal
+use Rattle.setting_bits.proofs.in_bytes.put_usercode.Given as goal
 
 -- The pairs of a row put in place so far, from its first on: with all before that in place, so are these.
 pub record Put (d : Device) (layout : Layout) (pattern first : ℕ) (entry bytes : List ℕ) (pair : ℕ) : Type 0 where

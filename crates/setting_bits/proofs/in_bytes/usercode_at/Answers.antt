@@ -18,8 +18,8 @@ use Rattle.setting_bits.specs.SettingBits.{bytes_of, byte_of, bit_in, pattern_at
 use Rattle.setting_bits.proofs.Steps.{bits_read}
 use Rattle.setting_bits.proofs.Usercode.{usercode, location_in, location_low, pair_more}
 use borrow.Author.Rules.{rules}
-use Rattle.setting_bits.proofs.patterns.usercode_at.Invariants.{Read}
-use Rattle.setting_bits.proofs.patterns.usercode_at.Goals as goal
+use Rattle.setting_bits.proofs.in_bytes.usercode_at.Invariants.{Read}
+use Rattle.setting_bits.proofs.in_bytes.usercode_at.Goals as goal
 
 start : (d : Device) (layout : Layout) (bytes : List ℕ) → Read d layout bytes 0 0
 unfolding gathered

@@ -22,7 +22,7 @@ use Rattle.setting_bits.proofs.Edits.{inside, fuse_below}
 use Rattle.setting_bits.proofs.Steps.{its_byte, width_in, its_index}
 use Rattle.setting_bits.proofs.AboveWidth.{none_above, single_above}
 use borrow.Author.Rules.{rules}
-use Rattle.setting_bits.proofs.patterns.above_of.Goals as goal
+use Rattle.setting_bits.proofs.in_bytes.above_of.Goals as goal
 
 module _ (d : Device) (readout : List ℕ) (s : Setting) (k : known d ≡ true) (h : has_setting d s ≡ true) (one : bits_of s ≡ 1)
     (p : Place) (e : p ≡ place_of s 0) where

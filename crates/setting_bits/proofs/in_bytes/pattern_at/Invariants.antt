@@ -8,7 +8,7 @@ use Rattle.setting_places.specs.Places.{bits_of}
 use mathlib.Core.List.{List}
 use Rattle.setting_bits.specs.declared.Layout.{Layout}
 use Rattle.setting_bits.proofs.Steps.{bits_read}
-use Rattle.setting_bits.proofs.patterns.pattern_at.Given as goal
+use Rattle.setting_bits.proofs.in_bytes.pattern_at.Given as goal
 
 -- What has been read so far.
 pub record Read (d : Device) (layout : Layout) (bytes : List ℕ) (s : Setting) (width pattern bit : ℕ) : Type 0 where

@@ -7,7 +7,7 @@ use Rattle.part.specs.declared.Device.{Device}
 use Rattle.setting_bits.specs.declared.Layout.{Layout}
 use Rattle.setting_bits.proofs.Steps.{bits_read}
 use Rattle.setting_bits.proofs.Usercode.{usercode}
-use Rattle.setting_bits.proofs.patterns.usercode_at.Given as goal
+use Rattle.setting_bits.proofs.in_bytes.usercode_at.Given as goal
 
 -- What has been read so far.
 pub record Read (d : Device) (layout : Layout) (bytes : List ℕ) (pattern pair : ℕ) : Type 0 where

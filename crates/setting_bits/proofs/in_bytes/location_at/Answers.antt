@@ -12,7 +12,7 @@ use Rattle.setting_bits.specs.declared.Layout.{Layout}
 use Rattle.setting_bits.specs.declared.Layout.TheVariants.{Readout}
 use Rattle.setting_bits.specs.SettingBits.{byte_of, bit_in}
 use borrow.Author.Rules.{rules}
-use Rattle.setting_bits.proofs.patterns.location_at.Goals as goal
+use Rattle.setting_bits.proofs.in_bytes.location_at.Goals as goal
 
 module _ (d : Device) (p : Place) (layout : Layout) (h : has_place d p ≡ true) where
   readout_byte : (r : ℕ) → layout ≡ Readout → r ≡ index_of_byte d p.byte → r ≡ byte_of d layout (fuse_of_place d p)

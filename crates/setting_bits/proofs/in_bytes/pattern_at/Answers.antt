@@ -20,8 +20,8 @@ use Rattle.setting_bits.proofs.Edits.{inside, fuse_below}
 use Rattle.setting_bits.proofs.Steps.{bits_few, bit_small, bits_read, read_more}
 use Rattle.setting_bits.proofs.Usercode.{usercode, has_usercode, its_pattern}
 use borrow.Author.Rules.{rules}
-use Rattle.setting_bits.proofs.patterns.pattern_at.Invariants.{Read}
-use Rattle.setting_bits.proofs.patterns.pattern_at.Goals as goal
+use Rattle.setting_bits.proofs.in_bytes.pattern_at.Invariants.{Read}
+use Rattle.setting_bits.proofs.in_bytes.pattern_at.Goals as goal
 
 of_usercode : (d : Device) (layout : Layout) (bytes : List ℕ) (s : Setting) (width r : ℕ) → has_setting d s ≡ true
     → width ≡ bits_of s → width ≡ 32 → r ≡ pattern_at d layout bytes usercode → r ≡ pattern_at d layout bytes s

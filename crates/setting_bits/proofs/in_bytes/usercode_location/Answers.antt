@@ -12,7 +12,7 @@ use Rattle.setting_bits.specs.declared.Layout.TheVariants.{Image, Readout}
 use Rattle.setting_bits.specs.SettingBits.{is_readout, byte_of, bit_in}
 use Rattle.setting_bits.proofs.Usercode.{usercode, row_of, column_of, in_readout, in_image}
 use borrow.Author.Rules.{rules}
-use Rattle.setting_bits.proofs.patterns.usercode_location.Goals as goal
+use Rattle.setting_bits.proofs.in_bytes.usercode_location.Goals as goal
 
 -- What the test of the layout says.
 a_readout : (layout : Layout) (t : Bool) → t ≡ is_readout layout → t ≡ true → layout ≡ Readout

@@ -11,8 +11,8 @@ use Rattle.setting_bits.specs.declared.Layout.{Layout}
 use Rattle.setting_bits.specs.SettingBits.{with_bits, with_pattern}
 use Rattle.setting_bits.proofs.Usercode.{usercode, both_states, two_put}
 use borrow.Author.Rules.{rules}
-use Rattle.setting_bits.proofs.patterns.put_usercode.Invariants.{Put}
-use Rattle.setting_bits.proofs.patterns.put_usercode.Goals as goal
+use Rattle.setting_bits.proofs.in_bytes.put_usercode.Invariants.{Put}
+use Rattle.setting_bits.proofs.in_bytes.put_usercode.Goals as goal
 
 module _ (d : Device) (layout : Layout) (pattern first : ℕ) (entry bytes : List ℕ) (pair : ℕ)
     (r : Put d layout pattern first entry bytes pair) where

@@ -19,8 +19,8 @@ use Rattle.setting_bits.proofs.Edits.{inside, fuse_below, set_length}
 use Rattle.setting_bits.proofs.Steps.{bits_few, bit_small}
 use Rattle.setting_bits.proofs.Usercode.{usercode, has_usercode, its_bytes}
 use borrow.Author.Rules.{rules}
-use Rattle.setting_bits.proofs.patterns.put_pattern.Invariants.{Put}
-use Rattle.setting_bits.proofs.patterns.put_pattern.Goals as goal
+use Rattle.setting_bits.proofs.in_bytes.put_pattern.Invariants.{Put}
+use Rattle.setting_bits.proofs.in_bytes.put_pattern.Goals as goal
 
 module _ (d : Device) (layout : Layout) (before : List ℕ) (s : Setting) (pattern width : ℕ) (h : has_setting d s ≡ true)
     (e : width ≡ bits_of s) (q : width ≡ 32)

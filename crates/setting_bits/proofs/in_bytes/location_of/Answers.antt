@@ -14,7 +14,7 @@ use Rattle.setting_places.proofs.OnePlaceEach.{has_place_lem}
 use Rattle.setting_bits.specs.declared.Layout.{Layout}
 use Rattle.setting_bits.specs.SettingBits.{byte_of, bit_in}
 use borrow.Author.Rules.{rules}
-use Rattle.setting_bits.proofs.patterns.location_of.Goals as goal
+use Rattle.setting_bits.proofs.in_bytes.location_of.Goals as goal
 
 module _ (d : Device) (s : Setting) (b : ℕ) (p : Place) (e : p ≡ place_of s b) where
   there : known d ≡ true → has_setting d s ≡ true → b < bits_of s → has_place d p ≡ true
