@@ -8,6 +8,7 @@ mod bench;
 mod catalogue;
 mod conversion;
 mod device;
+#[cfg(feature = "differences")]
 mod difference_vectors;
 mod differences;
 mod edit_vectors;

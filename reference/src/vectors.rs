@@ -3,6 +3,7 @@
 
 use crate::conversion::{address_of_fuse, fuse_of_address};
 use crate::device::{Answer, Device, Refusal, SMALL};
+#[cfg(feature = "differences")]
 use crate::difference_vectors::difference_vectors;
 use crate::edit_vectors::edit_vectors;
 use crate::image::{
@@ -26,6 +27,7 @@ pub const PROGRAMS: &[Program] = &[
     ("edit_vectors", edit_vectors),
     ("text_vectors", text_vectors),
     ("reader_vectors", reader_vectors),
+    #[cfg(feature = "differences")]
     ("difference_vectors", difference_vectors),
 ];
 

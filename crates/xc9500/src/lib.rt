@@ -1,4 +1,4 @@
-// What the C interface answers: xc9500_c exports these functions, and include/xc9500.h declares them. Numbers are u32, every
+// What the C interface answers: xc9500_c exports these functions, include/xc9500.h declares them. Numbers are u32, each
 // answer is one u64. Each function only calls its library function and packs the answer: specs/Packed.antt says how.
 #![tactic(auto)]
 

@@ -5,9 +5,12 @@ use std::cell::RefCell;
 use std::hint::black_box;
 use std::rc::Rc;
 use xc9500_differential::comparison::Function;
+#[cfg(feature = "differences")]
 use xc9500_differential::differing::Differences;
 use xc9500_differential::locating::word_of_located;
-use xc9500_differential::{library, optimised, optimised_differences, optimised_text};
+#[cfg(feature = "differences")]
+use xc9500_differential::optimised_differences;
+use xc9500_differential::{library, optimised, optimised_text};
 use xc9500_reference as reference;
 use xc9500_reference::random::Random;
 use xc9500_reference::{Answer, Device, LARGE};
@@ -66,9 +69,10 @@ fn rows() -> Vec<Row> {
     rows.extend(of_two_and_sixteen(image_to_text));
     rows.extend(of_two_and_sixteen(text_to_image));
     rows.extend(of_two_and_sixteen(text_without_start_state_to_image));
-    rows.extend(of_two_and_sixteen(no_differences));
-    rows.extend(of_two_and_sixteen(fifty_differences));
-    rows.extend(of_two_and_sixteen(all_differences));
+    #[cfg(feature = "differences")]
+    for row in [no_differences, fifty_differences, all_differences] {
+        rows.extend(of_two_and_sixteen(row));
+    }
     rows
 }
 
@@ -211,11 +215,13 @@ fn reading(operation: &'static str, device: Device, text: Vec<u8>) -> Row {
     )
 }
 
+#[cfg(feature = "differences")]
 fn no_differences(device: Device) -> Row {
     differences("differences, none", device, random_image(device))
 }
 
 /// Fifty fuses, each in another place.
+#[cfg(feature = "differences")]
 fn fifty_differences(device: Device) -> Row {
     let mut new = random_image(device);
     let mut fuses: Vec<usize> = (0..8 * new.len()).collect();
@@ -227,12 +233,14 @@ fn fifty_differences(device: Device) -> Row {
     differences("differences, 50", device, new)
 }
 
+#[cfg(feature = "differences")]
 fn all_differences(device: Device) -> Row {
     let new = random_image(device).iter().map(|byte| !byte).collect();
     differences("differences, all", device, new)
 }
 
 /// The row of the list of what differs between the random image and a new one, with room for exactly that.
+#[cfg(feature = "differences")]
 fn differences(operation: &'static str, device: Device, new: Vec<u8>) -> Row {
     let old = random_image(device);
     let [library, reference, optimised]: [Differences; 3] = [
