@@ -14,8 +14,7 @@ use Rattle.setting_places.proofs.OnePlaceEach.{has_place_lem}
 use Rattle.setting_bits.specs.declared.Layout.{Layout}
 use Rattle.setting_bits.specs.SettingBits.{byte_of, bit_in}
 use borrow.Author.Rules.{rules}
-use Rattle.setting_bits.proofs.patterns.location_of.Statement.{statement}
-use Rattle.setting_bits.proofs.patterns.location_of.Tie as tie
+use Rattle.setting_bits.proofs.patterns.location_of.Goals as goal
 
 module _ (d : Device) (s : Setting) (b : ℕ) (p : Place) (e : p ≡ place_of s b) where
   there : known d ≡ true → has_setting d s ≡ true → b < bits_of s → has_place d p ≡ true
@@ -26,16 +25,9 @@ module _ (d : Device) (s : Setting) (b : ℕ) (p : Place) (e : p ≡ place_of s 
   unfolding fuse_of
   same layout index bit q = rw (← e) q
 
-place-of-requires : tie.Need-place-of-requires
-place-of-requires c κs = search rules
+pub location_at-requires : goal.location_at-requires
+location_at-requires c = search (rules, there)
 
-location-at-requires : tie.Need-location-at-requires
-location-at-requires c κs = search (rules, there)
-
-returns : tie.Need-returns
+pub returns : goal.returns
 returns c =
-    let at = c.before.before in
-    same at.args.d at.args.s at.args.bit _ c.before.place_of.ensures at.args.layout _ _ c.location-at.ensures
-
-pub location_of_spec : {M : Type 1} → statement M
-location_of_spec = tie.close (tie.spec place-of-requires location-at-requires returns)
+    same c.args.d c.args.s c.args.bit _ c.place_of-place.ensures c.args.layout _ _ c.location_at.ensures

@@ -20,18 +20,12 @@ use Rattle.setting_bits.proofs.Edits.{inside, fuse_below}
 use Rattle.setting_bits.proofs.Steps.{bits_few, bit_small, bits_read, read_more}
 use Rattle.setting_bits.proofs.Usercode.{usercode, has_usercode, its_pattern}
 use borrow.Author.Rules.{rules}
-use Rattle.setting_bits.proofs.patterns.pattern_at.Statement.{statement}
-use Rattle.setting_bits.proofs.patterns.pattern_at.Tie as tie
+use Rattle.setting_bits.proofs.patterns.pattern_at.Invariants.{Read}
+use Rattle.setting_bits.proofs.patterns.pattern_at.Goals as goal
 
 of_usercode : (d : Device) (layout : Layout) (bytes : List ℕ) (s : Setting) (width r : ℕ) → has_setting d s ≡ true
     → width ≡ bits_of s → width ≡ 32 → r ≡ pattern_at d layout bytes usercode → r ≡ pattern_at d layout bytes s
 of_usercode d layout bytes s width r h e q g = g ∙ its_pattern d s h width e q layout bytes
-
--- What has been read so far.
-record Read (d : Device) (layout : Layout) (bytes : List ℕ) (s : Setting) (width pattern bit : ℕ) : Type 0 where
-  all : width ≡ bits_of s
-  upto : bit ≤ width
-  so_far : pattern ≡ bits_read d layout bytes s bit
 
 start : (d : Device) (layout : Layout) (bytes : List ℕ) (s : Setting) (width : ℕ) → width ≡ bits_of s → Read d layout bytes s width 0 0
 unfolding gathered
@@ -67,63 +61,26 @@ module _ (d : Device) (layout : Layout) (bytes : List ℕ) (s : Setting) (width 
   unfolding pattern_at
   end l = let last : bit ≡ bits_of s = omega (arith, r.all, r.upto) in r.so_far ∙ ap (bits_read d layout bytes s) last
 
-abbrev invariant-loop : tie.invariant-loop
-invariant-loop d readout bytes s width pattern₀ bit₀ pattern bit = Read d readout bytes s width pattern bit
+pub usercode_at-requires : goal.usercode_at-requires
+usercode_at-requires c = (search rules, search (rules, has_usercode), search rules)
 
-abbrev decreases-loop : tie.decreases-loop
-decreases-loop d readout bytes s width pattern₀ bit₀ pattern bit = width - bit
+pub returns-then-width-eq32 : goal.returns-then-width-eq32
+returns-then-width-eq32 c = search (rules, of_usercode)
 
-bits-of-requires : tie.Need-bits-of-requires invariant-loop decreases-loop
-bits-of-requires c κs = search rules
+pub loop-bit-init : goal.loop-bit-init
+loop-bit-init c = search (rules, start)
 
-usercode-at-requires : tie.Need-usercode-at-requires invariant-loop decreases-loop
-usercode-at-requires c κs = (search rules, search (rules, has_usercode), search rules)
+pub bit_of-state-requires : goal.bit_of-state-requires
+bit_of-state-requires c = (search (rules, index_in), search (rules, bit_in_lem))
 
-returns : tie.Need-returns invariant-loop decreases-loop
-returns c = search (rules, of_usercode)
+pub overflow_shl-pattern : goal.overflow_shl-pattern
+overflow_shl-pattern c = search (rules, few)
 
-loop-holds : tie.Need-loop-init invariant-loop decreases-loop
-loop-holds c = search (rules, start)
+pub overflow_add-pattern : goal.overflow_add-pattern
+overflow_add-pattern c = search (rules, fits)
 
-location-of-requires : tie.Need-location-of-requires invariant-loop decreases-loop
-location-of-requires c κs = search (rules, in_width)
+pub loop-bit-preserved : goal.loop-bit-preserved
+loop-bit-preserved c = search (rules, more)
 
-bit-of-requires : tie.Need-bit-of-requires invariant-loop decreases-loop
-bit-of-requires c κs = (search (rules, index_in), search (rules, bit_in_lem))
-
-shl-pattern : tie.Need-overflow-shl-pattern invariant-loop decreases-loop
-shl-pattern c = search (rules, few)
-
-add-pattern : tie.Need-overflow-add-pattern invariant-loop decreases-loop
-add-pattern c = search (rules, fits)
-
-add-bit : tie.Need-overflow-add-bit invariant-loop decreases-loop
-add-bit c = search rules
-
-loop-less : tie.Need-loop-smaller invariant-loop decreases-loop
-loop-less c = search rules
-
-loop-again : tie.Need-loop-preserved invariant-loop decreases-loop
-loop-again c = search (rules, more)
-
-returns-2 : tie.Need-returns-2 invariant-loop decreases-loop
-returns-2 c = search (rules, end)
-
-pub pattern_at_spec : {M : Type 1} → statement M
-pattern_at_spec =
-    tie.close
-    (tie.spec
-    invariant-loop
-    decreases-loop
-    bits-of-requires
-    usercode-at-requires
-    returns
-    loop-holds
-    location-of-requires
-    bit-of-requires
-    shl-pattern
-    add-pattern
-    add-bit
-    loop-less
-    loop-again
-    returns-2)
+pub returns : goal.returns
+returns c = search (rules, end)

@@ -2,7 +2,7 @@
 -- Assumes nothing.
 use mathlib.Core.Path.{◌≡◌, refl, sym, ◌∙◌, ap₂}
 use mathlib.Core.List.{List, [], ◌∷◌, ◌++◌}
-use Prim.Native.Nat.{ℕ, ◌+◌, ◌*◌, ◌-◌, ◌/◌, ◌%◌, ◌^◌, ◌≤◌, ◌<◌}
+use Prim.Native.Nat.{ℕ, ◌+◌, ◌*◌, ◌-◌, ◌%◌, ◌^◌, ◌≤◌, ◌<◌}
 use native.Mathlib.Omega.{arith}
 use native.Mathlib.Numerals.{add-one}
 use lib.ListN.{length, get_or, set, take, length-set}
@@ -11,19 +11,8 @@ use Rattle.jedec.specs.Rules.{state_given, image_with}
 use Rattle.jedec.proofs.States.{image_length}
 use Rattle.jedec_image.proofs.Images.{start_byte}
 use borrow.Author.Rules.{rules}
-use Rattle.jedec_image.proofs.states.fill.Statement.{statement}
-use Rattle.jedec_image.proofs.states.fill.Tie as tie
-
--- The bytes filled so far.
-record Filled (image₀ : List ℕ) (fuses state whole : ℕ) (image : List ℕ) (i : ℕ) : Type 0 where
-  upto : i ≤ whole
-  all : whole ≡ fuses / 8
-  same : length image ≡ length image₀
-  size : length image₀ ≡ (fuses + 7) / 8
-  so_far : take i image ≡ take i (image_with fuses (state_given state []))
-
-starts : (image : List ℕ) (fuses state : ℕ) → length image ≡ (fuses + 7) / 8 → Filled image fuses state (fuses / 8) image 0
-starts image fuses state e = record { upto = omega arith; all = refl; same = refl; size = e; so_far = refl }
+use Rattle.jedec_image.proofs.states.fill.Invariants.{Filled}
+use Rattle.jedec_image.proofs.states.fill.Goals as goal
 
 -- One byte more is as it is meant to be.
 more : (image meant : List ℕ) (i byte : ℕ) → i < length image → i < length meant → take i image ≡ take i meant → byte ≡ get_or meant i 0
@@ -78,67 +67,11 @@ module _ (image₀ : List ℕ) (fuses state whole : ℕ) (image : List ℕ) (i :
       (λ h. omega (arith, r.all)))
       ∙ take_all (whole + 1) _ meant
 
-abbrev invariant-loop : tie.invariant-loop
-invariant-loop image₀ fuses state whole byte i₀ image i = Filled image₀ fuses state whole image i
+pub loop-i-preserved : goal.loop-i-preserved
+loop-i-preserved c = search (rules, one_more)
 
-abbrev decreases-loop : tie.decreases-loop
-decreases-loop image₀ fuses state whole byte i₀ image i = whole - i
+pub returns-then-whole-image : goal.returns-then-whole-image
+returns-then-whole-image c = search (rules, last)
 
-cast-whole : tie.Need-overflow-cast-whole invariant-loop decreases-loop
-cast-whole c = search rules
-
-byte-of-requires : tie.Need-byte-of-requires invariant-loop decreases-loop
-byte-of-requires c κs = search rules
-
-loop-holds : tie.Need-loop-init invariant-loop decreases-loop
-loop-holds c = search (rules, starts)
-
-slice-write-image : tie.Need-slice-write-image invariant-loop decreases-loop
-slice-write-image c = search (rules, there)
-
-add-i : tie.Need-overflow-add-i invariant-loop decreases-loop
-add-i c = search rules
-
-loop-less : tie.Need-loop-smaller invariant-loop decreases-loop
-loop-less c = search rules
-
-loop-again : tie.Need-loop-preserved invariant-loop decreases-loop
-loop-again c = search (rules, one_more)
-
-byte-of-requires-2 : tie.Need-byte-of-requires-2 invariant-loop decreases-loop
-byte-of-requires-2 c κs = search rules
-
-slice-write-image-2 : tie.Need-slice-write-image-2 invariant-loop decreases-loop
-slice-write-image-2 c = search rules
-
-same_length : tie.Need-same-length invariant-loop decreases-loop
-same_length c = search (rules, kept_set)
-
-returns : tie.Need-returns invariant-loop decreases-loop
-returns c = search (rules, last)
-
-same-length-2 : tie.Need-same-length-2 invariant-loop decreases-loop
-same-length-2 c = search (rules, kept)
-
-returns-2 : tie.Need-returns-2 invariant-loop decreases-loop
-returns-2 c = search (rules, no_last)
-
-pub fill_spec : {M : Type 1} → statement M
-fill_spec =
-    tie.close
-    (tie.spec
-    invariant-loop
-    decreases-loop
-    cast-whole
-    byte-of-requires
-    loop-holds
-    slice-write-image
-    add-i
-    loop-less
-    loop-again
-    byte-of-requires-2
-    slice-write-image-2
-    same_length
-    returns
-    same-length-2
-    returns-2)
+pub returns-else-whole-image : goal.returns-else-whole-image
+returns-else-whole-image c = search (rules, no_last)

@@ -22,8 +22,7 @@ use Rattle.setting_bits.proofs.Edits.{inside, fuse_below}
 use Rattle.setting_bits.proofs.Steps.{its_byte, width_in, its_index}
 use Rattle.setting_bits.proofs.AboveWidth.{none_above, single_above}
 use borrow.Author.Rules.{rules}
-use Rattle.setting_bits.proofs.patterns.above_of.Statement.{statement}
-use Rattle.setting_bits.proofs.patterns.above_of.Tie as tie
+use Rattle.setting_bits.proofs.patterns.above_of.Goals as goal
 
 module _ (d : Device) (readout : List ℕ) (s : Setting) (k : known d ≡ true) (h : has_setting d s ≡ true) (one : bits_of s ≡ 1)
     (p : Place) (e : p ≡ place_of s 0) where
@@ -50,53 +49,24 @@ module _ (d : Device) (readout : List ℕ) (s : Setting) (k : known d ≡ true) 
       clean : above ≡ 0 → length readout ≡ above_of d readout s
       clean z = rw (looked, z) q
 
-some_bit : (s : Setting) → bits_of s ≡ 1 → 0 < bits_of s
-some_bit s one = omega arith
+pub returns-then-in_whole_bytes : goal.returns-then-in_whole_bytes
+returns-then-in_whole_bytes c =
+    none_above c.args.d c.requires.0 c.args.s
+    c.requires.1 c.args.readout.now
+    (λ i. (c.shared_slice_known-1.given i).fits) c.requires.2
+    (c.in_whole_bytes.ensures.0 c.if-in_whole_bytes.true)
 
-in-whole-bytes-requires : tie.Need-in-whole-bytes-requires
-in-whole-bytes-requires c κs = search rules
+pub index_of_byte-index-requires : goal.index_of_byte-index-requires
+index_of_byte-index-requires c = search (rules, byte_there, c.in_whole_bytes.ensures.1)
 
-returns : tie.Need-returns
+pub above_width-above-requires : goal.above_width-above-requires
+above_width-above-requires c =
+    (search (rules, index_in, c.in_whole_bytes.ensures.1), search (rules, width_in))
+
+pub returns-then-above-ne0 : goal.returns-then-above-ne0
+returns-then-above-ne0 c =
+    search (rules, one_above, c.in_whole_bytes.ensures.1)
+
+pub returns : goal.returns
 returns c =
-    none_above c.before.before.before.args.d c.before.before.before.requires.0 c.before.before.before.args.s
-    c.before.before.before.requires.1 c.before.before.before.args.readout.now
-    (λ i. (c.before.before.shared-slice-known.given i).fits) c.before.before.before.requires.2
-    (c.before.in-whole-bytes.ensures.0 c.if1.true)
-
-place-of-requires : tie.Need-place-of-requires
-place-of-requires c κs = search (rules, some_bit, c.before.in-whole-bytes.ensures.1)
-
-index-of-byte-requires : tie.Need-index-of-byte-requires
-index-of-byte-requires c κs = search (rules, byte_there, c.before.before.in-whole-bytes.ensures.1)
-
-cast-index : tie.Need-overflow-cast-index
-cast-index c = search rules
-
-width-of-requires : tie.Need-width-of-requires
-width-of-requires c κs = search rules
-
-above-width-requires : tie.Need-above-width-requires
-above-width-requires c κs =
-    (search (rules, index_in, c.before.before.before.before.in-whole-bytes.ensures.1), search (rules, width_in))
-
-returns-2 : tie.Need-returns-2
-returns-2 c =
-    let located = c.before.before.before in search (rules, one_above, located.before.before.before.in-whole-bytes.ensures.1)
-
-returns-3 : tie.Need-returns-3
-returns-3 c =
-    let located = c.before.before.before in search (rules, clean, located.before.before.before.in-whole-bytes.ensures.1)
-
-pub above_of_spec : {M : Type 1} → statement M
-above_of_spec =
-    tie.close
-    (tie.spec
-    in-whole-bytes-requires
-    returns
-    place-of-requires
-    index-of-byte-requires
-    cast-index
-    width-of-requires
-    above-width-requires
-    returns-2
-    returns-3)
+    search (rules, clean, c.in_whole_bytes.ensures.1)

@@ -19,8 +19,8 @@ use Rattle.setting_bits.proofs.Edits.{inside, fuse_below, set_length}
 use Rattle.setting_bits.proofs.Steps.{bits_few, bit_small}
 use Rattle.setting_bits.proofs.Usercode.{usercode, has_usercode, its_bytes}
 use borrow.Author.Rules.{rules}
-use Rattle.setting_bits.proofs.patterns.put_pattern.Statement.{statement}
-use Rattle.setting_bits.proofs.patterns.put_pattern.Tie as tie
+use Rattle.setting_bits.proofs.patterns.put_pattern.Invariants.{Put}
+use Rattle.setting_bits.proofs.patterns.put_pattern.Goals as goal
 
 module _ (d : Device) (layout : Layout) (before : List ℕ) (s : Setting) (pattern width : ℕ) (h : has_setting d s ≡ true)
     (e : width ≡ bits_of s) (q : width ≡ 32)
@@ -30,13 +30,6 @@ module _ (d : Device) (layout : Layout) (before : List ℕ) (s : Setting) (patte
 
   kept_usercode : known d ≡ true → length before ≡ bytes_of d layout → length after ≡ length before
   kept_usercode k size = rw of_usercode (set_length d k layout before size s h pattern)
-
--- The bits put in place so far.
-record Put (d : Device) (layout : Layout) (before : List ℕ) (s : Setting) (pattern width : ℕ) (bytes : List ℕ) (bit : ℕ) : Type 0 where
-  all : width ≡ bits_of s
-  upto : bit ≤ width
-  size : length bytes ≡ bytes_of d layout
-  so_far : bytes ≡ with_bits d layout before s pattern bit
 
 start : (d : Device) (layout : Layout) (before : List ℕ) (s : Setting) (pattern width : ℕ)
     → length before ≡ bytes_of d layout → width ≡ bits_of s → Put d layout before s pattern width before 0
@@ -78,67 +71,23 @@ module _ (d : Device) (layout : Layout) (before : List ℕ) (s : Setting) (patte
   unfolding with_pattern
   end l = let last : bit ≡ bits_of s = omega (arith, r.all, r.upto) in r.so_far ∙ ap (with_bits d layout before s pattern) last
 
-abbrev invariant-loop : tie.invariant-loop
-invariant-loop d readout bytes₀ s pattern width bit₀ bytes bit = Put d readout bytes₀ s pattern width bytes bit
+pub put_usercode-requires : goal.put_usercode-requires
+put_usercode-requires c = (search rules, search (rules, has_usercode), search rules)
 
-abbrev decreases-loop : tie.decreases-loop
-decreases-loop d readout bytes₀ s pattern width bit₀ bytes bit = width - bit
+pub returns-then-last-eq32 : goal.returns-then-last-eq32
+returns-then-last-eq32 c = search (rules, of_usercode)
 
-bits-of-requires : tie.Need-bits-of-requires invariant-loop decreases-loop
-bits-of-requires c κs = search rules
+pub loop-bit-init : goal.loop-bit-init
+loop-bit-init c = search (rules, start)
 
-put-usercode-requires : tie.Need-put-usercode-requires invariant-loop decreases-loop
-put-usercode-requires c κs = (search rules, search (rules, has_usercode), search rules)
+pub overflow_shr-state : goal.overflow_shr-state
+overflow_shr-state c = search (rules, few)
 
-same_length : tie.Need-same-length invariant-loop decreases-loop
-same_length c = search (rules, kept_usercode)
+pub set_bit-requires : goal.set_bit-requires
+set_bit-requires c = (search (rules, index_in), search (rules, bit_in_lem), search rules)
 
-returns : tie.Need-returns invariant-loop decreases-loop
-returns c = search (rules, of_usercode)
+pub loop-bit-preserved : goal.loop-bit-preserved
+loop-bit-preserved c = search (rules, more)
 
-loop-holds : tie.Need-loop-init invariant-loop decreases-loop
-loop-holds c = search (rules, start)
-
-location-of-requires : tie.Need-location-of-requires invariant-loop decreases-loop
-location-of-requires c κs = search (rules, in_width)
-
-shr-state : tie.Need-overflow-shr-state invariant-loop decreases-loop
-shr-state c = search (rules, few)
-
-set-bit-requires : tie.Need-set-bit-requires invariant-loop decreases-loop
-set-bit-requires c κs = (search (rules, index_in), search (rules, bit_in_lem), search rules)
-
-add-bit : tie.Need-overflow-add-bit invariant-loop decreases-loop
-add-bit c = search rules
-
-loop-less : tie.Need-loop-smaller invariant-loop decreases-loop
-loop-less c = search rules
-
-loop-again : tie.Need-loop-preserved invariant-loop decreases-loop
-loop-again c = search (rules, more)
-
-same-length-2 : tie.Need-same-length-2 invariant-loop decreases-loop
-same-length-2 c = search (rules, kept)
-
-returns-2 : tie.Need-returns-2 invariant-loop decreases-loop
-returns-2 c = search (rules, end)
-
-pub put_pattern_spec : {M : Type 1} → statement M
-put_pattern_spec =
-    tie.close
-    (tie.spec
-    invariant-loop
-    decreases-loop
-    bits-of-requires
-    put-usercode-requires
-    same_length
-    returns
-    loop-holds
-    location-of-requires
-    shr-state
-    set-bit-requires
-    add-bit
-    loop-less
-    loop-again
-    same-length-2
-    returns-2)
+pub returns : goal.returns
+returns c = search (rules, end)

@@ -18,13 +18,8 @@ use Rattle.setting_bits.specs.SettingBits.{bytes_of, byte_of, bit_in, pattern_at
 use Rattle.setting_bits.proofs.Steps.{bits_read}
 use Rattle.setting_bits.proofs.Usercode.{usercode, location_in, location_low, pair_more}
 use borrow.Author.Rules.{rules}
-use Rattle.setting_bits.proofs.patterns.usercode_at.Statement.{statement}
-use Rattle.setting_bits.proofs.patterns.usercode_at.Tie as tie
-
--- What has been read so far.
-record Read (d : Device) (layout : Layout) (bytes : List ℕ) (pattern pair : ℕ) : Type 0 where
-  upto : pair ≤ 16
-  so_far : pattern ≡ bits_read d layout bytes usercode (2 * pair)
+use Rattle.setting_bits.proofs.patterns.usercode_at.Invariants.{Read}
+use Rattle.setting_bits.proofs.patterns.usercode_at.Goals as goal
 
 start : (d : Device) (layout : Layout) (bytes : List ℕ) → Read d layout bytes 0 0
 unfolding gathered
@@ -50,55 +45,17 @@ module _ (d : Device) (layout : Layout) (bytes : List ℕ) (pattern pair : ℕ) 
   unfolding pattern_at bits_of
   end l = let last : 2 * pair ≡ 32 = omega (arith, r.upto) in r.so_far ∙ ap (bits_read d layout bytes usercode) last
 
-abbrev invariant-loop : tie.invariant-loop
-invariant-loop d readout bytes pattern₀ pair₀ pattern pair = Read d readout bytes pattern pair
+pub loop-pair-init : goal.loop-pair-init
+loop-pair-init c = search (rules, start)
 
-abbrev decreases-loop : tie.decreases-loop
-decreases-loop d readout bytes pattern₀ pair₀ pattern pair = 16 - pair
+pub pair_of-states-requires : goal.pair_of-states-requires
+pair_of-states-requires c = (search (rules, index_in), search (rules, bit_in_lem))
 
-loop-holds : tie.Need-loop-init invariant-loop decreases-loop
-loop-holds c = search (rules, start)
+pub overflow_add-pattern : goal.overflow_add-pattern
+overflow_add-pattern c = search (rules, fits)
 
-usercode-location-requires : tie.Need-usercode-location-requires invariant-loop decreases-loop
-usercode-location-requires c κs = search rules
+pub loop-pair-preserved : goal.loop-pair-preserved
+loop-pair-preserved c = search (rules, more)
 
-pair-of-requires : tie.Need-pair-of-requires invariant-loop decreases-loop
-pair-of-requires c κs = (search (rules, index_in), search (rules, bit_in_lem))
-
-mul-pattern : tie.Need-overflow-mul-pattern invariant-loop decreases-loop
-mul-pattern c = search rules
-
-shl-pattern : tie.Need-overflow-shl-pattern invariant-loop decreases-loop
-shl-pattern c = search rules
-
-add-pattern : tie.Need-overflow-add-pattern invariant-loop decreases-loop
-add-pattern c = search (rules, fits)
-
-add-pair : tie.Need-overflow-add-pair invariant-loop decreases-loop
-add-pair c = search rules
-
-loop-less : tie.Need-loop-smaller invariant-loop decreases-loop
-loop-less c = search rules
-
-loop-again : tie.Need-loop-preserved invariant-loop decreases-loop
-loop-again c = search (rules, more)
-
-returns : tie.Need-returns invariant-loop decreases-loop
+pub returns : goal.returns
 returns c = search (rules, end)
-
-pub usercode_at_spec : {M : Type 1} → statement M
-usercode_at_spec =
-    tie.close
-    (tie.spec
-    invariant-loop
-    decreases-loop
-    loop-holds
-    usercode-location-requires
-    pair-of-requires
-    mul-pattern
-    shl-pattern
-    add-pattern
-    add-pair
-    loop-less
-    loop-again
-    returns)
