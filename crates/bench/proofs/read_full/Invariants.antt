@@ -7,7 +7,7 @@ use Rattle.bench.proofs.read_full.Given as goal
 abbrev pub invariant-loop-done : goal.invariant-loop-done
 invariant-loop-done g l = record {
   in_buffer : l.done ≤ length l.buffer;
-  bytes : Consumes (g.R.Read.remaining l.fn.input) (g.R.Read.remaining l.input) (take l.done l.buffer)
+  bytes : Consumes (g.R.Read.remaining l.fn.input) (g.R.Read.remaining l.input) (take l.done l.buffer);
 }
 
 abbrev pub decreases-loop-done : goal.decreases-loop-done
