@@ -1,9 +1,10 @@
 // The bench program: reads a text from standard input and writes the counts of its image, or its refusal.
-// What it writes is decided by `report::report`; no contract can say what is read or written.
+// What it writes is the report of all that it read: `report_input` says so of any reader and writer of known bytes.
 #![tactic(auto)]
 
-ghost use Rattle.std.specs.Prelude.{◌≡◌, ◌<◌, ◌≤◌, length, take, IfOk};
-ghost use Rattle.std.specs.Io.KnownBytes.{Consumes, IsAtEnd};
+ghost use Rattle.std.specs.Prelude.{◌≡◌, ◌<◌, ◌≤◌, length, take, IfOk, IfSome, OnOk};
+ghost use Rattle.std.specs.Io.KnownBytes.{Appends, Consumes, IsAtEnd};
+ghost use Rattle.report.specs.Report.{report_of};
 
 use part::NumberAnswer;
 use std::io;
@@ -33,13 +34,28 @@ fn read_full<R: Read>(input: &mut R, buffer: &mut [u8]) -> io::Result<usize>
     Ok(done)
 }
 
-fn main(rt: HostRuntime) -> io::Result<()> {
-    let mut text = buffer_for_text();
-    let n = read_full(&mut rt.stdin(), &mut text)?;
+// Writes the report of a text.
+fn put_report<W: Write>(out: &mut W, text: &[u8]) -> io::Result<()>
+    ensures { OnOk result (Appends (W.contents out.old) (W.contents out.new) (report_of text.now)) }
+{
     let mut lines = [0u8; 64];
-    let answer = report::report(&text[..n], &mut lines);
+    let answer = report::report(text, &mut lines);
     if let NumberAnswer::Number(bytes) = answer {
-        rt.stdout().write_all(&lines[..bytes as usize])?;
+        out.write_all(&lines[..bytes as usize])?;
     }
     Ok(())
+}
+
+// Reads a text and writes its report. What comes after the buffer is full is not read: it would change no report.
+pub fn report_input<R: Read, W: Write>(input: &mut R, out: &mut W) -> io::Result<()>
+    ensures { OnOk result (IfSome (R.remaining input.old)
+        (λ text. Appends (W.contents out.old) (W.contents out.new) (report_of text))) }
+{
+    let mut text = buffer_for_text();
+    let n = read_full(input, &mut text)?;
+    put_report(out, &text[..n])
+}
+
+fn main(rt: HostRuntime) -> io::Result<()> {
+    report_input(&mut rt.stdin(), &mut rt.stdout())
 }
