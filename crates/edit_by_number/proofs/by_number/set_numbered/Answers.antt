@@ -1,13 +1,13 @@
 -- `set_numbered` meets its contract: the tests are the definition's, and nothing is written before the last of them.
 -- Assumes nothing.
 use mathlib.Core.Path.{◌≡◌, sym, ◌∙◌}
-use mathlib.Core.Bool.{Bool, true, false, not}
+use mathlib.Core.Bool.{Bool, true, false}
 use mathlib.Core.List.{List}
 use Prim.Native.Nat.{ℕ, ◌^◌, ◌<◌, ◌≤◌}
 use native.Mathlib.Omega.{arith}
 use lib.Dec.{ltb}
 use lib.ListN.{length}
-use borrow.Author.Tests.{eq-eqb, ne_eqb, le-ltb, not-true, not-false}
+use borrow.Author.Tests.{eq-eqb, ne_eqb, le-ltb}
 use Rattle.part.specs.Outcome.Outcome.{accepted, refused}
 use Rattle.part.specs.Device.{known}
 use Rattle.part.specs.declared.Device.{Device}
@@ -23,8 +23,7 @@ use Rattle.edit_by_number.specs.ByNumber.{set_pattern}
 use Rattle.edit_by_number.proofs.Asked.{below, there, its_size, above_fits, PatternGives, refusal, sets_none, sets_above, sets_clean}
 use Rattle.edit_by_number.proofs.Usercode.{has_usercode, sets_code}
 use borrow.Author.Rules.{rules}
-use Rattle.edit_by_number.proofs.by_number.set_numbered.Statement.{statement}
-use Rattle.edit_by_number.proofs.by_number.set_numbered.Tie as tie
+use Rattle.edit_by_number.proofs.by_number.set_numbered.Goals as goal
 
 no_device : (d : Device) (layout : Layout) (bytes : List ℕ) (x pattern : ℕ) → known d ≡ false
     → PatternGives d layout bytes x pattern (refused 1 0) bytes
@@ -62,102 +61,47 @@ module _ (d : Device) (layout : Layout) (bytes : List ℕ) (x pattern size : ℕ
 few : (d : Device) (x count : ℕ) (s : Setting) (bits : ℕ) → count ≡ count_of d → x < count → s ≡ setting_of d x → bits ≡ bits_of s → bits ≤ 32
 few d x count s bits e l f w = rw w (bits_few d s (there d x count s e l f))
 
-is-known-requires : tie.Need-is-known-requires
-is-known-requires c κs = search rules
+pub returns-then-not-is_known : goal.returns-then-not-is_known
+returns-then-not-is_known c = search (rules, is_unknown, no_device)
 
-returns : tie.Need-returns
-returns c = search (rules, is_unknown, no_device)
+pub returns-then-bytes-bytes_of : goal.returns-then-bytes-bytes_of
+returns-then-bytes-bytes_of c = search (rules, is_known, wrong_length)
 
-bytes-of-requires : tie.Need-bytes-of-requires
-bytes-of-requires c κs = search (rules, is_known)
+pub returns-then-count_of-number : goal.returns-then-count_of-number
+returns-then-count_of-number c = search (rules, is_known, no_number)
 
-returns-2 : tie.Need-returns-2
-returns-2 c = search (rules, is_known, wrong_length)
+pub put_usercode-requires : goal.put_usercode-requires
+put_usercode-requires c = (search (rules, is_known), search (rules, has_usercode), search (rules, its_size))
 
-count-of-requires : tie.Need-count-of-requires
-count-of-requires c κs = search (rules, is_known)
+pub returns-then-number-number_of_usercode : goal.returns-then-number-number_of_usercode
+returns-then-number-number_of_usercode c =
+    sets_code c.args.d _ _ _ _ _ _ (is_known _ _ c.is_known.ensures
+    c.if-not-is_known.false) c.bytes_of.ensures
+    c.if-bytes-bytes_of.false c.count_of.ensures c.if-count_of-number.false
+    c.number_of_usercode.ensures c.if-number-number_of_usercode.true
+    (λ i. (c.slice_known-1.given i).fits) _ _ c.ranges.pattern.fits c.put_usercode.ensures
 
-returns-3 : tie.Need-returns-3
-returns-3 c = search (rules, is_known, no_number)
+pub bits_of-bits-requires : goal.bits_of-bits-requires
+bits_of-bits-requires c = search (rules, there)
 
-number-of-usercode-requires : tie.Need-number-of-usercode-requires
-number-of-usercode-requires c κs = search (rules, is_known)
+pub fits-requires : goal.fits-requires
+fits-requires c =
+    few _ _ _ _ _ c.count_of.ensures c.if-count_of-number.false c.setting_of-s.ensures c.bits_of-bits.ensures
 
-put-usercode-requires : tie.Need-put-usercode-requires
-put-usercode-requires c κs = (search (rules, is_known), search (rules, has_usercode), search (rules, its_size))
+pub returns-then-not-fits : goal.returns-then-not-fits
+returns-then-not-fits c = search (rules, is_known, not_fitting)
 
-same_length : tie.Need-same-length
-same_length c = search rules
+pub above_in-above-requires : goal.above_in-above-requires
+above_in-above-requires c = (search (rules, is_known), search (rules, there), search (rules, its_size))
 
-returns-4 : tie.Need-returns-4
-returns-4 c =
-    let chosen = c.before.before.before.before in
-    let tested = chosen.before.before.before in
-    let sized = tested.before.before.before.before in
-    let start = sized.before.before.before in
-    sets_code start.before.args.d _ _ _ _ _ _ (is_known _ _ sized.before.before.is_known.ensures
-    sized.before.if1.false) sized.bytes_of_lem.ensures
-    tested.before.before.before.if2.false tested.before.before.count_of.ensures tested.if3.false
-    chosen.before.before.number-of-usercode.ensures chosen.if4.true
-    (λ i. (start.slice-known.given i).fits) _ _ start.before.ranges.pattern.fits c.before.before.put-usercode.ensures
+pub overflow_cast-index : goal.overflow_cast-index
+overflow_cast-index c = search (rules, is_known, above_fits)
 
-setting-of-requires : tie.Need-setting-of-requires
-setting-of-requires c κs = (search (rules, is_known), search (rules, below))
+pub returns-then-above-bytes : goal.returns-then-above-bytes
+returns-then-above-bytes c = search (rules, is_known, one_above)
 
-bits-of-requires : tie.Need-bits-of-requires
-bits-of-requires c κs = search (rules, there)
+pub put_pattern-requires : goal.put_pattern-requires
+put_pattern-requires c = (search (rules, is_known), search (rules, there), search (rules, its_size))
 
-fits-requires : tie.Need-fits-requires
-fits-requires c κs =
-    let tested = c.before.before.before.before.before in
-    few _ _ _ _ _ tested.before.before.count_of.ensures tested.if3.false c.before.setting-of.ensures c.bits_of.ensures
-
-returns-5 : tie.Need-returns-5
-returns-5 c = search (rules, is_known, not_fitting)
-
-above-in-requires : tie.Need-above-in-requires
-above-in-requires c κs = (search (rules, is_known), search (rules, there), search (rules, its_size))
-
-cast-index : tie.Need-overflow-cast-index
-cast-index c = search (rules, is_known, above_fits)
-
-same-length-2 : tie.Need-same-length-2
-same-length-2 c = search rules
-
-returns-6 : tie.Need-returns-6
-returns-6 c = search (rules, is_known, one_above)
-
-put-pattern-requires : tie.Need-put-pattern-requires
-put-pattern-requires c κs = (search (rules, is_known), search (rules, there), search (rules, its_size))
-
-same-length-3 : tie.Need-same-length-3
-same-length-3 c = search rules
-
-returns-7 : tie.Need-returns-7
-returns-7 c = search (rules, is_known, the_set)
-
-pub set_numbered_spec : {M : Type 1} → statement M
-set_numbered_spec =
-    tie.close
-    (tie.spec
-    is-known-requires
-    returns
-    bytes-of-requires
-    returns-2
-    count-of-requires
-    returns-3
-    number-of-usercode-requires
-    put-usercode-requires
-    same_length
-    returns-4
-    setting-of-requires
-    bits-of-requires
-    fits-requires
-    returns-5
-    above-in-requires
-    cast-index
-    same-length-2
-    returns-6
-    put-pattern-requires
-    same-length-3
-    returns-7)
+pub returns : goal.returns
+returns c = search (rules, is_known, the_set)
