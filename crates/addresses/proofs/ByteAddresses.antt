@@ -24,7 +24,8 @@ wire_and_fields : (a b s r c : ℕ) → a ≡ b * 2 ^ 13 + 1 * 2 ^ 12 + s * 2 ^ 
 wire_and_fields a b s r c e hb hs hr hc = omega arith
 
 -- The address of a byte names that byte.
-pub address_inverse : (d : Device) → known d ≡ true → (byte : BytePlace) → has_byte d byte ≡ true → byte_of_address (address_of_byte byte) ≡ byte
+pub address_inverse : (d : Device) → known d ≡ true → (byte : BytePlace) → has_byte d byte ≡ true
+    → byte_of_address (address_of_byte byte) ≡ byte
 unfolding byte_of_address
 address_inverse d k (Main block row column) h =
     let small = blocks_small d k in

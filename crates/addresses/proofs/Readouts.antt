@@ -38,7 +38,8 @@ at_index d index h =
 abbrev pub Indexed : Device → BytePlace → Type 0
 Indexed d byte = (index_of_byte d byte < readout_bytes d) × (byte_of_index d (index_of_byte d byte) ≡ byte)
 
-in_block_lem : (d : Device) (block rest : ℕ) → rest < block_bytes d → byte_of_index d (block * block_bytes d + rest) ≡ byte_in_block block rest
+in_block_lem : (d : Device) (block rest : ℕ) → rest < block_bytes d
+    → byte_of_index d (block * block_bytes d + rest) ≡ byte_in_block block rest
 unfolding byte_of_index
 in_block_lem d block rest h = rw (digits_div block h, digits_mod block h)
 
@@ -132,7 +133,8 @@ inside_small s h =
     by_cases (λ x. x < 8192) s 1080 (λ l. omega (arith, main_small s l)) (λ g. omega (arith, wire_and_small (s - 1080) (omega arith)))
 
 -- The addresses of the bytes ascend.
-pub ascending : (d : Device) → known d ≡ true → (i j : ℕ) → i < j → address_of_byte (byte_of_index d i) < address_of_byte (byte_of_index d j)
+pub ascending : (d : Device) → known d ≡ true → (i j : ℕ) → i < j
+    → address_of_byte (byte_of_index d i) < address_of_byte (byte_of_index d j)
 unfolding byte_of_index
 ascending d k i j h =
     let small = blocks_small d k in
@@ -147,7 +149,8 @@ ascending d k i j h =
     (omega (arith, div-add-mod' i B, div-add-mod' j B)))
 
 -- Each is valid.
-pub each_valid : (d : Device) → known d ≡ true → (index : ℕ) → index < readout_bytes d → valid d (address_of_byte (byte_of_index d index)) ≡ true
+pub each_valid : (d : Device) → known d ≡ true → (index : ℕ) → index < readout_bytes d
+    → valid d (address_of_byte (byte_of_index d index)) ≡ true
 each_valid d k index h = (valid_iff d k (address_of_byte (byte_of_index d index))).1 (byte_of_index d index, (at_index d index h).0, refl)
 
 -- No valid address is left out.

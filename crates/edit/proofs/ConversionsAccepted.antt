@@ -27,7 +27,8 @@ unfolding to_readout
 passes d image target k e f = rw (k, eq-eqb (length image) (image_bytes d) e, eq-eqb (length target) (readout_bytes d) f)
 
 -- The conversion of a readout that is an image's.
-pub passes_back : (d : Device) (image readout target : List ℕ) → known d ≡ true → readout ≡ readout_of d image → length target ≡ image_bytes d
+pub passes_back : (d : Device) (image readout target : List ℕ) → known d ≡ true → readout ≡ readout_of d image
+    → length target ≡ image_bytes d
     → to_image d readout target ≡ accepted tt
 passes_back d image readout target k same size =
     let clean : Within d readout = subst (Within d) (sym same) (readout_accepted d image) in
@@ -36,7 +37,8 @@ passes_back d image readout target k same size =
 module _ (d : Device) (image : List ℕ) (s : Setting) (v : Value) (pattern : ℕ) (taken : Premise d image s v pattern) where
   pub conversions_accepted : (to_readout d image (readout_of d image) ≡ accepted tt)
       × (to_readout d (with_value d Image image s v) (readout_of d (with_value d Image image s v)) ≡ accepted tt)
-      × (to_image d (with_value d Readout (readout_of d image) s v) (image_of d (with_value d Readout (readout_of d image) s v)) ≡ accepted tt)
+      × (to_image d (with_value d Readout (readout_of d image) s v) (image_of d (with_value d Readout (readout_of d image) s v))
+      ≡ accepted tt)
   conversions_accepted =
       let after = changed d image s v pattern taken in (
         passes d image (readout_of d image) taken.device taken.size (its_length d image),

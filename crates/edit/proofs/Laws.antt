@@ -36,7 +36,8 @@ pub use Rattle.edit.proofs.Demand.{holds, of_calls}
 
 module _ (d : Device) (k : known d ≡ true) (s : Setting) (h : has_setting d s ≡ true) (v : Value) (pattern : ℕ)
     (p : pattern_in (kind_of d s) v ≡ some pattern) where
-  reads_set : (layout : Layout) (bytes : List ℕ) → length bytes ≡ bytes_of d layout → Clean d layout (with_pattern d layout bytes s pattern) s
+  reads_set : (layout : Layout) (bytes : List ℕ) → length bytes ≡ bytes_of d layout
+      → Clean d layout (with_pattern d layout bytes s pattern) s
       → read_in d layout (with_value d layout bytes s v) s ≡ accepted v
   unfolding with_value
   reads_set layout bytes e clean =
@@ -49,7 +50,8 @@ module _ (d : Device) (k : known d ≡ true) (s : Setting) (h : has_setting d s 
 
   -- In a readout whose bytes that hold the setting have no bit above their width; its other bytes may hold anything.
   pub read_after_set : (readout : List ℕ) → length readout ≡ readout_bytes d
-      → ((b : ℕ) → b < bits_of s → get_or readout (byte_of d Readout (fuse_of d s b)) 0 < 2 ^ width_at d (byte_of d Readout (fuse_of d s b)))
+      → ((b : ℕ) → b < bits_of s
+      → get_or readout (byte_of d Readout (fuse_of d s b)) 0 < 2 ^ width_at d (byte_of d Readout (fuse_of d s b)))
       → read_in d Readout (with_value d Readout readout s v) s ≡ accepted v
   read_after_set readout e clean =
       reads_set Readout readout e

@@ -30,7 +30,8 @@ pub image_clean : (d : Device) (bytes : List ℕ) (t : Setting) → Clean d Imag
 unfolding above_in
 image_clean d bytes t = refl
 
-pub readout_clean : (d : Device) (bytes : List ℕ) (t : Setting) → above_among d bytes t (bits_of t) ≡ readout_bytes d → Clean d Readout bytes t
+pub readout_clean : (d : Device) (bytes : List ℕ) (t : Setting) → above_among d bytes t (bits_of t) ≡ readout_bytes d
+    → Clean d Readout bytes t
 unfolding above_in
 readout_clean d bytes t e = e
 

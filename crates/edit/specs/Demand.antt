@@ -64,7 +64,8 @@ calls_by d set changed read image s t = record {
   readout = changed Readout (readout_of d image);
   converted_image = to_readout d (changed Image image) (readout_of d (changed Image image));
   as_readout = readout_of d (changed Image image);
-  converted_readout = to_image d (changed Readout (readout_of d image)) (image_of d (changed Readout (readout_of d image)));
+  converted_readout =
+      to_image d (changed Readout (readout_of d image)) (image_of d (changed Readout (readout_of d image)));
   as_image = image_of d (changed Readout (readout_of d image));
   read_image = read Image (changed Image image) s;
   read_readout = read Readout (changed Readout (readout_of d image)) s;

@@ -38,13 +38,16 @@ found_all : all_below (λ i. all_below (found_at_row i) 3) macrocell_fields ≡ 
 unfolding field_index_at_row last_up_to
 found_all = refl
 
-found_at : (i bit : ℕ) → i < macrocell_fields → bit < rows (macrocell_field_at i) → field_index_at_row (first_row (macrocell_field_at i) + bit) ≡ i
+found_at : (i bit : ℕ) → i < macrocell_fields → bit < rows (macrocell_field_at i)
+    → field_index_at_row (first_row (macrocell_field_at i) + bit) ≡ i
 found_at i bit h hb =
     let few = rows_few i h in
-    let test = below_all (found_at_row i) 3 (below_all (λ i. all_below (found_at_row i) 3) macrocell_fields found_all i h) bit (omega arith) in
+    let test = below_all (found_at_row i) 3 (below_all (λ i. all_below (found_at_row i) 3) macrocell_fields found_all i h) bit (omega arith)
+    in
     eqb-true _ i (rw (lt-ltb bit (rows (macrocell_field_at i)) hb) at test)
 
-found_at_row_lem : (f : MacrocellField) (bit : ℕ) → macrocell_index f < macrocell_fields → bit < rows f → field_at_row (first_row f + bit) ≡ f
+found_at_row_lem : (f : MacrocellField) (bit : ℕ) → macrocell_index f < macrocell_fields → bit < rows f
+    → field_at_row (first_row f + bit) ≡ f
 found_at_row_lem f bit h hb =
     let same = macrocell_at f h in
     let there = found_at (macrocell_index f) bit h (rw same hb) in
@@ -55,7 +58,8 @@ pub at_row : (row : ℕ) → 12 ≤ row → row < 55 → (field_index_at_row row
 unfolding field_index_at_row last_up_to
 at_row row low high =
     let back : 12 + (row - 12) ≡ row = omega arith in
-    let test = below_all (λ i. ltb (field_index_at_row (12 + i)) macrocell_fields && ltb (first_row (field_at_row (12 + i))) (12 + i + 1)) 43 refl
+    let test = below_all (λ i. ltb (field_index_at_row (12 + i)) macrocell_fields && ltb (first_row (field_at_row (12 + i))) (12 + i + 1))
+    43 refl
     (row - 12) (omega arith) in
     subst (λ r. (field_index_at_row r < macrocell_fields) × (first_row (field_at_row r) ≤ r)) back (passed (12 + (row - 12)) test)
   where

@@ -5,7 +5,8 @@
 --   at_fuse_has       a fuse that is named is one of a setting that the device has
 --   apart             no two settings share a fuse, and no setting has a fuse twice
 --   unnamed_iff       a fuse below the count is unnamed exactly if no setting lists it
---   always_listed_lem     a literal or a wire-AND that is the candidate at the place of a fuse is the setting there (proofs/NamedFuses.antt)
+--   always_listed_lem     a literal or a wire-AND that is the candidate at the place of a fuse is the setting there
+--                         (proofs/NamedFuses.antt)
 --   unnamed_count     how many fuses are unnamed in each class (proofs/Unnamed.antt)
 --   bench_cases_lem       document 01's cases about settings and fuses
 --   corner_cases, field_cases, global_cases   the fuses of literals, wire-ANDs and every field, on the part of two blocks
@@ -87,7 +88,8 @@ fuses_to d s bit f e =
     let below : ltb (fuse_of d s bit) (fuse_count d) ≡ true = lt-ltb _ _ (left.below s bit l) in
     rw (outer.0, ← listed-so.1, below, left.inverse s bit l)
 
-fuses_from : (d : Device) (s : Setting) (bit f : ℕ) → setting_at_fuse d f ≡ accepted (some (s, bit)) → fuse_of_bit d s bit ≡ accepted (some f)
+fuses_from : (d : Device) (s : Setting) (bit f : ℕ) → setting_at_fuse d f ≡ accepted (some (s, bit))
+    → fuse_of_bit d s bit ≡ accepted (some f)
 unfolding fuse_of_bit setting_at_fuse
 fuses_from d s bit f e =
     let outer = passed (known d) _ 1 0 e in

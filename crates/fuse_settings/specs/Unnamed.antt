@@ -19,4 +19,5 @@ unnamed_below d zero = 0
 unnamed_below d (suc fuse) = unnamed_below d fuse + one_if_none (setting_at d fuse)
 
 abbrev pub UnnamedCount : Type 0
-UnnamedCount = (d : Device) → known d ≡ true → unnamed_below d (fuse_count d) ≡ 624 * blocks_of d - cond (is_large d) 54 48
+UnnamedCount =
+    (d : Device) → known d ≡ true → unnamed_below d (fuse_count d) ≡ 624 * blocks_of d - cond (is_large d) 54 48

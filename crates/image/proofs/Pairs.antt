@@ -53,4 +53,8 @@ pub with_pair : (bytes : List ℕ) (index b states : ℕ) → index < length byt
     → with_bit (with_bit bytes index b (states % 2)) index (b + 1) (states / 2) ≡ set bytes index (put_pair (get_or bytes index 0) b states)
 unfolding with_bit
 with_pair bytes index b states there two =
-    rw (get_or-set_same bytes index (put_bit (get_or bytes index 0) b (states % 2)) 0 there, set-set, put_pair_lem (get_or bytes index 0) b states two)
+    rw (
+      get_or-set_same bytes index (put_bit (get_or bytes index 0) b (states % 2)) 0 there,
+      set-set,
+      put_pair_lem (get_or bytes index 0) b states two,
+    )

@@ -15,17 +15,20 @@ use Rattle.jedec.specs.Cases.{AllHold, accepted_texts, refused_texts, eight_fuse
 use Rattle.jedec.proofs.CaseImages.{all_ones_lem, all_zeros_lem, only_first_lem, first_of_three, all_but_first_lem, only_last_lem}
 
 pub accepted_texts_lem : AllHold 18144 accepted_texts
-unfolding meaning concluded pieces blanks_before fields_from holds_mark tail_from unbroken states_in list_in judge all_fields misplaced digits_read
+unfolding meaning concluded pieces blanks_before fields_from holds_mark tail_from unbroken states_in list_in judge all_fields misplaced
+    digits_read
     number_in sum_in byte_sum sum16
 accepted_texts_lem = rw (all_ones_lem, only_first_lem, first_of_three, all_zeros_lem, all_but_first_lem, only_last_lem)
 
 pub refused_texts_lem : AllHold 18144 refused_texts
-unfolding meaning concluded pieces blanks_before fields_from holds_mark tail_from unbroken states_in list_in judge all_fields misplaced is_given
+unfolding meaning concluded pieces blanks_before fields_from holds_mark tail_from unbroken states_in list_in judge all_fields misplaced
+    is_given
     lowest_from digits_read number_in sum_in byte_sum sum16
 refused_texts_lem = rw all_ones_lem
 
 pub eight_fuse_texts_lem : AllHold 8 eight_fuse_texts
-unfolding meaning concluded pieces blanks_before fields_from holds_mark tail_from unbroken states_in list_in judge all_fields misplaced is_given
+unfolding meaning concluded pieces blanks_before fields_from holds_mark tail_from unbroken states_in list_in judge all_fields misplaced
+    is_given
     lowest_from state_given image_with gathered tabulate digits_read number_in sum_in byte_sum sum16
 eight_fuse_texts_lem = refl
 

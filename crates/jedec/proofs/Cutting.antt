@@ -124,7 +124,8 @@ module _ (gap tail : List ℕ) (blank : all is_blank gap ≡ true) (no_star : al
   cut_from at text = fields_from at (pieces text).ended (pieces text).rest
 
   fields_last : (at : ℕ) (spaced : List SpacedField) → RightFields spaced
-      → cut_from at (spaced_text spaced ++ last) ≡ record { fields = fields_of at spaced; end = some (offset_after_all at spaced + length gap) }
+      → cut_from at (spaced_text spaced ++ last)
+      ≡ record { fields = fields_of at spaced; end = some (offset_after_all at spaced + length gap) }
   unfolding spaced_text fields_of offset_after_all cut_from
   fields_last at [] right = rw last_pieces (last_cut at)
   fields_last at (p ∷ spaced) right =

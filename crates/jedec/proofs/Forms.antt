@@ -44,11 +44,14 @@ hex_no_star [] acc sum e = refl
 hex_no_star (b ∷ digits) acc sum e = go (hex_value b) refl e (λ y. hex_no_star digits (acc * 16 + y) sum)
   where
     go : (o : Option ℕ) → hex_value b ≡ o → and_then o (λ y. digits_read 16 hex_value (acc * 16 + y) digits) ≡ some sum
-        → ((y : ℕ) → digits_read 16 hex_value (acc * 16 + y) digits ≡ some sum → all not_star digits ≡ true) → all not_star (b ∷ digits) ≡ true
+        → ((y : ℕ) → digits_read 16 hex_value (acc * 16 + y) digits ≡ some sum → all not_star digits ≡ true)
+        → all not_star (b ∷ digits) ≡ true
     go none w e step = let z : ◌≡◌ {A = ℕ} 0 1 = cc in absurd (omega arith)
     go (some y) w e step =
-        (and_iff (not_star b) (all not_star digits)).1
-        (rw (ne_eqb b star (λ same. let none_there : hex_value b ≡ none = rw same in let z : ◌≡◌ {A = ℕ} 0 1 = cc in omega arith)), step y e)
+        (and_iff (not_star b) (all not_star digits)).1 (
+          rw (ne_eqb b star (λ same. let none_there : hex_value b ≡ none = rw same in let z : ◌≡◌ {A = ℕ} 0 1 = cc in omega arith)),
+          step y e,
+        )
 
 blank_tail : (blanks : List ℕ) (at sum : ℕ) → all is_blank blanks ≡ true → tail_from at 0 sum blanks ≡ given sum
 unfolding tail_from all

@@ -102,7 +102,8 @@ states_append image fuse (suc v) w =
 
 -- The digit of a state is plain, is no blank, and is read as a state.
 state_digit : (s : ℕ) → s < 2
-    → (plain (decimal_digit s) ≡ true) × (is_blank (decimal_digit s) ≡ false) × ((eqb (decimal_digit s) 48 || eqb (decimal_digit s) 49) ≡ true)
+    → (plain (decimal_digit s) ≡ true) × (is_blank (decimal_digit s) ≡ false)
+    × ((eqb (decimal_digit s) 48 || eqb (decimal_digit s) 49) ≡ true)
 state_digit =
     each_below (λ (s : ℕ). (plain (decimal_digit s) ≡ true) × (is_blank (decimal_digit s) ≡ false)
     × ((eqb (decimal_digit s) 48 || eqb (decimal_digit s) 49) ≡ true)) 2 ((refl, refl, refl), ((refl, refl, refl), tt))
@@ -139,7 +140,8 @@ columns_read image fuse (w ∷ widths) =
     ∙ ap some (sym (states_append image fuse w (total widths)))
 
 -- The digits end at the first blank.
-run_ends : (digits rest : List ℕ) → all (λ b. not (is_blank b)) digits ≡ true → unbroken rest ≡ 0 → unbroken (digits ++ rest) ≡ length digits
+run_ends : (digits rest : List ℕ) → all (λ b. not (is_blank b)) digits ≡ true → unbroken rest ≡ 0
+    → unbroken (digits ++ rest) ≡ length digits
 unfolding all unbroken
 run_ends [] rest h none_there = none_there
 run_ends (b ∷ digits) rest h none_there =

@@ -28,7 +28,8 @@ module _ (fuses : ℕ) where
       let same : some l.at ≡ some at = rw (named end l lists out) at e in
       record { before = []; found = l; behind = lists; all_lists = refl; before_in_place = tt; out_of_place = out; found_start = cc }
 
-  later : (end : ℕ) (l : Listed) (lists : List Listed) (at : ℕ) → end ≤ l.first → end_of l ≤ fuses → FirstMisplaced fuses (end_of l) lists at
+  later : (end : ℕ) (l : Listed) (lists : List Listed) (at : ℕ) → end ≤ l.first → end_of l ≤ fuses
+      → FirstMisplaced fuses (end_of l) lists at
       → FirstMisplaced fuses end (l ∷ lists) at
   unfolding last_end
   later end l lists at late fits f =

@@ -81,7 +81,8 @@ module _ (fuses : ℕ) (lists : List Listed) where
   found = (lowest_iff (λ f. not (is_given lists f)) fuses (first_not_given fuses lists)).0 refl
 
   -- A fuse of which that holds is the one that is found.
-  is_first : (fuse : ℕ) → fuse ≤ fuses → AllGiven fuse lists → (fuse < fuses → Each (Outside fuse) lists) → first_not_given fuses lists ≡ fuse
+  is_first : (fuse : ℕ) → fuse ≤ fuses → AllGiven fuse lists → (fuse < fuses → Each (Outside fuse) lists)
+      → first_not_given fuses lists ≡ fuse
   is_first fuse h given out =
       (lowest_iff (λ f. not (is_given lists f)) fuses fuse).1
       (record {

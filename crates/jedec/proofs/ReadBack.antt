@@ -72,7 +72,8 @@ lines_read q image at fuse (widths ∷ pattern) lists more positive h =
     read_line q image at fuse widths lists _ positive.0 (omega arith)
     ∙ lines_read q image (offset_after at p) (fuse + total widths) pattern (lists ++ (l ∷ [])) more positive.1 (omega arith)
     ∙ ap (λ (ls : List Listed).
-    all_fields (given_with q ls) (fields_of (form.offset_after_all (offset_after at p) (line_fields image (fuse + total widths) pattern)) more))
+    all_fields (given_with q ls)
+    (fields_of (form.offset_after_all (offset_after at p) (line_fields image (fuse + total widths) pattern)) more))
     (append_snoc lists l (lists_of (offset_after at p) image (fuse + total widths) pattern))
 
 states_length : (image : List ℕ) (fuse width : ℕ) → length (states_of image fuse width) ≡ width
@@ -87,7 +88,8 @@ states_at image fuse (suc width) zero h = ap (state image) (omega arith)
 states_at image fuse (suc width) (suc i) h = states_at image (fuse + 1) width i (omega arith) ∙ ap (state image) (omega arith)
 
 -- No line is out of place, and the lines give every fuse its state.
-lines_in_place : (fuses end at : ℕ) (image : List ℕ) (fuse : ℕ) (pattern : List (List ℕ)) → end ≤ fuse → fuse + pattern_fuses pattern ≤ fuses
+lines_in_place : (fuses end at : ℕ) (image : List ℕ) (fuse : ℕ) (pattern : List (List ℕ)) → end ≤ fuse
+    → fuse + pattern_fuses pattern ≤ fuses
     → misplaced fuses end (lists_of at image fuse pattern) ≡ none
 unfolding misplaced lists_of pattern_fuses
 lines_in_place fuses end at image fuse [] before fits = refl
@@ -196,13 +198,15 @@ module _ (fuses : ℕ) (pattern : List (List ℕ)) (image : List ℕ) (few : fus
       let sum-part = after_lf (letter_c ∷ four_hex (sum16 image)) in
       let others = line_fields image 0 pattern ++ (sum-part ∷ []) in
       let counted : Given = record { count = some q; start = none; lists = []; sum = none } in
-      read_one nothing_given 3 (letter_q ∷ letter_f ∷ count_digits fuses) (fields_of (offset_after 2 written_count) (written_start ∷ others))
+      read_one nothing_given 3 (letter_q ∷ letter_f ∷ count_digits fuses)
+      (fields_of (offset_after 2 written_count) (written_start ∷ others))
       (count fuses)
       (count_judged fuses few) refl
       ∙ read_one counted (offset_after 2 written_count + 1) (letter_f ∷ decimal_digit 0 ∷ []) (fields_of lines_at others)
       (start 0) start_judged refl
       ∙ lines_read q image lines_at 0 pattern [] (sum-part ∷ []) none-empty (omega (arith, every-fuse))
-      ∙ read_one (given_with q lists) (form.offset_after_all lines_at (line_fields image 0 pattern) + 1) (letter_c ∷ four_hex (sum16 image)) []
+      ∙ read_one (given_with q lists) (form.offset_after_all lines_at (line_fields image 0 pattern) + 1)
+      (letter_c ∷ four_hex (sum16 image)) []
       (sum (sum16 image)) (sum_judged (sum16 image) (mod-lt _ (omega arith))) refl
 
   concluded : Concluded fuses (assembled [] spaced (lf ∷ []) (four_hex written_sum) []) image (etx_at [] spaced (lf ∷ [])) written_sum gives
@@ -217,7 +221,8 @@ module _ (fuses : ℕ) (pattern : List (List ℕ)) (image : List ℕ) (few : fus
             (image_given fuses image is_image (state_given 0 lists)
             (λ f l. lines_give image 0 lines_at pattern f (omega arith) (omega (arith, every-fuse))));
         right_sum =
-            λ c e. let same : record { at = form.offset_after_all lines_at (line_fields image 0 pattern) + 1; value = sum16 image } ≡ c = cc in
+            λ c e. let same : record { at = form.offset_after_all lines_at (line_fields image 0 pattern) + 1; value = sum16 image } ≡ c =
+            cc in
             ap (λ (x : At). x.value) (sym same);
         right_transmission =
             inr

@@ -69,6 +69,7 @@ module _ (fuses : ℕ) (states : ℕ → ℕ) where
   unfolding image_with
   image_length = tabulate_length ((fuses + 7) / 8) _
 
-  pub image_at : (i : ℕ) → i < (fuses + 7) / 8 → get_or (image_with fuses states) i 0 ≡ gathered (λ bit. within fuses states (i * 8 + bit)) 8
+  pub image_at : (i : ℕ) → i < (fuses + 7) / 8
+      → get_or (image_with fuses states) i 0 ≡ gathered (λ bit. within fuses states (i * 8 + bit)) 8
   unfolding image_with
   image_at i h = tabulate_at ((fuses + 7) / 8) _ i h

@@ -48,7 +48,8 @@ lines_shifted image fuse (widths ∷ pattern) rest =
 
 -- The same bytes grouped by lines and by fields, over any digits of the count, lines and digits of the sum.
 text_shifted : (d l c p : List ℕ) → lf ∷ (l ++ (letter_c ∷ c ++ line_end ++ etx ∷ [])) ≡ p ++ (lf ∷ (letter_c ∷ c ++ line_end ++ etx ∷ []))
-    → (stx ∷ line_end ++ letter_q ∷ letter_f ∷ d ++ line_end ++ letter_f ∷ decimal_digit 0 ∷ line_end) ++ l ++ (letter_c ∷ c ++ line_end ++ etx ∷ [])
+    → (stx ∷ line_end ++ letter_q ∷ letter_f ∷ d ++ line_end ++ letter_f ∷ decimal_digit 0 ∷ line_end) ++ l
+    ++ (letter_c ∷ c ++ line_end ++ etx ∷ [])
     ≡ (stx ∷ [])
     ++ (star ∷ (((lf ∷ []) ++ (letter_q ∷ letter_f ∷ d) ++ star
     ∷ ((lf ∷ []) ++ (letter_f ∷ decimal_digit 0 ∷ []) ++ star ∷ (p ++ ((lf ∷ []) ++ (letter_c ∷ c) ++ star ∷ [])))) ++ (lf ∷ [])))
@@ -78,7 +79,8 @@ upto_assembled fuses pattern image =
     (lines_shifted image 0 pattern (foot_text (sum16 image))))
 
 -- Each field holds what a field may hold.
-after_lf_right : (b : ℕ) (bytes : List ℕ) → all plain (b ∷ bytes) ≡ true → form.starts (b ∷ bytes) ≡ true → RightField (after_lf (b ∷ bytes))
+after_lf_right : (b : ℕ) (bytes : List ℕ) → all plain (b ∷ bytes) ≡ true → form.starts (b ∷ bytes) ≡ true
+    → RightField (after_lf (b ∷ bytes))
 unfolding after_lf all
 after_lf_right b bytes h s = record { blank = refl; no_star = plain_no_star (b ∷ bytes) h; begins = s }
 

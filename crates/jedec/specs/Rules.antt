@@ -127,7 +127,8 @@ abbrev pub within : (fuses : ℕ) → (ℕ → ℕ) → ℕ → ℕ
 within fuses states fuse = cond (ltb fuse fuses) (states fuse) 0
 
 unfoldable pub image_with : (fuses : ℕ) → (ℕ → ℕ) → List ℕ
-image_with fuses states = tabulate ((fuses + 7) / 8) (λ index. gathered (λ bit. within fuses states (index * 8 + bit)) 8)
+image_with fuses states =
+    tabulate ((fuses + 7) / 8) (λ index. gathered (λ bit. within fuses states (index * 8 + bit)) 8)
 
 abbrev pub finished : (fuses : ℕ) → Given → List ℕ
 finished fuses k = image_with fuses (state_given (start_state k.start) k.lists)

@@ -40,7 +40,8 @@ NoneEmpty (widths ∷ pattern) = (0 < total widths) × NoneEmpty pattern
 -- Before the lines: "STX, `*`, LF; `QF`, the count, `*`, LF; `F0*`, LF". After them: "`C`, four upper-case digits, `*`,
 -- LF; ETX".
 abbrev pub head_text : (fuses : ℕ) → List ℕ
-head_text fuses = stx ∷ line_end ++ letter_q ∷ letter_f ∷ count_digits fuses ++ line_end ++ letter_f ∷ decimal_digit 0 ∷ line_end
+head_text fuses =
+    stx ∷ line_end ++ letter_q ∷ letter_f ∷ count_digits fuses ++ line_end ++ letter_f ∷ decimal_digit 0 ∷ line_end
 
 abbrev pub foot_text : (sum : ℕ) → List ℕ
 foot_text sum = letter_c ∷ four_hex sum ++ line_end ++ etx ∷ []

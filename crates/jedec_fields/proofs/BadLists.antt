@@ -38,7 +38,8 @@ unbroken_past (d ∷ a) t x v e = go (decimal_value d) refl e (λ y f. unbroken_
 
 -- What a list says is told by what stands behind its first digits.
 module _ (a : List ℕ) (v : ℕ) (e : digits_read 10 decimal_value 0 a ≡ some v) where
-  list_past : (t : List ℕ) → list_in (a ++ t) ≡ or_bad (number_in (a ++ take (unbroken t) t)) (states_from (states_in (drop (unbroken t) t)))
+  list_past : (t : List ℕ)
+      → list_in (a ++ t) ≡ or_bad (number_in (a ++ take (unbroken t) t)) (states_from (states_in (drop (unbroken t) t)))
   unfolding list_in
   list_past t = rw (unbroken_past a t 0 v e, take-append-add a t (unbroken t), drop-append-add a t (unbroken t))
 

@@ -76,7 +76,8 @@ unfolding blanks_before
 blanks_skipped at [] = rw (add-zero at)
 blanks_skipped at (b ∷ bytes) = go (is_blank b) refl (blanks_skipped (at + 1) bytes)
   where
-    go : (t : Bool) → is_blank b ≡ t → fields_at (at + 1) bytes ≡ fields_at (at + 1 + blanks_before bytes) (drop (blanks_before bytes) bytes)
+    go : (t : Bool) → is_blank b ≡ t
+        → fields_at (at + 1) bytes ≡ fields_at (at + 1 + blanks_before bytes) (drop (blanks_before bytes) bytes)
         → fields_at at (b ∷ bytes) ≡ fields_at (at + blanks_before (b ∷ bytes)) (drop (blanks_before (b ∷ bytes)) (b ∷ bytes))
     go true e shorter =
         let f : at + suc (blanks_before bytes) ≡ at + 1 + blanks_before bytes = omega arith in

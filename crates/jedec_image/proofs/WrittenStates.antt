@@ -83,6 +83,7 @@ written_bits (b ∷ bytes) w k = go (is_blank b) refl (written_bits bytes)
     in_list states small h zero = h
     in_list states small h (suc j) = small j
 
-    go : (t : Bool) → is_blank b ≡ t → (WritesStates bytes → (j : ℕ) → get_or (states_of bytes) j 0 < 2) → get_or (states_of (b ∷ bytes)) k 0 < 2
+    go : (t : Bool) → is_blank b ≡ t → (WritesStates bytes → (j : ℕ) → get_or (states_of bytes) j 0 < 2)
+        → get_or (states_of (b ∷ bytes)) k 0 < 2
     go true e ih = let p = after_blank b bytes w e in rw p.0 (ih p.1 k)
     go false e ih = let p = after_state b bytes w e in rw p.first (in_list (states_of bytes) (ih p.rest) p.bit k)

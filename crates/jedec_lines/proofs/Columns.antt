@@ -102,11 +102,13 @@ wide_column out one two at width word r h e e1 e2 =
     record {
       more = bits_text (8 - width) (x / 2 ^ width);
       few = omega (arith, bits_length (8 - width) (x / 2 ^ width));
-      holds = e2 ∙ rw (e1, blank, bytes, add-one at) (ap (λ (l : List ℕ). sets out at (space ∷ l)) (column_of_lem width 8 word (omega arith)));
+      holds = e2 ∙ rw (e1, blank, bytes, add-one at)
+          (ap (λ (l : List ℕ). sets out at (space ∷ l)) (column_of_lem width 8 word (omega arith)));
     }
 
 pub narrow_column : (out two : List ℕ) (at width word r : ℕ) → 6 ≤ width → width ≤ 8 → (width ≡ 8 → ⊥)
-    → r ≡ number (space ∷ bits_text 7 (word % 2 ^ 7)) → two ≡ sets out at (cut (replicate 8 8) r) → Stored out two at (column_text width word)
+    → r ≡ number (space ∷ bits_text 7 (word % 2 ^ 7)) → two ≡ sets out at (cut (replicate 8 8) r)
+    → Stored out two at (column_text width word)
 narrow_column out two at width word r h g n e e2 =
     let x = word % 2 ^ 7 in
     let long : length (space ∷ bits_text 7 x) ≡ 8 = ap suc (bits_length 7 x) in

@@ -56,7 +56,8 @@ module _ (bytes : List ℕ) (at : ℕ) where
     pub one_state : (eqb (get_or bytes at 0) 48 || eqb (get_or bytes at 0) 49) ≡ true → StatesAt bytes at 1
     unfolding AllStates
     one_state s =
-        let first : get_or (drop at bytes) 0 0 ≡ get_or bytes at 0 = get_or-drop at bytes 0 0 ∙ ap (λ (n : ℕ). get_or bytes n 0) (add-zero at) in
+        let first : get_or (drop at bytes) 0 0 ≡ get_or bytes at 0 =
+        get_or-drop at bytes 0 0 ∙ ap (λ (n : ℕ). get_or bytes n 0) (add-zero at) in
         let half : get_or bytes at 0 / 2 ≡ 24 = state_half (get_or bytes at 0) s in
         record {
           inside = omega arith;

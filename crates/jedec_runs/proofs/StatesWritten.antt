@@ -24,7 +24,8 @@ states_both [] c = go (states_in c)
     go none = refl
     go (some ys) = refl
 states_both (b ∷ a) c =
-    ap (λ (o : Option (List ℕ)). cond (is_blank b) o (cond (eqb b 48 || eqb b 49) (and_then o (with_first (b - 48))) none)) (states_both a c)
+    ap (λ (o : Option (List ℕ)). cond (is_blank b) o (cond (eqb b 48 || eqb b 49) (and_then o (with_first (b - 48))) none))
+    (states_both a c)
     ∙ go (is_blank b) (eqb b 48 || eqb b 49) (states_in a) (states_in c)
   where
     go : (t s : Bool) (o p : Option (List ℕ)) → cond t (both o p) (cond s (and_then (both o p) (with_first (b - 48))) none)

@@ -42,7 +42,8 @@ wire_and_lines : row_lines WireAnd ≡ (8 ∷ 7 ∷ 7 ∷ 7 ∷ 7 ∷ []) ∷ []
 unfolding row_lines tabulate
 wire_and_lines = refl
 
-pub main_size : (area : Area) → area ≡ Main → (pattern_fuses (row_lines area) ≡ main_row_fuses) × (lines_bytes (row_lines area) ≡ main_row_text)
+pub main_size : (area : Area) → area ≡ Main
+    → (pattern_fuses (row_lines area) ≡ main_row_fuses) × (lines_bytes (row_lines area) ≡ main_row_text)
 unfolding row_lines tabulate pattern_fuses lines_bytes total
 main_size area e = rw e (refl, refl)
 
@@ -52,14 +53,16 @@ unfolding row_lines tabulate pattern_fuses lines_bytes total
 wire_and_size area e = rw e (refl, refl)
 
 -- The main rows of a block, and the whole block, have the fuses and bytes of the geometry.
-main_rows_lem : (pattern_fuses (repeat main_rows (row_lines Main)) ≡ main_fuses) × (lines_bytes (repeat main_rows (row_lines Main)) ≡ main_text)
+main_rows_lem : (pattern_fuses (repeat main_rows (row_lines Main)) ≡ main_fuses)
+    × (lines_bytes (repeat main_rows (row_lines Main)) ≡ main_text)
 main_rows_lem = (
   fuses_repeat main_rows (row_lines Main) ∙ ap (λ (k : ℕ). main_rows * k) (main_size Main refl).0,
   bytes_repeat main_rows (row_lines Main) ∙ ap (λ (k : ℕ). main_rows * k) (main_size Main refl).1,
 )
 
 pub block_size : (d : Device)
-    → (pattern_fuses (block_lines d) ≡ in_block d main_fuses subarea_fuses) × (lines_bytes (block_lines d) ≡ in_block d main_text subarea_text)
+    → (pattern_fuses (block_lines d) ≡ in_block d main_fuses subarea_fuses)
+    × (lines_bytes (block_lines d) ≡ in_block d main_text subarea_text)
 unfolding block_lines
 block_size d =
     let w = wire_and_size WireAnd refl in
@@ -70,7 +73,8 @@ block_size d =
       rw (bytes_append rows (repeat more row), main_rows_lem.1, bytes_repeat more row, w.1) (omega arith),
     )
 
-pub block_small : (d : Device) → known d ≡ true → (in_block d main_fuses subarea_fuses ≤ 65535) × (in_block d main_text subarea_text ≤ 65535)
+pub block_small : (d : Device) → known d ≡ true
+    → (in_block d main_fuses subarea_fuses ≤ 65535) × (in_block d main_text subarea_text ≤ 65535)
 block_small d k = omega (arith, blocks_small d k)
 
 -- A device has as many fuses and bytes of lines as its blocks together.

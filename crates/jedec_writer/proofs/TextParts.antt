@@ -59,9 +59,11 @@ pub head_of : (d : Device) (out one two three : List ℕ) (digits count seven : 
 head_of d out one two three digits count seven k ed ec e1 es e2 e3 =
     let x = fuse_count d in
     let middle : cut (replicate digits 8) (seven / 2 ^ (64 - digits * 8)) ≡ count_digits x = rw (es, ec, ed) (count_cut d k) in
-    three_parts out one two three (stx ∷ line_end ++ letter_q ∷ letter_f ∷ []) (count_digits x) (line_end ++ letter_f ∷ decimal_digit 0 ∷ line_end)
+    three_parts out one two three (stx ∷ line_end ++ letter_q ∷ letter_f ∷ []) (count_digits x)
+    (line_end ++ letter_f ∷ decimal_digit 0 ∷ line_end)
     0 5 (5 + digits) (rw before_count at e1) (rw middle at e2) (rw after_count at e3) refl (rw (count_length x) (omega arith))
-    ∙ ap (sets out 0) (sym (append_assoc (stx ∷ line_end ++ letter_q ∷ letter_f ∷ count_digits x) line_end (letter_f ∷ decimal_digit 0 ∷ line_end)))
+    ∙ ap (sets out 0)
+    (sym (append_assoc (stx ∷ line_end ++ letter_q ∷ letter_f ∷ count_digits x) line_end (letter_f ∷ decimal_digit 0 ∷ line_end)))
 
 pub foot_of : (out one two three : List ℕ) (at sum four : ℕ) → one ≡ sets out at (cut (replicate 1 8) 0x43) → four ≡ number (four_hex sum)
     → two ≡ sets one (at + 1) (cut (replicate 4 8) four) → three ≡ sets two (at + 5) (cut (replicate 3 8) 0x030A2A)

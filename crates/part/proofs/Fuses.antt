@@ -46,7 +46,8 @@ at_fuse d fuse h =
     (λ column bit hc hb e. (simp tests (omega arith), omega arith)))
 
 -- What stands at `rest` of a block.
-in_block_lem : (d : Device) (block rest : ℕ) → rest < block_fuses d → place_of_fuse d (block * block_fuses d + rest) ≡ place_in_block block rest
+in_block_lem : (d : Device) (block rest : ℕ) → rest < block_fuses d
+    → place_of_fuse d (block * block_fuses d + rest) ≡ place_in_block block rest
 unfolding place_of_fuse
 in_block_lem d block rest h = rw (digits_div block h, digits_mod block h)
 

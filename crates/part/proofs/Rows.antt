@@ -62,7 +62,8 @@ module _ (wide narrow more : ℕ) (positive : 0 < narrow) where
       → (column_in_row wide narrow (column_start wide narrow column + bit) ≡ column)
       × (bit_in_row wide narrow (column_start wide narrow column + bit) ≡ bit)
   join_row column bit =
-      by_column wide narrow (λ w s. bit < w → (column_in_row wide narrow (s + bit) ≡ column) × (bit_in_row wide narrow (s + bit) ≡ bit)) column
+      by_column wide narrow (λ w s. bit < w → (column_in_row wide narrow (s + bit) ≡ column) × (bit_in_row wide narrow (s + bit) ≡ bit))
+      column
       (λ l b.
       let less : ltb (column * 8 + bit) (wide * 8) ≡ true = lt-ltb (column * 8 + bit) (wide * 8) (omega arith) in
       rw less (digits_div column b, digits_mod column b))

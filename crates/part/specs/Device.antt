@@ -115,7 +115,8 @@ line_bytes columns bits = 1 + 7 + columns + bits + 2
 -- Per main row 40, 38 and 30 bits, of five columns each; per wire-AND row 36.
 abbrev pub main_row_text : ℕ
 main_row_text =
-    line_bytes 5 (main_start 5) + line_bytes 5 (main_start 10 - main_start 5) + line_bytes 5 (main_start 15 - main_start 10)
+    line_bytes 5 (main_start 5) + line_bytes 5 (main_start 10 - main_start 5)
+    + line_bytes 5 (main_start 15 - main_start 10)
 
 abbrev pub wire_and_row_text : ℕ
 wire_and_row_text = line_bytes wire_and_columns wire_and_row_fuses

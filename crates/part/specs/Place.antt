@@ -28,7 +28,8 @@ has_place d p = has_byte d p.byte && ltb p.bit (width_of p.byte)
 abbrev pub first_fuse : Device → BytePlace → ℕ
 first_fuse d (Main block row column) = block * block_fuses d + (row * main_row_fuses + main_start column)
 first_fuse d (WireAnd block subarea row column) =
-    block * block_fuses d + (main_fuses + (subarea * subarea_fuses + (row * wire_and_row_fuses + wire_and_start column)))
+    block * block_fuses d
+    + (main_fuses + (subarea * subarea_fuses + (row * wire_and_row_fuses + wire_and_start column)))
 
 -- The fuses before a bit of a byte.
 abbrev pub fuse_of_place : Device → Place → ℕ
@@ -60,7 +61,8 @@ place_in_wire_and block rest =
     }
 
 abbrev pub place_in_block : ℕ → ℕ → Place
-place_in_block block rest = cond (ltb rest main_fuses) (place_in_main block rest) (place_in_wire_and block (rest - main_fuses))
+place_in_block block rest =
+    cond (ltb rest main_fuses) (place_in_main block rest) (place_in_wire_and block (rest - main_fuses))
 
 -- The block.
 unfoldable pub place_of_fuse : Device → ℕ → Place

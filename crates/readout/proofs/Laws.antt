@@ -58,7 +58,8 @@ kept_at_address d k fuse h =
 
 -- In an image's readout, each bit b within a byte's width is the state of the fuse with that byte's address and bit b.
 pub readout_bit : (d : Device) (image : List ℕ) (index bit fuse : ℕ) → index < readout_bytes d
-    → fuse_of_address d (address_of_byte (byte_of_index d index)) bit ≡ accepted fuse → bit_at (readout_of d image) index bit ≡ state image fuse
+    → fuse_of_address d (address_of_byte (byte_of_index d index)) bit ≡ accepted fuse
+    → bit_at (readout_of d image) index bit ≡ state image fuse
 unfolding readout_of has_place
 readout_bit d image index bit fuse h e =
     let s = (fuse_of_address_iff d fuse (address_of_byte (byte_of_index d index)) bit).0 e in

@@ -69,7 +69,8 @@ wire_and_row_small cells x e = rw e (join_small (row_widths WireAnd) cells)
 -- Two rows of the wire-AND area.
 pub wire_and_rows_lem : (readout o0 o1 o2 : List ℕ) (at byte one two top : ℕ)
     → one ≡ join (row_widths WireAnd) (drop at readout) → two ≡ join (row_widths WireAnd) (drop (at + wire_and_columns) readout)
-    → top ≡ (two * 2 ^ wire_and_row_fuses + one) / 2 ^ (8 * 8) → o1 ≡ sets o0 byte (cut (replicate 8 8) (two * 2 ^ wire_and_row_fuses + one))
+    → top ≡ (two * 2 ^ wire_and_row_fuses + one) / 2 ^ (8 * 8)
+    → o1 ≡ sets o0 byte (cut (replicate 8 8) (two * 2 ^ wire_and_row_fuses + one))
     → o2 ≡ sets o1 (byte + 8) (cut (replicate 1 8) top)
     → o2 ≡ sets o0 byte (bytes_in (pair_widths WireAnd) (drop at readout))
 unfolding row_widths pair_widths whole_bytes bytes_in total
@@ -78,7 +79,8 @@ wire_and_rows_lem readout o0 o1 o2 at byte one two top e1 e2 e3 e4 e5 =
     let cells = drop at readout in
     let x = two * 2 ^ wire_and_row_fuses + one in
     let all : join (ws ++ ws) cells ≡ x =
-    join_append ws ws cells ∙ ap (λ (l : List ℕ). join ws cells + join ws l * 2 ^ wire_and_row_fuses) (drop-drop wire_and_columns at readout)
+    join_append ws ws cells
+    ∙ ap (λ (l : List ℕ). join ws cells + join ws l * 2 ^ wire_and_row_fuses) (drop-drop wire_and_columns at readout)
     ∙ ap₂ (λ (y z : ℕ). y + z * 2 ^ wire_and_row_fuses) (sym e1) (sym e2) ∙ add_comm one (two * 2 ^ wire_and_row_fuses) in
     e5
     ∙ ap₂ (λ (l : List ℕ) (y : ℕ). sets l (byte + 8) (cut (replicate 1 8) y)) e4 e3

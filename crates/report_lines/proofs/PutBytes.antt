@@ -77,7 +77,8 @@ pub number_short : (out middle word : List ℕ) (x at behind digits : ℕ) → P
     → behind + digits ≤ at + length word + 7
 number_short out middle word x at behind digits p e = omega (arith, p.ends, digits_small x, e)
 
-pub word_number : (before middle after word : List ℕ) (x at behind digits : ℕ) → Put before middle at word behind → digits ≡ decimal_digits x
+pub word_number : (before middle after word : List ℕ) (x at behind digits : ℕ) → Put before middle at word behind
+    → digits ≡ decimal_digits x
     → after ≡ sets middle behind (digits_of 10 decimal_digit digits x) → Put before after at (word ++ count_digits x) (behind + digits)
 word_number before middle after word x at behind digits p e f =
     then before middle after word (count_digits x) at behind (behind + digits) p

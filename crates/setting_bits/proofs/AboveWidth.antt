@@ -91,7 +91,8 @@ module _ (d : Device) (k : known d ≡ true) (s : Setting) (h : has_setting d s 
   -- Of a setting of one bit, its byte is looked at.
   pub single_above : bits_of s ≡ 1 → (readout : List ℕ) (p : Place) → p ≡ place_of s 0 → (index w above : ℕ)
       → index ≡ byte_of d Readout (fuse_of d s 0)
-      → w ≡ width_of p.byte → above ≡ get_or readout index 0 / 2 ^ w → above_of d readout s ≡ cond (not (eqb above 0)) index (readout_bytes d)
+      → w ≡ width_of p.byte → above ≡ get_or readout index 0 / 2 ^ w
+      → above_of d readout s ≡ cond (not (eqb above 0)) index (readout_bytes d)
   unfolding above_among
   single_above one readout p e index w above i v a =
       let there : 0 < bits_of s = omega arith in

@@ -49,7 +49,8 @@ one_fuse d Readout f g hf hg e b = sym (lying d f hf).same_fuse ∙ ap₂ (fuse_
 listed : (d : Device) (t : Setting) → has_setting d t ≡ true → (b : ℕ) → b < bits_of t → lists d t b ≡ true
 listed d t h b l = (and_iff (has_setting d t) (ltb b (bits_of t))).1 (h, lt-ltb b (bits_of t) l)
 
-pub fuse_below : (d : Device) → known d ≡ true → (t : Setting) → has_setting d t ≡ true → (b : ℕ) → b < bits_of t → fuse_of d t b < fuse_count d
+pub fuse_below : (d : Device) → known d ≡ true → (t : Setting) → has_setting d t ≡ true → (b : ℕ) → b < bits_of t
+    → fuse_of d t b < fuse_count d
 fuse_below d k t h b l = (places.left_inverse d k).below t b (listed d t h b l)
 
 -- And each setting has one at least.
@@ -75,7 +76,8 @@ some_fuse d t h = rw (← kind_bits d t h) (some_bit (kind_of d t))
 
 -- Bits put one after the other, as the definition has it.
 as_put : (d : Device) (layout : Layout) (bytes : List ℕ) (s : Setting) (pattern w : ℕ)
-    → with_bits d layout bytes s pattern w ≡ put (λ b. byte_of d layout (fuse_of d s b)) (λ b. bit_in d layout (fuse_of d s b)) pattern bytes w
+    → with_bits d layout bytes s pattern w
+    ≡ put (λ b. byte_of d layout (fuse_of d s b)) (λ b. bit_in d layout (fuse_of d s b)) pattern bytes w
 unfolding with_bits put
 as_put d layout bytes s pattern zero = refl
 as_put d layout bytes s pattern (suc w) = rw (as_put d layout bytes s pattern w)
@@ -110,7 +112,8 @@ module _ (d : Device) (k : known d ≡ true) (layout : Layout) (bytes : List ℕ
   set_length = rw is_put (put_length at its pattern bytes (bits_of s) there)
 
   -- Every bit of every byte that is none of the setting's stands as before.
-  pub set_others : (i j : ℕ) → ((b : ℕ) → b < bits_of s → (i ≡ byte_of d layout (fuse_of d s b)) × (j ≡ bit_in d layout (fuse_of d s b)) → ⊥)
+  pub set_others : (i j : ℕ)
+      → ((b : ℕ) → b < bits_of s → (i ≡ byte_of d layout (fuse_of d s b)) × (j ≡ bit_in d layout (fuse_of d s b)) → ⊥)
       → bit_at (with_pattern d layout bytes s pattern) i j ≡ bit_at bytes i j
   unfolding changed at its
   set_others i j apart = rw is_put (put_other at its pattern bytes (bits_of s) there (bits_of s) (omega arith) i j apart)
@@ -197,7 +200,8 @@ with_kept bytes index b st bound there bit within i own = at_or (ℕ_discrete i 
 module _ (d : Device) (k : known d ≡ true) (layout : Layout) (bytes : List ℕ) (e : length bytes ≡ bytes_of d layout)
     (s : Setting) (h : has_setting d s ≡ true) (pattern : ℕ) (bound : ℕ → ℕ)
     (within : (b : ℕ) → b < bits_of s → bit_in d layout (fuse_of d s b) < bound (byte_of d layout (fuse_of d s b))) where
-  bits_kept : (w : ℕ) → w ≤ bits_of s → (i : ℕ) → get_or bytes i 0 < 2 ^ bound i → get_or (with_bits d layout bytes s pattern w) i 0 < 2 ^ bound i
+  bits_kept : (w : ℕ) → w ≤ bits_of s → (i : ℕ) → get_or bytes i 0 < 2 ^ bound i
+      → get_or (with_bits d layout bytes s pattern w) i 0 < 2 ^ bound i
   unfolding with_bits
   bits_kept zero l i own = own
   bits_kept (suc w) l i own =
@@ -217,7 +221,8 @@ pub set_small : (d : Device) → known d ≡ true → (image : List ℕ) → len
 set_small d k image e s h pattern = set_kept d k Image image e s h pattern (λ i. 8) (λ b l. omega arith)
 
 -- A readout byte without a bit above its width stays one.
-pub set_clean : (d : Device) → known d ≡ true → (readout : List ℕ) → length readout ≡ readout_bytes d → (s : Setting) → has_setting d s ≡ true
+pub set_clean : (d : Device) → known d ≡ true → (readout : List ℕ) → length readout ≡ readout_bytes d → (s : Setting)
+    → has_setting d s ≡ true
     → (pattern i : ℕ) → get_or readout i 0 < 2 ^ width_at d i → get_or (with_pattern d Readout readout s pattern) i 0 < 2 ^ width_at d i
 set_clean d k readout e s h pattern =
     set_kept d k Readout readout e s h pattern (width_at d) (λ b l. (lying d (fuse_of d s b) (fuse_below d k s h b l)).bit_below)
@@ -229,5 +234,6 @@ pub clean_through : (d : Device) (readout : List ℕ) (s : Setting) (w : ℕ)
 unfolding above_among above_at
 clean_through d readout s zero clean = refl
 clean_through d readout s (suc w) clean =
-    rw (lt-leb (2 ^ width_at d (byte_of d Readout (fuse_of d s w))) (get_or readout (byte_of d Readout (fuse_of d s w)) 0) (clean w (omega arith)))
+    rw (lt-leb (2 ^ width_at d (byte_of d Readout (fuse_of d s w))) (get_or readout (byte_of d Readout (fuse_of d s w)) 0)
+    (clean w (omega arith)))
     (clean_through d readout s w (λ b l. clean b (omega arith)))

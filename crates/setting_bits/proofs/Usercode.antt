@@ -181,7 +181,8 @@ module _ (d : Device) (k : known d ≡ true) (h : has_setting d usercode ≡ tru
 
       -- A pair put in place.
       pub pair_put : (bytes after : List ℕ) (pattern : ℕ)
-          → after ≡ with_bit (with_bit bytes index bit (pattern / 2 ^ (2 * pair) % 4 % 2)) index (bit + 1) (pattern / 2 ^ (2 * pair) % 4 / 2)
+          → after ≡ with_bit (with_bit bytes index bit (pattern / 2 ^ (2 * pair) % 4 % 2)) index (bit + 1)
+          (pattern / 2 ^ (2 * pair) % 4 / 2)
           → after ≡ both_states d layout bytes pattern pair
       pair_put bytes after pattern g =
           let lower : pattern / 2 ^ (2 * pair) % 4 % 2 ≡ bit_of pattern (2 * pair) = omega arith in

@@ -70,7 +70,15 @@ pub converted : (d : Device) (s : Setting) (bit : ℕ) → known d ≡ true → 
 unfolding fuse_of address_of
 converted d s bit k h hb =
     (address_of_fuse_iff d _ _ _).1
-    (record { device = k; place = place_of s bit; there = has_place_lem d s bit k h hb; its_fuse = refl; its_address = refl; its_bit = refl })
+    (record {
+      device = k;
+      place = place_of s bit;
+      there = has_place_lem d s bit k h hb;
+      its_fuse = refl;
+      its_address = refl;
+      its_bit =
+          refl;
+    })
 
 pub address_beside : (d : Device) (s : Setting) (bit fuse address bitThere : ℕ)
     → (located_bit d s bit ≡ accepted (some (fuse, (address, bitThere))))

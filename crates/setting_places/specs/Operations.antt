@@ -19,7 +19,8 @@ fuse_of_bit d s bit = if_setting d s (accepted (cond (ltb bit (bits_of s)) (some
 
 -- The same, with the address and the bit of the fuse beside it (document 02, K6).
 unfoldable pub located_bit : Device → Setting → ℕ → Outcome (Option LocatedFuse)
-located_bit d s bit = if_setting d s (accepted (cond (ltb bit (bits_of s)) (some (fuse_of d s bit, address_of s bit)) none))
+located_bit d s bit =
+    if_setting d s (accepted (cond (ltb bit (bits_of s)) (some (fuse_of d s bit, address_of s bit)) none))
 
 -- And by setting number.
 unfoldable pub located_by_number : Device → ℕ → ℕ → Outcome (Option LocatedFuse)

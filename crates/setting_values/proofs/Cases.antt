@@ -13,13 +13,16 @@ use Rattle.settings.specs.Cases.{two_large}
 use Rattle.setting_values.specs.Cases.{AllHold, small, large, Usercodes}
 
 pub values : AllHold two_small small
-unfolding value_of_pattern pattern_of_value known has_setting bits_of kind_of named fclk_muxes small_foe_muxes large_foe_muxes same candidate pattern_in
+unfolding value_of_pattern pattern_of_value known has_setting bits_of kind_of named fclk_muxes small_foe_muxes large_foe_muxes same
+    candidate pattern_in
 values = (refl, refl)
 
 pub values_of_large : AllHold two_large large
-unfolding value_of_pattern pattern_of_value known has_setting bits_of kind_of named fclk_muxes small_foe_muxes large_foe_muxes same candidate pattern_in
+unfolding value_of_pattern pattern_of_value known has_setting bits_of kind_of named fclk_muxes small_foe_muxes large_foe_muxes same
+    candidate pattern_in
 values_of_large = (refl, refl)
 
 pub usercodes : Usercodes
-unfolding value_of_pattern pattern_of_value known has_setting bits_of kind_of named fclk_muxes small_foe_muxes large_foe_muxes same candidate pattern_in
+unfolding value_of_pattern pattern_of_value known has_setting bits_of kind_of named fclk_muxes small_foe_muxes large_foe_muxes same
+    candidate pattern_in
 usercodes = (refl, refl, refl)

@@ -26,7 +26,8 @@ module _ (d : Device) (x a b : ℕ) (r : Setting) where
       → r ≡ in_group d wire_ands (x - a) → r ≡ setting_of d x
   among_wire_ands e f low high h = among d wire_ands x a r e low (omega arith) h
 
-  pub among_macrocells : a ≡ start d macrocell_settings → b ≡ start d block_settings → a ≤ x → x < b → r ≡ in_group d macrocell_settings (x - a)
+  pub among_macrocells : a ≡ start d macrocell_settings → b ≡ start d block_settings → a ≤ x → x < b
+      → r ≡ in_group d macrocell_settings (x - a)
       → r ≡ setting_of d x
   among_macrocells e f low high h = among d macrocell_settings x a r e low (omega arith) h
 

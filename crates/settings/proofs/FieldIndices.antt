@@ -30,7 +30,8 @@ use Rattle.settings.proofs.Order.Within.{more}
 -- A known device has a block 0.
 pub block_0 : (d : Device) → known d ≡ true → 0 < blocks_of d
 block_0 d k =
-    by_count (λ n. 0 < n) (omega arith) (omega arith) (omega arith) (omega arith) (omega arith) (omega arith) (blocks_of d) (known_count d k)
+    by_count (λ n. 0 < n) (omega arith) (omega arith) (omega arith) (omega arith) (omega arith) (omega arith) (blocks_of d)
+    (known_count d k)
 
 -- A device has 2 or 4 FOE.
 pub by_class : (d : Device) (Q : ℕ → Type 0) → Q 2 → Q 4 → Q (foes d)

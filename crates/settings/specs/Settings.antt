@@ -10,7 +10,8 @@ use Rattle.settings.specs.declared.Setting.TheVariants.{Literal, WireAnd, Macroc
 
 -- Which settings there are on a device.
 unfoldable pub has_setting : Device → Setting → Bool
-has_setting d (Literal block j k l polarity) = ltb block (blocks_of d) && ltb j macrocells && ltb k terms && ltb l inputs
+has_setting d (Literal block j k l polarity) =
+    ltb block (blocks_of d) && ltb j macrocells && ltb k terms && ltb l inputs
 has_setting d (WireAnd i j k l) = ltb i (blocks_of d) && ltb j inputs && ltb k (blocks_of d) && ltb l macrocells
 has_setting d (Macrocell block m field) =
     ltb block (blocks_of d) && ltb m macrocells && ltb (macrocell_index field) macrocell_fields

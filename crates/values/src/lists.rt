@@ -181,7 +181,8 @@ fn iob_slew(pattern: u32) -> Value
 
 // A list of FCLK.MUX or FOE.MUX: 11 is NONE, and the names for 10 and 01.
 fn fclk_list(pattern: u32, v2: FclkMux, v1: FclkMux) -> Value
-    ensures { result ≡ named ((3, Value.FclkMux FclkMux.None) ∷ (2, Value.FclkMux v2) ∷ (1, Value.FclkMux v1) ∷ []) pattern }
+    ensures { result ≡ named ((3, Value.FclkMux FclkMux.None) ∷ (2, Value.FclkMux v2) ∷ (1, Value.FclkMux v1) ∷ [])
+        pattern }
 {
     if pattern == 3 {
         return Value::FclkMux(FclkMux::None);
@@ -196,7 +197,8 @@ fn fclk_list(pattern: u32, v2: FclkMux, v1: FclkMux) -> Value
 }
 
 fn foe_list(pattern: u32, v2: FoeMux, v1: FoeMux) -> Value
-    ensures { result ≡ named ((3, Value.FoeMux FoeMux.None) ∷ (2, Value.FoeMux v2) ∷ (1, Value.FoeMux v1) ∷ []) pattern }
+    ensures { result ≡ named ((3, Value.FoeMux FoeMux.None) ∷ (2, Value.FoeMux v2) ∷ (1, Value.FoeMux v1) ∷ [])
+        pattern }
 {
     if pattern == 3 {
         return Value::FoeMux(FoeMux::None);

@@ -35,7 +35,8 @@ module _ (d : Device) (text before : List ℕ) where
         (other_length (length before) (image_bytes d) (verdict (meaning (fuse_count d) text)) x e h ∙ sym (the_device d _ k))
 
     a_text : (fuses : ℕ) (answer : Outcome (Unit {0})) (after : List ℕ) → known d ≡ true → length before ≡ x → fuses ≡ fuse_count d
-        → ReadInto (meaning fuses text) answer before after → Written (to_image_from_text d text before) answer (image_in d text) before after
+        → ReadInto (meaning fuses text) answer before after
+        → Written (to_image_from_text d text before) answer (image_in d text) before after
     unfolding to_image_from_text image_in
     a_text fuses answer after k h f r =
         let read : ReadInto (meaning (fuse_count d) text) answer before after = rw f at r in

@@ -46,7 +46,8 @@ module _ (d : Device) (readout before : List ℕ) where
 
   no_device : known d ≡ false → At (refused 1 0) before
   unfolding to_image
-  no_device = unknown d (length readout) (readout_bytes d) (length before) (image_bytes d) (after_scan d readout) (image_of d readout) before
+  no_device = unknown d (length readout) (readout_bytes d) (length before) (image_bytes d) (after_scan d readout) (image_of d readout)
+      before
 
   module _ (k : known d ≡ true) (x : ℕ) (ex : x ≡ readout_bytes d) where
     first_length : (length readout ≡ x → ⊥) → At (refused 2 0) before

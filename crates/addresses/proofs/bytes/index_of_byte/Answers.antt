@@ -19,7 +19,8 @@ module _ (d : Device) (byte : BytePlace) where
   unfolding readout_bytes
   small x k h e = (e, omega (arith, (of_byte d byte h).0, in_device_small d 1080 90 k))
 
-  in_main_lem : (block row column each : ℕ) → known d ≡ true → has_byte d byte ≡ true → byte ≡ Main block row column → each ≡ in_block d 1080 90
+  in_main_lem : (block row column each : ℕ) → known d ≡ true → has_byte d byte ≡ true → byte ≡ Main block row column
+      → each ≡ in_block d 1080 90
       → (block * each + (row * 15 + column) ≡ index_of_byte d byte) × (block * each + (row * 15 + column) ≤ 40320)
   in_main_lem block row column each k h e g = small _ k h (rw (e, g))
 

@@ -10,7 +10,8 @@ use Rattle.cells.proofs.words.put_cells.Given as goal
 abbrev pub invariant-loop-i : goal.invariant-loop-i
 invariant-loop-i l =
     (l.i ≤ l.count) × (length l.out ≡ length l.initial.out)
-    × (sets l.out (l.at + l.i) (cut (replicate (l.count - l.i) l.width) l.rest) ≡ sets l.initial.out l.at (cut (replicate l.count l.width) l.word))
+    × (sets l.out (l.at + l.i) (cut (replicate (l.count - l.i) l.width) l.rest)
+    ≡ sets l.initial.out l.at (cut (replicate l.count l.width) l.word))
 
 abbrev pub decreases-loop-i : goal.decreases-loop-i
 decreases-loop-i l = l.count - l.i

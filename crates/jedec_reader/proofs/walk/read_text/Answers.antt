@@ -78,7 +78,8 @@ module _ (fuses : ℕ) (text image : List ℕ) (l : length text ≤ longest) (n 
     a_mark v = refused_reads _ 7 1 image (after_stx fuses text l n h ∙ rw (cut.ended, marked, v))
 
     then_fields : (answer : Outcome (Unit {0})) → t ≡ false
-        → TextRead (of_cut fuses text (fields_at (star + 1) (drop (star + 1) text))) answer image → TextRead (meaning fuses text) answer image
+        → TextRead (of_cut fuses text (fields_at (star + 1) (drop (star + 1) text))) answer image
+        → TextRead (meaning fuses text) answer image
     unfolding fields_at
     then_fields answer v r =
         let whole : meaning fuses text ≡ of_cut fuses text (fields_at (star + 1) (drop (star + 1) text)) =

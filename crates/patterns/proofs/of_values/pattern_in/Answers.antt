@@ -12,7 +12,8 @@ use Rattle.values.specs.declared.Value.{Value}
 use Rattle.values.specs.declared.Kind.{Kind}
 use Rattle.patterns.proofs.of_values.pattern_in.Goals as goal
 
-module _ (k : Kind) (v : Value) (p : ℕ) (w : Value) (bits : ℕ) (fits matches : Bool) (e : p ≡ candidate (value_in k) v) (f : w ≡ value_in k p)
+module _ (k : Kind) (v : Value) (p : ℕ) (w : Value) (bits : ℕ) (fits matches : Bool) (e : p ≡ candidate (value_in k) v)
+    (f : w ≡ value_in k p)
     (b : bits ≡ bits_in k) (g : fits ≡ ltb p (2 ^ bits)) (s : matches ≡ same w v) where
   taken : (fits && matches) ≡ true → some p ≡ pattern_in k v
   unfolding pattern_in

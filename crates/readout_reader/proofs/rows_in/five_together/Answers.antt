@@ -54,7 +54,8 @@ unfolding packed narrow row_widths
 returns c =
     let w = c.args.word in
     let below : (x : ℕ) → x % 2 ^ 7 < 2 ^ 7 = λ x. mod-lt x (pow_pos 7) in
-    joined (bit_and w 0x7F7F7F7FFF - bit_and w 0x7F007F0000 / 2 ^ 1) (past w 0 % 2 ^ 8 + past w 1 % 2 ^ 7 * 2 ^ 8 + past w 2 % 2 ^ 7 * 2 ^ 15)
+    joined (bit_and w 0x7F7F7F7FFF - bit_and w 0x7F007F0000 / 2 ^ 1)
+    (past w 0 % 2 ^ 8 + past w 1 % 2 ^ 7 * 2 ^ 8 + past w 2 % 2 ^ 7 * 2 ^ 15)
     (past w 3 % 2 ^ 7 + past w 4 % 2 ^ 7 * 2 ^ 7)
     (small (past w 0 % 2 ^ 8) (past w 1 % 2 ^ 7) (past w 2 % 2 ^ 7) (mod-lt w (pow_pos 8)) (below (past w 1)) (below (past w 2)))
     (of_word w).1
