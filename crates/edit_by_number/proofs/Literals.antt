@@ -38,7 +38,8 @@ use Rattle.edit_by_number.proofs.Asked.{PatternGives, reads_above, reads_clean, 
 -- A bit above the width of the byte of a setting of one bit, in a readout.
 above_of_one : (d : Device) (layout : Layout) (bytes : List ℕ) (s : Setting) → known d ≡ true → has_setting d s ≡ true → bits_of s ≡ 1
     → (p : Place) → p ≡ place_of s 0 → (index w above : ℕ) → index ≡ byte_of d layout (fuse_of d s 0) → w ≡ width_of p.byte
-    → above ≡ get_or bytes index 0 / 2 ^ w → above_in d layout bytes s ≡ cond (is_readout layout && not (eqb above 0)) index (bytes_of d layout)
+    → above ≡ get_or bytes index 0 / 2 ^ w
+    → above_in d layout bytes s ≡ cond (is_readout layout && not (eqb above 0)) index (bytes_of d layout)
 unfolding above_in
 above_of_one d Image bytes s k h one p e index w above i v a = refl
 above_of_one d Readout bytes s k h one p e index w above i v a = single_above d k s h one bytes p e index w above i v a

@@ -38,18 +38,19 @@ clean d Readout bytes k n small =
 
 module _ (d : Device) (layout : Layout) (bytes : List ℕ) (x count size last : ℕ) (k : known d ≡ true) (e : size ≡ bytes_of d layout)
     (m : length bytes ≡ size)
-    (f : count ≡ count_of d) (l : x < count) (g : last ≡ number_of d usercode) (q : x ≡ last) (small : (i : ℕ) → get_or bytes i 0 < 2 ^ 8) where
-  its : usercode ≡ setting_of d x
-  its = sym (ap (setting_of d) (q ∙ g) ∙ setting_inverse d usercode (has_usercode d))
+    (f : count ≡ count_of d) (l : x < count) (g : last ≡ number_of d usercode) (q : x ≡ last) (small : (i : ℕ) → get_or bytes i 0 < 2 ^ 8)
+  where
+    its : usercode ≡ setting_of d x
+    its = sym (ap (setting_of d) (q ∙ g) ∙ setting_inverse d usercode (has_usercode d))
 
-  pub reads_code : (p : ℕ) → p ≡ pattern_at d layout bytes usercode → accepted p ≡ read_pattern d layout bytes x
-  reads_code p w =
-      reads_clean d layout bytes x k (m ∙ e) (omega arith) usercode its (bytes_of d layout)
-      (clean d layout bytes k (m ∙ e) small) p (omega (arith, m)) w
+    pub reads_code : (p : ℕ) → p ≡ pattern_at d layout bytes usercode → accepted p ≡ read_pattern d layout bytes x
+    reads_code p w =
+        reads_clean d layout bytes x k (m ∙ e) (omega arith) usercode its (bytes_of d layout)
+        (clean d layout bytes k (m ∙ e) small) p (omega (arith, m)) w
 
-  pub sets_code : (pattern : ℕ) (after : List ℕ) → pattern < 2 ^ 32 → after ≡ with_pattern d layout bytes usercode pattern
-      → PatternGives d layout bytes x pattern (accepted tt) after
-  unfolding bits_of
-  sets_code pattern after fits w =
-      sets_clean d layout bytes x k (m ∙ e) (omega arith) usercode its pattern (lt-ltb pattern (2 ^ 32) fits) (bytes_of d layout)
-      (clean d layout bytes k (m ∙ e) small) after (omega (arith, m)) w
+    pub sets_code : (pattern : ℕ) (after : List ℕ) → pattern < 2 ^ 32 → after ≡ with_pattern d layout bytes usercode pattern
+        → PatternGives d layout bytes x pattern (accepted tt) after
+    unfolding bits_of
+    sets_code pattern after fits w =
+        sets_clean d layout bytes x k (m ∙ e) (omega arith) usercode its pattern (lt-ltb pattern (2 ^ 32) fits) (bytes_of d layout)
+        (clean d layout bytes k (m ∙ e) small) after (omega (arith, m)) w

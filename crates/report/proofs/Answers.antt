@@ -54,7 +54,8 @@ module _ (d : Device) (text before image : List ℕ) (k : known d ≡ true) (l :
   unfolding to_image_from_text
   read = the_device d _ k ∙ the_length (length before) (image_bytes d) _ (image_bytes d) refl l
 
-  pub of_image : a ≡ answer.Done → Put out after 0 (count_lines d image) end → Put out after 0 (lines_of d (meaning (fuse_count d) text)) end
+  pub of_image : a ≡ answer.Done → Put out after 0 (count_lines d image) end
+      → Put out after 0 (lines_of d (meaning (fuse_count d) text)) end
   unfolding image_in
   of_image e p =
       let done : to_image_from_text d text before ≡ accepted tt = sym w.answers ∙ ap done_outcome e in

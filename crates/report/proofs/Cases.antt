@@ -42,7 +42,8 @@ two_blocks = refl
 
 pub not_given_lem : NotGiven
 unfolding report_of outcome_of blocks_for first_count count_lines refusal_line fuse_count meaning concluded pieces blanks_before fields_from
-    holds_mark tail_from unbroken states_in list_in judge all_fields misplaced is_given lowest_from digits_read number_in sum_in byte_sum sum16
+    holds_mark tail_from unbroken states_in list_in judge all_fields misplaced is_given lowest_from digits_read number_in sum_in byte_sum
+    sum16
     digits_of zeros_below state bit_at or_else
 not_given_lem = refl
 

@@ -39,7 +39,8 @@ pub reads_other : (count x : ℕ) → x ≡ fuse_count (of_blocks 4) → (count 
 reads_other count x e f = sym (rw (ne_eqb count (fuse_count (of_blocks 4)) (λ g. f (g ∙ sym e))))
 
 -- A field that is no QF field, as the code tells it: by the number of its kind.
-no_qf : (after : List ℕ) (fs : FieldSays) → OneOf (1 ∷ 2 ∷ 3 ∷ 4 ∷ 5 ∷ []) (tag_of the_type fs) → fuse_count_in (judged_after after fs) ≡ none
+no_qf : (after : List ℕ) (fs : FieldSays) → OneOf (1 ∷ 2 ∷ 3 ∷ 4 ∷ 5 ∷ []) (tag_of the_type fs)
+    → fuse_count_in (judged_after after fs) ≡ none
 no_qf after (says.Count n) h = absurd (miss (1 ∷ 2 ∷ 3 ∷ 4 ∷ 5 ∷ []) 0 tt h)
 no_qf after (says.Start s) h = refl
 no_qf after (says.List first skip many bits) h = refl

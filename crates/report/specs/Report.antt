@@ -51,7 +51,8 @@ blocks_for text = blocks_by (first_count (fields_in (pieces text).ended (pieces 
 
 -- What the text means for that device; "more is 7 at 65536".
 unfoldable pub outcome_of : (text : List ℕ) → Outcome (List ℕ)
-outcome_of text = cond (ltb most (length text)) (refused 7 most) (meaning (fuse_count (of_blocks (blocks_for text))) text)
+outcome_of text =
+    cond (ltb most (length text)) (refused 7 most) (meaning (fuse_count (of_blocks (blocks_for text))) text)
 
 -- The lines of what a text means.
 abbrev pub lines_of : Device → Outcome (List ℕ) → List ℕ

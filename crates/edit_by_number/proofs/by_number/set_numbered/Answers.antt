@@ -39,7 +39,8 @@ module _ (d : Device) (layout : Layout) (bytes : List ℕ) (x pattern size : ℕ
     no_number : count ≤ x → PatternGives d layout bytes x pattern (refused 4 0) bytes
     unfolding set_pattern
     no_number l =
-        refusal d layout bytes x pattern 4 0 (rw (k, eq-eqb (length bytes) (bytes_of d layout) (n ∙ e), le-ltb x (count_of d) (omega arith)))
+        refusal d layout bytes x pattern 4 0
+        (rw (k, eq-eqb (length bytes) (bytes_of d layout) (n ∙ e), le-ltb x (count_of d) (omega arith)))
 
     module _ (l : x < count) (s : Setting) (g : s ≡ setting_of d x) (bits : ℕ) (t : Bool) (w : bits ≡ bits_of s)
         (u : t ≡ ltb pattern (2 ^ bits)) where
@@ -58,7 +59,8 @@ module _ (d : Device) (layout : Layout) (bytes : List ℕ) (x pattern size : ℕ
         the_set after m z =
             sets_clean d layout bytes x k (n ∙ e) (below d x count f l) s g pattern (its_test ∙ y) above (sym q) after m z
 
-few : (d : Device) (x count : ℕ) (s : Setting) (bits : ℕ) → count ≡ count_of d → x < count → s ≡ setting_of d x → bits ≡ bits_of s → bits ≤ 32
+few : (d : Device) (x count : ℕ) (s : Setting) (bits : ℕ) → count ≡ count_of d → x < count → s ≡ setting_of d x → bits ≡ bits_of s
+    → bits ≤ 32
 few d x count s bits e l f w = rw w (bits_few d s (there d x count s e l f))
 
 pub returns-then-not-is_known : goal.returns-then-not-is_known
