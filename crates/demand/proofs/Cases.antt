@@ -17,11 +17,15 @@ use Rattle.edit.specs.Edit.{above_in, read_in, set_in, with_value}
 use Rattle.demand.specs.Cases.{OeMuxCase, Order}
 
 pub oe_mux_case : OeMuxCase
-unfolding read_in set_in with_value above_in above_at above_among pattern_at with_bits with_pattern known image_bytes readout_bytes fuse_count
-    place_of_fuse byte_of_index has_setting bits_of place_of fuse_of kind_of named same candidate pattern_in state bit_at with_bit put_bit gathered
+unfolding read_in set_in with_value above_in above_at above_among pattern_at with_bits with_pattern known image_bytes readout_bytes
+    fuse_count
+    place_of_fuse byte_of_index has_setting bits_of place_of fuse_of kind_of named same candidate pattern_in state bit_at with_bit put_bit
+    gathered
 oe_mux_case = (refl, refl, refl, refl, refl)
 
 pub order : Order
-unfolding read_in set_in with_value above_in above_at above_among pattern_at with_bits with_pattern known image_bytes readout_bytes fuse_count
-    place_of_fuse byte_of_index has_setting bits_of place_of fuse_of kind_of named same candidate pattern_in state bit_at with_bit put_bit gathered
+unfolding read_in set_in with_value above_in above_at above_among pattern_at with_bits with_pattern known image_bytes readout_bytes
+    fuse_count
+    place_of_fuse byte_of_index has_setting bits_of place_of fuse_of kind_of named same candidate pattern_in state bit_at with_bit put_bit
+    gathered
 order = (refl, refl, refl, refl, refl, refl)

@@ -13,7 +13,8 @@ use Rattle.jedec_writer.specs.Pattern.{text_of}
 use Rattle.jedec_writer.proofs.Laws.{written_read}
 use Rattle.jedec_reader.specs.Reader.{to_image_from_text, image_in}
 
-pub text_inverse : (d : Device) (image target : List ℕ) → known d ≡ true → length image ≡ image_bytes d → ((i : ℕ) → get_or image i 0 < 2 ^ 8)
+pub text_inverse : (d : Device) (image target : List ℕ) → known d ≡ true → length image ≡ image_bytes d
+    → ((i : ℕ) → get_or image i 0 < 2 ^ 8)
     → length target ≡ image_bytes d → (to_image_from_text d (text_of d image) target ≡ accepted tt) × (image_in d (text_of d image) ≡ image)
 unfolding to_image_from_text image_in
 text_inverse d image target k size bytes buffer =

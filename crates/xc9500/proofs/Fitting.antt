@@ -110,7 +110,8 @@ module _ (d : Device) where
       (λ e.
       let both = (and_iff (valid d address) _).0 e in
       let its = each_address d k address bit both.0 (ltb-true _ _ both.1) in
-      let there : fuse_of_address d address bit ≡ accepted (fuse_of_place d (record { byte = byte_of_address address; bit = bit })) = rw (k, e) in
+      let there : fuse_of_address d address bit ≡ accepted (fuse_of_place d (record { byte = byte_of_address address; bit = bit })) =
+      rw (k, e) in
       let same : fuse_of_place d (record { byte = byte_of_address address; bit = bit }) ≡ its.0 = cc its.2 in
       omega (arith, its.1, fuses_small d k)))
 
@@ -166,7 +167,8 @@ module _ (d : Device) where
   text_to_image : (text target : List ℕ) → WordFits no_result (to_image_from_text d text target)
   unfolding to_image_from_text
   text_to_image text target =
-      chosen (WordFits no_result) (known d) (omega arith, omega arith) (λ k. chosen (WordFits no_result) (eqb (length target) (image_bytes d))
+      chosen (WordFits no_result) (known d) (omega arith, omega arith)
+      (λ k. chosen (WordFits no_result) (eqb (length target) (image_bytes d))
       (omega arith, omega arith) (λ e. of_meaning k text (meaning (fuse_count d) text) refl))
 
   setting_count : WordFits itself (count_of_settings d)
@@ -199,7 +201,8 @@ module _ (d : Device) where
   unfolding located_by_number setting_of_number
   setting_parts setting bit =
       chosen (ThroughFits bit) (known d) (omega arith, omega arith)
-      (λ k. by_cases (ThroughFits bit) setting (count_of d) (λ l. located_fits (setting_of d setting) bit) (λ g. (omega arith, omega arith)))
+      (λ k. by_cases (ThroughFits bit) setting (count_of d) (λ l. located_fits (setting_of d setting) bit)
+      (λ g. (omega arith, omega arith)))
 
   parts_fit : (o : Outcome (Option LocatedFuse)) → PartsFit o → WordFitsOrNone fuse_and_address o
   parts_fit (accepted none) h = tt
@@ -256,7 +259,8 @@ module _ (d : Device) where
         chosen (WordFits no_result) (eqb (length bytes) (bytes_of d layout)) (omega arith, omega arith)
         (λ e.
         by_cases (WordFits no_result) setting (count_of d)
-        (λ l. by_cases (WordFits no_result) pattern (2 ^ bits_of (setting_of d setting)) (λ m. if_clean_lem no_result (accepted tt) k (omega arith))
+        (λ l. by_cases (WordFits no_result) pattern (2 ^ bits_of (setting_of d setting))
+        (λ m. if_clean_lem no_result (accepted tt) k (omega arith))
         (λ g. (omega arith, omega arith)))
         (λ g. (omega arith, omega arith))))
 

@@ -30,7 +30,8 @@ module _ {A : Type 0} (result : A → ℕ) where
   with_none (accepted (some x)) h = omega arith
   with_none (refused number value) h = h
 
-  is_none : (x : Option A) → WordFitsOrNone result (accepted x) → (result_in (packed (or_none result) (accepted x)) ≡ 2 ^ 56 - 1) ↔ (x ≡ none)
+  is_none : (x : Option A) → WordFitsOrNone result (accepted x)
+      → (result_in (packed (or_none result) (accepted x)) ≡ 2 ^ 56 - 1) ↔ (x ≡ none)
   is_none none h = (λ e. refl, λ e. refl)
   is_none (some x) h = (λ e. absurd (omega arith), λ e. let z : ◌≡◌ {A = ℕ} 0 1 = cc in absurd (omega arith))
 

@@ -3,7 +3,6 @@
 use mathlib.Core.Path.{◌≡◌, sym, ◌∙◌, ap}
 use mathlib.Core.List.{List}
 use Prim.Native.Nat.{ℕ}
-use native.Mathlib.Omega.{arith}
 use lib.ListN.{length}
 use borrow.Author.Tests.{eq-eqb}
 use Rattle.part.specs.Outcome.{Outcome, Written, written}
@@ -24,9 +23,7 @@ use Rattle.edit.proofs.ConversionsAccepted.{passes, passes_back}
 use Rattle.edit.proofs.Demand.{of_calls}
 use Rattle.demand.specs.BothWays.{ReadInBoth, Begun, SetInBoth, BothConverted, StepByStep, RightLengths, BothWays, calls_of}
 use Rattle.demand.specs.declared.BothAnswer.{BothAnswer}
-use borrow.Author.Rules.{rules}
-use Rattle.demand.proofs.both_ways.Statement.{statement}
-use Rattle.demand.proofs.both_ways.Tie as tie
+use Rattle.demand.proofs.both_ways.Goals as goal
 
 -- What an accepted call left in its target.
 left : {A : Type 0} {o answer : Outcome A} {x : A} {result before after : List ℕ} → Written o answer result before after → o ≡ accepted x
@@ -133,73 +130,7 @@ module _ (d : Device) (image readout kept as_readout as_image : List ℕ) (s : S
         (made pattern taken lengths, of_calls d image s v pattern t _ taken (made pattern taken lengths)),
   )
 
-begin-requires : tie.Need-begin-requires
-begin-requires c κs = search rules
-
-set-both-requires : tie.Need-set-both-requires
-set-both-requires c κs = search rules
-
-convert-both-requires : tie.Need-convert-both-requires
-convert-both-requires c κs = search rules
-
-read-both-requires : tie.Need-read-both-requires
-read-both-requires c κs = search rules
-
-read-both-requires-2 : tie.Need-read-both-requires-2
-read-both-requires-2 c κs = search rules
-
-same_length : tie.Need-same-length
-same_length c = search rules
-
-same-length-2 : tie.Need-same-length-2
-same-length-2 c =
-    let reading = c.before.before.before.before.before in
-    let converting = reading.before.before.before.before.before in
-    let converted = converting.before.before.before.before.before in
-    let setting = converted.before.before.before.before in
-    let set = setting.before.before.before.before in
-    let beginning = set.before.before.before in
-    omega (arith, beginning.begin.auto, setting.set_both.auto)
-
-same-length-3 : tie.Need-same-length-3
-same-length-3 c =
-    let reading = c.before.before.before.before.before in
-    let converting = reading.before.before.before.before.before in
-    let converted = converting.before.before.before.before.before in
-    let setting = converted.before.before.before.before in
-    let set = setting.before.before.before.before in
-    let beginning = set.before.before.before in
-    omega (arith, beginning.begin.auto)
-
-same-length-4 : tie.Need-same-length-4
-same-length-4 c = search rules
-
-same-length-5 : tie.Need-same-length-5
-same-length-5 c = search rules
-
-returns : tie.Need-returns
+pub returns : goal.returns
 returns c =
-    let reading = c.before.before.before.before.before in
-    let converting = reading.before.before.before.before.before in
-    let converted = converting.before.before.before.before.before in
-    let setting = converted.before.before.before.before in
-    let set = setting.before.before.before.before in
-    let beginning = set.before.before.before in
-    ran _ _ _ _ _ _ _ _ _ _ _ _ _ _ _ _ beginning.begin.ensures setting.set_both.ensures converting.convert-both.ensures
-    c.before.before.before.read-both.ensures c.read-both2.ensures
-
-pub both_ways_spec : {M : Type 1} → statement M
-both_ways_spec =
-    tie.close
-    (tie.spec
-    begin-requires
-    set-both-requires
-    convert-both-requires
-    read-both-requires
-    read-both-requires-2
-    same_length
-    same-length-2
-    same-length-3
-    same-length-4
-    same-length-5
-    returns)
+    ran _ _ _ _ _ _ _ _ _ _ _ _ _ _ _ _ c.begin-before.ensures c.set_both-set.ensures c.convert_both-converted.ensures
+    c.read_both-read.ensures c.read_both-other.ensures
