@@ -5,7 +5,6 @@ use Rattle.std.specs.Prelude.{cond, ltb, Option, None, Some, Ok, Err, IfSome, On
 use Rattle.std.specs.declared.result.Result.{Result}
 use Rattle.std.specs.Io.KnownBytes.{Appends, Consumes, IsAtEnd}
 use borrow.Author.Tests.{le-ltb, lt-ltb, ltb-true, ltb-false}
-use Rattle.part.specs.Outcome.{Outcome}
 use Rattle.part.specs.Outcome.Outcome.{accepted, refused}
 use Rattle.report.specs.Report.{most, outcome_of, report_of, bytes_put}
 use Rattle.report.proofs.Answers.{report_short}

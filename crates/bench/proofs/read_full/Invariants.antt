@@ -1,6 +1,6 @@
 -- `done` counts the bytes that the input has given up; what is left of the buffer falls.
 -- Assumes nothing.
-use Rattle.std.proofs.Common.{length, ◌-◌, ◌≡◌, ◌≤◌, take}
+use Rattle.std.proofs.Common.{length, ◌-◌, ◌≤◌, take}
 use Rattle.std.specs.Io.KnownBytes.{Consumes}
 use Rattle.bench.proofs.read_full.Given as goal
 

@@ -1,6 +1,6 @@
 -- What is read tells as much as the whole input.
 -- Assumes nothing.
-use Rattle.std.proofs.Common.{rules, arith}
+use Rattle.std.proofs.Common.{rules}
 use Rattle.bench.proofs.Reports.{on_whole_input}
 use Rattle.bench.proofs.report_input.Goals as goal
 
