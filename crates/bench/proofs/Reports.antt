@@ -10,11 +10,13 @@ use Rattle.report.specs.Report.{most, outcome_of, report_of, bytes_put}
 use Rattle.report.proofs.Answers.{report_short}
 
 -- A buffer of 64 bytes is never too short.
-pub not_refused : (text buffer : List ℕ) (number value : ℕ) → length buffer ≡ 64 → refused number value ≡ bytes_put (report_of text) buffer → ⊥
+pub not_refused : (text buffer : List ℕ) (number value : ℕ) → length buffer ≡ 64 → refused number value ≡ bytes_put (report_of text) buffer
+    → ⊥
 not_refused text buffer number value l e =
     let short : length (report_of text) ≤ length buffer = omega (arith, l, report_short text) in
     let put : refused number value ≡ accepted (length (report_of text)) =
-    e ∙ ap (λ t. cond t (refused 12 (length (report_of text))) (accepted (length (report_of text)))) (le-ltb (length buffer) (length (report_of text)) short) in
+    e ∙ ap (λ t. cond t (refused 12 (length (report_of text))) (accepted (length (report_of text))))
+    (le-ltb (length buffer) (length (report_of text)) short) in
     let z : ◌≡◌ {A = ℕ} 0 1 = cc in
     omega arith
 
@@ -23,12 +25,13 @@ long_outcome : (text : List ℕ) → 65536 < length text → outcome_of text ≡
 unfolding outcome_of
 long_outcome text h = rw (lt-ltb most (length text) h) refl
 
-same_report : (xs ys : List ℕ) → 65536 < length xs → 65536 < length ys → report_of xs ≡ report_of ys
+pub same_report : (xs ys : List ℕ) → 65536 < length xs → 65536 < length ys → report_of xs ≡ report_of ys
 unfolding report_of
 same_report xs ys p q = rw (long_outcome xs p, long_outcome ys q) refl
 
 -- The report of what was read is that of the whole input.
-read_enough : (xs ys buffer : List ℕ) (n : ℕ) → length buffer ≡ 65537 → n ≤ length buffer → xs ≡ take n buffer ++ ys → (n < length buffer → ys ≡ [])
+read_enough : (xs ys buffer : List ℕ) (n : ℕ) → length buffer ≡ 65537 → n ≤ length buffer → xs ≡ take n buffer ++ ys
+    → (n < length buffer → ys ≡ [])
     → report_of (take n buffer) ≡ report_of xs
 read_enough xs ys buffer n l fits e end = go (ltb n (length buffer)) refl
   where
@@ -48,7 +51,8 @@ whole_input (Some xs) (Some ys) before after buffer n l fits c end a =
     subst (Appends before after) (read_enough xs ys buffer n l fits c end) a
 
 -- The same of a call that may fail.
-pub on_whole_input : {T E : Type 0} (r : Result T E) (old new before after : Option (List ℕ)) (buffer : List ℕ) (n : ℕ) → length buffer ≡ 65537
+pub on_whole_input : {T E : Type 0} (r : Result T E) (old new before after : Option (List ℕ)) (buffer : List ℕ) (n : ℕ)
+    → length buffer ≡ 65537
     → n ≤ length buffer → Consumes old new (take n buffer) → (n < length buffer → IsAtEnd new)
     → OnOk r (Appends before after (report_of (take n buffer))) → OnOk r (IfSome old (λ text. Appends before after (report_of text)))
 on_whole_input (Ok v) old new before after buffer n l fits c end a = whole_input old new before after buffer n l fits c end a
