@@ -3,12 +3,8 @@
 use Rattle.cells.specs.Cells.{cut}
 use mathlib.Core.Path.{refl}
 use borrow.Author.Rules.{rules}
-use Rattle.names.proofs.pieces.nothing.Statement.{statement}
-use Rattle.names.proofs.pieces.nothing.Tie as tie
+use Rattle.names.proofs.pieces.nothing.Goals as goal
 
-returns : tie.Need-returns
+pub returns : goal.returns
 unfolding cut
 returns c = record { few = search rules; alone = search rules; text_is = refl }
-
-pub nothing_spec : {M : Type 1} → statement M
-nothing_spec = tie.close (tie.spec returns)

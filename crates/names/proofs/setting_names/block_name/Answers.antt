@@ -1,0 +1,8 @@
+-- `block_name` meets its contract: block and field.
+-- Assumes nothing.
+use Rattle.names.proofs.Spelled.{block_spelled}
+use borrow.Author.Rules.{rules}
+use Rattle.names.proofs.setting_names.block_name.Goals as goal
+
+pub returns : goal.returns
+returns c = search (rules, block_spelled)

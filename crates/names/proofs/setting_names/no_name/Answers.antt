@@ -1,0 +1,5 @@
+use Rattle.names.proofs.AtFuse.{unnamed_spelled}
+use Rattle.names.proofs.setting_names.no_name.Goals as goal
+
+pub returns : goal.returns
+returns c = unnamed_spelled _ c.nothing-none.ensures
