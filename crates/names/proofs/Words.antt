@@ -42,7 +42,7 @@ module _ (text more : List ℕ) where
   before (b ∷ start) h =
       let both = (and_iff (not (eqb b space)) (spaceless start)).0 h in step (eqb b space) refl both.0 (before start both.1)
     where
-      step : (t : Bool) → eqb b space ≡ t → t ≡ false → Before start → Before (b ∷ start)
+      step : (t : Bool) → eqb b space ≡ t → not t ≡ true → Before start → Before (b ∷ start)
       step true e n rest = absurd (true≢false (sym n))
       step false e n rest = record { first = rw e (ap (λ (w : List ℕ). b ∷ w) rest.first); later = rw e rest.later }
 

@@ -1,3 +1,7 @@
+-- `polarity_part` meets its contract: a space and a letter.
+-- Assumes nothing.
+use Rattle.cells.specs.Cells.{cut}
+use borrow.Author.Rules.{rules}
 use mathlib.Core.Path.{refl}
 use Rattle.names.proofs.setting_names.polarity_part.Goals as goal
 
