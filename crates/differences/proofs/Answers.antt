@@ -24,17 +24,20 @@ module _ (d : Device) (old new buffer : List ℕ) where
 
   pub no_device : known d ≡ false → At (refused 1 0) buffer
   unfolding to_differences
-  no_device h = unknown d (length old) (image_bytes d) (length new) (image_bytes d) (bytes_put (text_of d old new) buffer) (with_differences d old new buffer) buffer h
+  no_device h = unknown d (length old) (image_bytes d) (length new) (image_bytes d) (bytes_put (text_of d old new) buffer)
+      (with_differences d old new buffer) buffer h
 
   module _ (k : known d ≡ true) (bytes : ℕ) (e : bytes ≡ image_bytes d) where
     pub old_wrong : (length old ≡ bytes → ⊥) → At (refused 2 0) buffer
     unfolding to_differences
-    old_wrong h = wrong_first d (length old) (image_bytes d) (length new) (image_bytes d) (bytes_put (text_of d old new) buffer) (with_differences d old new buffer) buffer k bytes e h
+    old_wrong h = wrong_first d (length old) (image_bytes d) (length new) (image_bytes d) (bytes_put (text_of d old new) buffer)
+        (with_differences d old new buffer) buffer k bytes e h
 
     module _ (lo : length old ≡ bytes) where
       pub new_wrong : (length new ≡ bytes → ⊥) → At (refused 2 0) buffer
       unfolding to_differences
-      new_wrong h = wrong_second d (length old) (image_bytes d) (length new) (image_bytes d) (bytes_put (text_of d old new) buffer) (with_differences d old new buffer) buffer k bytes e lo bytes e h
+      new_wrong h = wrong_second d (length old) (image_bytes d) (length new) (image_bytes d) (bytes_put (text_of d old new) buffer)
+          (with_differences d old new buffer) buffer k bytes e lo bytes e h
 
       module _ (ln : length new ≡ bytes) (fuses first lines : ℕ) (ef : fuses ≡ length (differing_fuses d old new))
           (es : first ≡ length (first_line fuses)) (el : lines ≡ lines_bytes d (differing_fuses d old new)) where
@@ -42,12 +45,15 @@ module _ (d : Device) (old new buffer : List ℕ) where
         unfolding text_of
         whole =
             sym (length-append (first_line (length (differing_fuses d old new))) (lines_of d old new (differing_fuses d old new))
-            ∙ ap₂ ◌+◌ (ap (λ (n : ℕ). length (first_line n)) (sym ef) ∙ sym es) (lines_count d old new (differing_fuses d old new) ∙ sym el))
+            ∙ ap₂ ◌+◌ (ap (λ (n : ℕ). length (first_line n)) (sym ef) ∙ sym es)
+            (lines_count d old new (differing_fuses d old new) ∙ sym el))
 
         pub too_short : length buffer < first + lines → At (refused 12 (first + lines)) buffer
         unfolding to_differences
         too_short h =
-            right d (length old) (image_bytes d) (length new) (image_bytes d) (bytes_put (text_of d old new) buffer) (with_differences d old new buffer) buffer k bytes e lo bytes e ln (refused 12 (first + lines)) (rw (← whole, lt-ltb (length buffer) (first + lines) h)) buffer refl
+            right d (length old) (image_bytes d) (length new) (image_bytes d) (bytes_put (text_of d old new) buffer)
+            (with_differences d old new buffer) buffer k bytes e lo bytes e ln (refused 12 (first + lines))
+            (rw (← whole, lt-ltb (length buffer) (first + lines) h)) buffer refl
 
         pub put_there : (middle after : List ℕ) (next : ℕ) → first + lines ≤ length buffer
             → Laid buffer middle 0 (length (first_line fuses)) (first_line fuses) next
@@ -56,7 +62,8 @@ module _ (d : Device) (old new buffer : List ℕ) where
         unfolding to_differences text_of
         put_there middle after next h p q =
             let behind : next ≡ first = omega (arith, p.ends, es) in
-            let lines-there : Laid middle after next (first + lines) (lines_of d old new (differing_fuses d old new)) (first + lines) = rw behind q in
+            let lines-there : Laid middle after next (first + lines) (lines_of d old new (differing_fuses d old new)) (first + lines) =
+            rw behind q in
             let all = then buffer middle after (first_line fuses) (lines_of d old new (differing_fuses d old new)) 0 next (first + lines)
             (length (first_line fuses)) (first + lines) (first + lines) p lines-there (omega (arith, es)) (omega arith) in
             let text : first_line fuses ++ lines_of d old new (differing_fuses d old new) ≡ text_of d old new =
@@ -64,5 +71,6 @@ module _ (d : Device) (old new buffer : List ℕ) where
             let same : after ≡ text_of d old new ++ drop (length (text_of d old new)) buffer =
             sym (take-append-drop (first + lines) after)
             ∙ ap₂ ◌++◌ (all.holds ∙ text) (all.behind ∙ ap (λ (n : ℕ). drop n buffer) whole) in
-            right d (length old) (image_bytes d) (length new) (image_bytes d) (bytes_put (text_of d old new) buffer) (with_differences d old new buffer) buffer k bytes e lo bytes e ln (accepted (first + lines))
+            right d (length old) (image_bytes d) (length new) (image_bytes d) (bytes_put (text_of d old new) buffer)
+            (with_differences d old new buffer) buffer k bytes e lo bytes e ln (accepted (first + lines))
             (rw (← whole, le-ltb (length buffer) (first + lines) h)) after same

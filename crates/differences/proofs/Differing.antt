@@ -47,7 +47,8 @@ module _ (old new : List ℕ) where
       go true x y z e = e
       go false x y z e = ap (λ (l : List ℕ). from ∷ l) e
 
-  pub none_differ : (count from : ℕ) → ((j : ℕ) → j < count → state old (from + j) ≡ state new (from + j)) → differing old new from count ≡ []
+  pub none_differ : (count from : ℕ) → ((j : ℕ) → j < count → state old (from + j) ≡ state new (from + j))
+      → differing old new from count ≡ []
   unfolding differing
   none_differ zero from h = refl
   none_differ (suc count) from h =
@@ -186,7 +187,8 @@ short_word bytes at left r e h f =
     ∙ sym (ap (λ (k : ℕ). join (replicate k 8) (drop at bytes)) (sym eight)
     ∙ ap (λ (ws : List ℕ). join ws (drop at bytes)) (sym (replicate-append-replicate left (8 - left) 8))
     ∙ join_append (replicate left 8) (replicate (8 - left) 8) (drop at bytes)
-    ∙ rw (length-replicate {A = ℕ} left 8, none, join_none (replicate (8 - left) 8)) (omega (arith, zero-mul (2 ^ total (replicate left 8)))))
+    ∙ rw (length-replicate {A = ℕ} left 8, none, join_none (replicate (8 - left) 8))
+    (omega (arith, zero-mul (2 ^ total (replicate left 8)))))
 
 -- A turn of the walk over bytes that are the same: 32 of them, and eight.
 pub fours_on : (old new : List ℕ) (from at : ℕ) (t : Bool) → differing_from old new from ≡ differing_from old new at

@@ -30,7 +30,8 @@ stored before after text more at fits e =
     let bytes = text ++ more in
     let whole : after ≡ take at before ++ bytes ++ drop (at + length bytes) before = e ∙ sets-eq bytes before at fits in
     let first : length (take at before) ≡ at = length-take at before ∙ omega (arith, length-append text more) in
-    let front : length (take at before ++ text) ≡ at + length text = length-append (take at before) text ∙ ap (λ (n : ℕ). n + length text) first in
+    let front : length (take at before ++ text) ≡ at + length text =
+    length-append (take at before) text ∙ ap (λ (n : ℕ). n + length text) first in
     let all : length (take at before ++ bytes) ≡ at + length bytes =
     length-append (take at before) bytes ∙ ap (λ (n : ℕ). n + length bytes) first in
     let apart : (u v w x : List ℕ) → u ++ (v ++ w) ++ x ≡ (u ++ v) ++ (w ++ x) = λ u v w x. simp append_assoc in

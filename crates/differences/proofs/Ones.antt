@@ -147,7 +147,8 @@ pub ones_most : (count from x : ℕ) → length (ones_from from x count) ≤ cou
 unfolding ones_from
 ones_most zero from x = omega arith
 ones_most (suc count) from x =
-    parity x (λ even. rw even (omega (arith, ones_most count (from + 1) (x / 2)))) (λ odd. rw odd (omega (arith, ones_most count (from + 1) (x / 2))))
+    parity x (λ even. rw even (omega (arith, ones_most count (from + 1) (x / 2))))
+    (λ odd. rw odd (omega (arith, ones_most count (from + 1) (x / 2))))
 
 all_more : (n m : ℕ) (l : List ℕ) → n ≤ m → AllBelow n l → AllBelow m l
 all_more n m [] h a = tt
@@ -158,5 +159,6 @@ unfolding ones_from
 ones_below zero from x = tt
 ones_below (suc count) from x =
     let rest : AllBelow (from + suc count) (ones_from (from + 1) (x / 2) count) =
-    all_more (from + 1 + count) (from + suc count) (ones_from (from + 1) (x / 2) count) (omega arith) (ones_below count (from + 1) (x / 2)) in
+    all_more (from + 1 + count) (from + suc count) (ones_from (from + 1) (x / 2) count) (omega arith) (ones_below count (from + 1) (x / 2))
+    in
     parity x (λ even. rw even rest) (λ odd. rw odd (omega arith, rest))

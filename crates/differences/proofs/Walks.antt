@@ -46,10 +46,12 @@ module _ (d : Device) (old new : List ℕ) (k : known d ≡ true) (lo : length o
   none_behind at h = past_all old new at h
 
   -- A word, and what is behind it.
-  module _ (at a b r : ℕ) (there : at < length old) (ea : a ≡ join (replicate 8 8) (drop at old)) (eb : b ≡ join (replicate 8 8) (drop at new))
+  module _ (at a b r : ℕ) (there : at < length old) (ea : a ≡ join (replicate 8 8) (drop at old))
+      (eb : b ≡ join (replicate 8 8) (drop at new))
     where
       pub ones_there : AllBelow (fuse_count d) (ones_from (at * 8) (bit_xor a b) 64)
-      ones_there = subst (λ (n : ℕ). AllBelow n (ones_from (at * 8) (bit_xor a b) 64)) whole (word_below old new same_length at a b (omega arith) ea eb)
+      ones_there = subst (λ (n : ℕ). AllBelow n (ones_from (at * 8) (bit_xor a b) 64)) whole
+          (word_below old new same_length at a b (omega arith) ea eb)
 
       small : bit_xor a b < 2 ^ 64
       small =
@@ -73,7 +75,8 @@ module _ (d : Device) (old new : List ℕ) (k : known d ≡ true) (lo : length o
         pub words_on : (bytes more all : ℕ) → bytes + lines_bytes d (differing_from old new at) ≡ all
             → more ≡ lines_bytes d (ones_from (at * 8) (bit_xor a b) 64) → bytes + more + lines_bytes d (differing_from old new r) ≡ all
         words_on bytes more all h f =
-            let long : lines_bytes d (differing_from old new at) ≡ lines_bytes d (ones_from (at * 8) (bit_xor a b) 64) + lines_bytes d (differing_from old new r) =
+            let long : lines_bytes d (differing_from old new at)
+            ≡ lines_bytes d (ones_from (at * 8) (bit_xor a b) 64) + lines_bytes d (differing_from old new r) =
             ap (lines_bytes d) parts ∙ bytes_append d (ones_from (at * 8) (bit_xor a b) 64) (differing_from old new r) in
             omega (arith, h, long, f)
 
@@ -85,14 +88,16 @@ module _ (d : Device) (old new : List ℕ) (k : known d ≡ true) (lo : length o
             let others : HasStates new (at * 8) b = λ j l. rw eb (word_states new at j l) in
             let same : differing old new (at * 8) 64 ≡ ones_from (at * 8) (bit_xor a b) 64 =
             xor_ones 64 (at * 8) old new a b has others in
-            let lines : lines_with d (at * 8) a (ones_from (at * 8) (bit_xor a b) 64) ≡ lines_of d old new (ones_from (at * 8) (bit_xor a b) 64) =
+            let lines : lines_with d (at * 8) a (ones_from (at * 8) (bit_xor a b) 64)
+            ≡ lines_of d old new (ones_from (at * 8) (bit_xor a b) 64) =
             rw same at (lines_same d old new (at * 8) a has 64 (at * 8) (omega arith) (omega arith)) in
             ap (lines_of d old new) parts ∙ lines_append d old new (ones_from (at * 8) (bit_xor a b) 64) (differing_from old new r)
             ∙ ap (λ (l : List ℕ). l ++ lines_of d old new (differing_from old new r)) (sym lines)
 
       -- The lines of the word lie before the end.
       pub text_fits : (before after : List ℕ) (start until next end : ℕ)
-          → Going before after start until (lines_of d old new (differing_from old new at)) (lines_of d old new (differing_fuses d old new)) next
+          → Going before after start until (lines_of d old new (differing_from old new at)) (lines_of d old new (differing_fuses d old new))
+          next
           → start + lines_bytes d (differing_fuses d old new) ≡ end → next + lines_bytes d (ones_from (at * 8) (bit_xor a b) 64) ≤ end
       text_fits before after start until next end g h =
           let sum = going_fits before after _ _ start until next g in

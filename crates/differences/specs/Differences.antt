@@ -23,7 +23,8 @@ differing_fuses d old new = differing old new 0 (fuse_count d)
 -- The line of a fuse: number, old state, new state, name.
 unfoldable pub line_of : Device → (old new : List ℕ) → (fuse : ℕ) → List ℕ
 line_of d old new fuse =
-    count_digits fuse ++ space ∷ decimal_digit (state old fuse) ∷ space ∷ decimal_digit (state new fuse) ∷ space ∷ name_at d fuse
+    count_digits fuse ++ space ∷ decimal_digit (state old fuse) ∷ space ∷ decimal_digit (state new fuse) ∷ space
+    ∷ name_at d fuse
     ++ lf ∷ []
 
 -- The lines of some fuses.

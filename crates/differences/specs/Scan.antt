@@ -1,4 +1,5 @@
--- What the proofs of the differences work with: the ones of a word as fuses, the lengths of lines, text put from an index
+-- What the proofs of the differences work with: the ones of a word as fuses, the lengths of lines, text put from an
+-- index
 -- on with other bytes behind it. Assumes nothing.
 use Rattle.std.specs.Prelude.{ℕ, zero, suc, ◌+◌, ◌*◌, ◌-◌, ◌/◌, ◌%◌, ◌^◌, ◌≤◌, ◌<◌, ◌≡◌, Bool, cond, List, [], ◌∷◌, ◌++◌, eqb, length, take, drop, replicate}
 use Rattle.cells.specs.Cells.{join}
@@ -45,7 +46,8 @@ lines_with d from states [] = []
 lines_with d from states (fuse ∷ fuses) =
     line_with d fuse (states / 2 ^ (fuse - from) % 2) ++ lines_with d from states fuses
 
--- Text put from an index on, and the index behind it. Bytes behind the text may have changed, but none from an index on.
+-- Text put from an index on, and the index behind it. Bytes behind the text may have changed, but none from an index
+-- on.
 pub record Laid (before after : List ℕ) (at until : ℕ) (text : List ℕ) (next : ℕ) : Type 0 where
   pub ends : next ≡ at + length text
   pub long : length after ≡ length before

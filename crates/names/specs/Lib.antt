@@ -1,4 +1,5 @@
--- The definitions that the contracts of `names` cite: the names, and the pieces of up to eight bytes that they are made of.
+-- The definitions that the contracts of `names` cite: the names, and the pieces of up to eight bytes that they are
+-- made of.
 -- Assumes nothing.
 pub mod Names
 pub mod Pieces

@@ -1,4 +1,5 @@
--- The names of the settings and of their bits: document 02, K1. "Name parts are FB, MC, PT, IM, P or N, the field, and the
+-- The names of the settings and of their bits: document 02, K1. "Name parts are FB, MC, PT, IM, P or N, the field, and
+-- the
 -- bit after a dot where a field has several; wire-AND is `FB0 IM7 UIM FB1 MC3`, a global its field alone".
 use Rattle.std.specs.Prelude.{ℕ, cond, List, [], ◌∷◌, ◌++◌, map, ltb}
 use Rattle.std.proofs.Math.Option.{Option}

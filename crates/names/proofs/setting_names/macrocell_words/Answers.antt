@@ -18,11 +18,13 @@ returns-in-Inv c = words_same (λ f. spaced (macrocell_parts f)) _ Inv _ _ c.in-
 
 pub returns-in-ImportUpAlloc : goal.returns-in-ImportUpAlloc
 unfolding spaced
-returns-in-ImportUpAlloc c = words_same (λ f. spaced (macrocell_parts f)) _ ImportUpAlloc _ _ c.in-ImportUpAlloc.is refl c.words_of-in-ImportUpAlloc.ensures
+returns-in-ImportUpAlloc c =
+    words_same (λ f. spaced (macrocell_parts f)) _ ImportUpAlloc _ _ c.in-ImportUpAlloc.is refl c.words_of-in-ImportUpAlloc.ensures
 
 pub returns-in-ImportDownAlloc : goal.returns-in-ImportDownAlloc
 unfolding spaced
-returns-in-ImportDownAlloc c = words_same (λ f. spaced (macrocell_parts f)) _ ImportDownAlloc _ _ c.in-ImportDownAlloc.is refl c.words_of-in-ImportDownAlloc.ensures
+returns-in-ImportDownAlloc c =
+    words_same (λ f. spaced (macrocell_parts f)) _ ImportDownAlloc _ _ c.in-ImportDownAlloc.is refl c.words_of-in-ImportDownAlloc.ensures
 
 pub returns-in-ExportDir : goal.returns-in-ExportDir
 unfolding spaced

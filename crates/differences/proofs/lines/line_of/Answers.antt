@@ -1,0 +1,11 @@
+-- `line_of` meets its contract: four parts.
+-- Assumes nothing.
+use Rattle.differences.proofs.LineTexts.{fuse_small, line_spelled}
+use borrow.Author.Rules.{rules}
+use Rattle.differences.proofs.lines.line_of.Goals as goal
+
+pub count_digits-number-requires : goal.count_digits-number-requires
+count_digits-number-requires c = search (rules, fuse_small)
+
+pub returns : goal.returns
+returns c = search (rules, line_spelled)
