@@ -1,3 +1,5 @@
+-- `no_name` meets its contract: one piece of eight bytes.
+-- Assumes nothing.
 use Rattle.names.proofs.AtFuse.{unnamed_spelled}
 use Rattle.names.proofs.setting_names.no_name.Goals as goal
 
