@@ -31,7 +31,7 @@ extern "C" {
      comment says, and nothing else.
    - Several faults: the first of 1, 2, 12, 3, 4, 5, 6, 7, 8, 9, 13, 10, 11.
    - No call allocates memory or keeps anything between calls, so calls on different slices may run at the same time.
-     Stack: below 1 KB, but about 40 KB for xc9500_text_to_image, for every device. */
+     Stack: below 1 KB, but about 37 KB for xc9500_text_to_image, for every device. */
 
 /* Output-enable classes. */
 enum xc9500_class { XC9500_SMALL = 0, XC9500_LARGE = 1 };
