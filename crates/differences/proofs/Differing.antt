@@ -1,7 +1,7 @@
 -- The fuses that differ, word by word: those of a word and those behind it, none where the words are the same, none behind the end.
 -- Assumes nothing.
 use mathlib.Core.Path.{◌≡◌, refl, sym, ◌∙◌, ap, ap₂, subst}
-use mathlib.Core.Bool.{Bool, true, false, cond, not, ◌&&◌}
+use mathlib.Core.Bool.{Bool, true, false, cond, ◌&&◌}
 use mathlib.Core.List.{List, [], ◌∷◌, ◌++◌, append-nil}
 use Prim.Native.Nat.{ℕ, zero, suc, ◌+◌, ◌*◌, ◌-◌, ◌/◌, ◌%◌, ◌^◌, ◌≤◌, ◌<◌}
 use native.Mathlib.Omega.{arith}
@@ -10,7 +10,7 @@ use lib.Bits.{bit_xor}
 use lib.Dec.{eqb}
 use lib.ListN.{length, get_or, drop, replicate, length-replicate, length-append, length-drop, drop_of_length-le, replicate-append-replicate}
 use lib.Seq.{get_or-drop}
-use borrow.Author.Tests.{eqb-true, eq-eqb, not-false}
+use borrow.Author.Tests.{eqb-true, eq-eqb}
 use Rattle.cells.specs.Cells.{join, total}
 use Rattle.cells.proofs.Laws.{join_append}
 use Rattle.part.proofs.Facts.{compared, and_iff}

@@ -1,5 +1,5 @@
 // What changed between two images of one device, by name: how many fuses differ, and a line for each.
-// The definitions that the contract cites stand in specs/Differences.antt, the laws about them in proofs/Laws.antt.
+// The definitions that the contract cites stand in specs/Differences.antt, the lemmas about them in proofs/.
 #![tactic(auto)]
 
 ghost use Rattle.part.specs.Answer.{number_outcome};
