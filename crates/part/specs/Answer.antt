@@ -1,6 +1,6 @@
 -- What each answer of the code says: number and value of every refusal, as the papers give them, and the result.
 -- A contract that cites these determines the answer (`refusal_determined` in proofs/Laws.antt).
-use Rattle.std.specs.Prelude.{ℕ}
+use Rattle.std.specs.Prelude.{ℕ, Result, Ok, Err}
 use Rattle.part.specs.Outcome.{Outcome}
 use Rattle.part.specs.Outcome.Outcome.{accepted, refused}
 use Rattle.part.specs.declared.Refusal.{Refusal}
@@ -9,12 +9,6 @@ use Rattle.part.specs.declared.Refusal.TheVariants.{NoSuchValue, BitAboveWidth, 
 use Rattle.part.specs.declared.Refusal.TheVariants.{MisplacedFuseList, WrongFuseSum, WrongTransmissionSum}
 use Rattle.part.specs.declared.Refusal.TheVariants.{BufferTooShort, FuseNotGiven}
 use Rattle.part.specs.declared.Sizes.{Sizes}
-use Rattle.part.specs.declared.SizesAnswer.{SizesAnswer}
-use Rattle.part.specs.declared.SizesAnswer.TheVariants as sizes
-use Rattle.part.specs.declared.DoneAnswer.{DoneAnswer}
-use Rattle.part.specs.declared.DoneAnswer.TheVariants as done
-use Rattle.part.specs.declared.NumberAnswer.{NumberAnswer}
-use Rattle.part.specs.declared.NumberAnswer.TheVariants as answer
 
 -- "no."
 abbrev pub refusal_number : Refusal → ℕ
@@ -48,16 +42,18 @@ refusal_value (WrongTransmissionSum at) = at
 refusal_value (BufferTooShort needed) = needed
 refusal_value (FuseNotGiven fuse) = fuse
 
-abbrev pub sizes_outcome : SizesAnswer → Outcome Sizes
-sizes_outcome (sizes.Of x) = accepted x
-sizes_outcome (sizes.Refused r) = refused (refusal_number r) (refusal_value r)
+-- What an answer of the code says, by what its result says.
+abbrev pub outcome_of : {A B : Type 0} → (A → B) → Result A Refusal → Outcome B
+outcome_of f (Ok x) = accepted (f x)
+outcome_of f (Err r) = refused (refusal_number r) (refusal_value r)
+
+abbrev pub sizes_outcome : Result Sizes Refusal → Outcome Sizes
+sizes_outcome = outcome_of (λ x. x)
 
 -- What an answer that is a plain number says, here and in the crates above.
-abbrev pub number_outcome : NumberAnswer → Outcome ℕ
-number_outcome (answer.Number x) = accepted x
-number_outcome (answer.Refused r) = refused (refusal_number r) (refusal_value r)
+abbrev pub number_outcome : Result ℕ Refusal → Outcome ℕ
+number_outcome = outcome_of (λ x. x)
 
 -- What an answer without a result says.
-abbrev pub done_outcome : DoneAnswer → Outcome (Unit {0})
-done_outcome done.Done = accepted tt
-done_outcome (done.Refused r) = refused (refusal_number r) (refusal_value r)
+abbrev pub done_outcome : Result (Unit {0}) Refusal → Outcome (Unit {0})
+done_outcome = outcome_of (λ x. x)

@@ -50,9 +50,6 @@ pub const MAIN_TEXT: u32 = MAIN_ROWS * MAIN_ROW_TEXT;
 
 pub const SUBAREA_TEXT: u32 = WIRE_AND_ROWS * WIRE_AND_ROW_TEXT;
 
-// What a text has besides its L lines and the digits of the count.
-const TEXT_FRAME: u32 = 3 + (2 + 2) + 4 + (1 + 4 + 2) + (1 + 4);
-
 // The block counts, one test after another: so they compile to one test of a bit.
 pub fn is_block_count(n: u32) -> bool
     ensures { result ≡ is_block_count n }
@@ -75,56 +72,20 @@ pub fn is_block_count(n: u32) -> bool
     n == 16
 }
 
-// What the crates above read of a device.
-pub fn blocks_of(d: Device) -> u32
-    ensures { result ≡ blocks_of d }
-{
-    d.blocks
-}
+impl Device {
+    // How many function blocks a device of these two numbers has.
+    pub fn blocks_of(self) -> u32
+        ensures { result ≡ blocks_of self }
+    {
+        self.blocks
+    }
 
-pub fn is_large(d: Device) -> bool
-    ensures { result ≡ is_large d }
-{
-    d.class == 1
-}
-
-// What a block of a known device has, of so much in its main area and so much in each of its subareas.
-pub fn in_block(d: Device, main: u32, subarea: u32) -> u32
-    requires { (known d ≡ true) × (main ≤ 65535) × (subarea ≤ 65535) }
-    ensures { result ≡ in_block d main subarea }
-{
-    main + d.blocks * subarea
-}
-
-// What all blocks of a known device have, of so much in a main area and so much in a subarea.
-fn in_device(d: Device, main: u32, subarea: u32) -> u32
-    requires { (known d ≡ true) × (main ≤ 65535) × (subarea ≤ 65535) }
-    ensures { result ≡ in_device d main subarea }
-{
-    let each = in_block(d, main, subarea);
-    d.blocks * each
-}
-
-// The sizes of a known device.
-pub fn fuse_count(d: Device) -> u32
-    requires { known d ≡ true }
-    ensures { result ≡ fuse_count d }
-{
-    in_device(d, MAIN_FUSES, SUBAREA_FUSES)
-}
-
-pub fn image_bytes(d: Device) -> u32
-    requires { known d ≡ true }
-    ensures { result ≡ image_bytes d }
-{
-    (fuse_count(d) + 7) / 8
-}
-
-pub fn readout_bytes(d: Device) -> u32
-    requires { known d ≡ true }
-    ensures { result ≡ readout_bytes d }
-{
-    in_device(d, MAIN_BYTES, SUBAREA_BYTES)
+    // Whether its output-enable class is the large one.
+    pub fn is_large(self) -> bool
+        ensures { result ≡ is_large self }
+    {
+        self.class == 1
+    }
 }
 
 // The decimal digits of a count.
@@ -146,13 +107,4 @@ pub fn decimal_digits(x: u32) -> u32
     } else {
         7
     }
-}
-
-pub fn text_bytes(d: Device) -> u32
-    requires { known d ≡ true }
-    ensures { result ≡ text_bytes d }
-{
-    let lines = in_device(d, MAIN_TEXT, SUBAREA_TEXT);
-    let digits = decimal_digits(fuse_count(d));
-    TEXT_FRAME + digits + lines
 }

@@ -7,9 +7,15 @@ ghost use Rattle.part.specs.Device.{known};
 ghost use Rattle.part.specs.Answer.{sizes_outcome, refusal_number, refusal_value};
 ghost use Rattle.part.specs.Sizes.{sizes_of};
 
+use std::error::Error;
+use std::fmt;
+
 pub mod geometry;
+pub mod known_device;
 pub mod places;
 pub mod quotients;
+
+pub use known_device::KnownDevice;
 
 // A device of the family: its number of function blocks, and its output-enable class (0 small, 1 large).
 // Any two numbers; twelve pairs are known.
@@ -93,26 +99,6 @@ pub struct Sizes {
     pub text_bytes: u32,
 }
 
-#[derive(Clone, Copy)]
-pub enum SizesAnswer {
-    Of(Sizes),
-    Refused(Refusal),
-}
-
-// A call that has no result.
-#[derive(Clone, Copy)]
-pub enum DoneAnswer {
-    Done,
-    Refused(Refusal),
-}
-
-// A plain number: a sum, a count.
-#[derive(Clone, Copy)]
-pub enum NumberAnswer {
-    Number(u32),
-    Refused(Refusal),
-}
-
 // The refusal's number in the table of refusals.
 pub fn refusal_number(r: Refusal) -> u32
     ensures { result ≡ refusal_number r }
@@ -164,16 +150,14 @@ pub fn is_known(d: Device) -> bool
 }
 
 // The sizes of a device. Refused: 1.
-pub fn sizes_of(d: Device) -> SizesAnswer
+pub fn sizes_of(d: Device) -> Result<Sizes, Refusal>
     ensures { sizes_outcome result ≡ sizes_of d }
 {
-    if !is_known(d) {
-        return SizesAnswer::Refused(Refusal::UnknownDevice);
-    }
-    SizesAnswer::Of(Sizes {
-        fuses: geometry::fuse_count(d),
-        image_bytes: geometry::image_bytes(d),
-        readout_bytes: geometry::readout_bytes(d),
-        text_bytes: geometry::text_bytes(d),
+    let part = d.known()?;
+    Ok(Sizes {
+        fuses: part.fuse_count(),
+        image_bytes: part.image_bytes(),
+        readout_bytes: part.readout_bytes(),
+        text_bytes: part.text_bytes(),
     })
 }

@@ -1,20 +1,20 @@
 // Where each byte and each fuse lies: the width and the first fuse of a byte; block, row and place of a fuse.
 // For the crates above: a function here may require that the device is known and has the byte or the fuse.
 ghost use Rattle.std.specs.Prelude.{◌≡◌, true, ◌+◌, ◌*◌, ◌-◌, ◌/◌, ◌%◌, ◌^◌, ◌<◌, ◌≤◌};
-ghost use Rattle.part.specs.Device.{known, blocks_of, column_width, column_start, main_fuses, main_row_fuses};
+ghost use Rattle.part.specs.Device.{blocks_of, column_width, column_start, main_fuses, main_row_fuses};
 ghost use Rattle.part.specs.Device.{wire_and_row_fuses, subarea_fuses, block_fuses, fuse_count};
 ghost use Rattle.part.specs.Place.{has_byte, has_place, width_of, column_in_row, bit_in_row, first_fuse, fuse_of_place};
 ghost use Rattle.part.specs.Place.{place_in_main, place_in_wire_and, place_of_fuse};
 
 use super::geometry::{
     MAIN_COLUMNS, MAIN_FUSES, MAIN_PORTIONS, MAIN_ROW_FUSES, MAIN_ROWS, PORTION_ROWS,
-    SUBAREA_FUSES, WIRE_AND_COLUMNS, WIRE_AND_ROW_FUSES, WIRE_AND_ROWS, in_block,
+    SUBAREA_FUSES, WIRE_AND_COLUMNS, WIRE_AND_ROW_FUSES, WIRE_AND_ROWS,
 };
 use super::quotients::{
     MAIN_COLUMN_FACTOR, QuotientAndRest, WIRE_AND_COLUMN_FACTOR, block_factor, divided,
     shifted_product,
 };
-use super::{BytePlace, Device, FuseNumber, Place};
+use super::{BytePlace, Device, FuseNumber, KnownDevice, Place};
 
 // Whether the device has the byte.
 pub fn has_byte(d: Device, byte: BytePlace) -> bool
@@ -75,11 +75,11 @@ pub fn width_of(byte: BytePlace) -> u32
 }
 
 // The number of the first fuse of a byte.
-fn first_fuse(d: Device, byte: BytePlace) -> FuseNumber
-    requires { (known d ≡ true) × (has_byte d byte ≡ true) }
-    ensures { result.0 ≡ first_fuse d byte }
+fn first_fuse(d: KnownDevice, byte: BytePlace) -> FuseNumber
+    requires { has_byte d.device byte ≡ true }
+    ensures { result.0 ≡ first_fuse d.device byte }
 {
-    let per_block = in_block(d, MAIN_FUSES, SUBAREA_FUSES);
+    let per_block = d.in_block(MAIN_FUSES, SUBAREA_FUSES);
     match byte {
         BytePlace::Main { block, row, column } => {
             let start = column_start(9, 6, column);
@@ -99,9 +99,9 @@ fn first_fuse(d: Device, byte: BytePlace) -> FuseNumber
 }
 
 // The number of the fuse at a place.
-pub fn fuse_of_place(d: Device, place: Place) -> FuseNumber
-    requires { (known d ≡ true) × (has_place d place ≡ true) }
-    ensures { result.0 ≡ fuse_of_place d place }
+pub fn fuse_of_place(d: KnownDevice, place: Place) -> FuseNumber
+    requires { has_place d.device place ≡ true }
+    ensures { result.0 ≡ fuse_of_place d.device place }
 {
     let byte = place.byte;
     let first = first_fuse(d, byte);
@@ -137,20 +137,19 @@ fn column_and_bit(wide: u32, narrow: u32, factor: u64, rest: u32) -> ColumnBit
 
 // The block of a fuse: the first step of the forward routine of document 003. A number that is no fuse of the device
 // gets a block that the device has not, so that a test of the block is also the test of refusal 3.
-pub fn block_of_fuse(d: Device, fuse: FuseNumber) -> u32
-    requires { known d ≡ true }
-    ensures { (fuse.0 < fuse_count d → result ≡ fuse.0 / block_fuses d)
-        × (result < blocks_of d → fuse.0 < fuse_count d) }
+pub fn block_of_fuse(d: KnownDevice, fuse: FuseNumber) -> u32
+    ensures { (fuse.0 < fuse_count d.device → result ≡ fuse.0 / block_fuses d.device)
+        × (result < blocks_of d.device → fuse.0 < fuse_count d.device) }
 {
     shifted_product(fuse.0, block_factor(d), 32)
 }
 
 // The portions of the blocks before a block.
-pub fn portions_before(d: Device, block: u32) -> u32
-    requires { (known d ≡ true) × (block < 16) }
-    ensures { result * subarea_fuses ≡ block * block_fuses d }
+pub fn portions_before(d: KnownDevice, block: u32) -> u32
+    requires { block < 16 }
+    ensures { result * subarea_fuses ≡ block * block_fuses d.device }
 {
-    let per_block = in_block(d, MAIN_PORTIONS, 1);
+    let per_block = d.in_block(MAIN_PORTIONS, 1);
     block * per_block
 }
 
@@ -225,9 +224,9 @@ fn wire_and_place(block: u32, fuse: FuseNumber, before: u32, portion: u32) -> Pl
     }
 }
 
-pub fn place_of_fuse(d: Device, fuse: FuseNumber) -> Place
-    requires { (known d ≡ true) × (fuse.0 < fuse_count d) }
-    ensures { result ≡ place_of_fuse d fuse.0 }
+pub fn place_of_fuse(d: KnownDevice, fuse: FuseNumber) -> Place
+    requires { fuse.0 < fuse_count d.device }
+    ensures { result ≡ place_of_fuse d.device fuse.0 }
 {
     let block = block_of_fuse(d, fuse);
     let before = portions_before(d, block);

@@ -1,9 +1,9 @@
 // Quotients and remainders by products that are exact for all that they are asked for: nothing is divided here.
 // A function here requires what makes its product exact.
-ghost use Rattle.std.specs.Prelude.{◌≡◌, true, ◌+◌, ◌*◌, ◌/◌, ◌%◌, ◌^◌, ◌<◌};
-ghost use Rattle.part.specs.Device.{known, block_fuses};
+ghost use Rattle.std.specs.Prelude.{◌≡◌, ◌+◌, ◌*◌, ◌/◌, ◌%◌, ◌^◌, ◌<◌};
+ghost use Rattle.part.specs.Device.{block_fuses};
 
-use super::Device;
+use super::KnownDevice;
 
 // A quotient, and what is left.
 #[derive(Clone, Copy)]
@@ -41,11 +41,10 @@ pub const MAIN_COLUMN_FACTOR: u64 = 43;
 pub const WIRE_AND_COLUMN_FACTOR: u64 = 37;
 
 // The factor that divides the number of a fuse by the fuses of a block, with the shift 32.
-pub fn block_factor(d: Device) -> u64
-    requires { known d ≡ true }
-    ensures { result ≡ 2 ^ 32 / block_fuses d + 1 }
+pub fn block_factor(d: KnownDevice) -> u64
+    ensures { result ≡ 2 ^ 32 / block_fuses d.device + 1 }
 {
-    let n = d.blocks;
+    let n = d.blocks();
     match n {
         2 => 473432,
         4 => 414253,

@@ -8,7 +8,7 @@ use Rattle.part.specs.Outcome.Outcome.{accepted, refused}
 use Rattle.part.specs.Device.{known, fuse_count, image_bytes, readout_bytes, text_bytes}
 use Rattle.part.specs.Sizes.{sizes_of}
 use Rattle.part.specs.declared.Device.{Device}
-use Rattle.part.proofs.Devices.{is_known, is_unknown}
+use Rattle.part.proofs.Known.{refused_unknown}
 use Rattle.part.proofs.sizes_of.Goals as goal
 
 no_device : (d : Device) → known d ≡ false → refused 1 0 ≡ sizes_of d
@@ -20,8 +20,8 @@ the_sizes : (d : Device) (f i r t : ℕ) → known d ≡ true → f ≡ fuse_cou
 unfolding sizes_of
 the_sizes d f i r t k e1 e2 e3 e4 = rw (k, e1, e2, e3, e4)
 
-pub returns-then-not-is_known : goal.returns-then-not-is_known
-returns-then-not-is_known c = search (rules, is_unknown, no_device)
+pub returns-in_err-part : goal.returns-in_err-part
+returns-in_err-part c = search (rules, refused_unknown, no_device)
 
 pub returns : goal.returns
-returns c = search (rules, is_known, the_sizes)
+returns c = rw (← c.in_ok-part.ensures) (search (rules, the_sizes))

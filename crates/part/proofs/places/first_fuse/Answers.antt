@@ -46,16 +46,16 @@ in_main_lem : (c : goal.After-column_start-start)
     → Small c.in-Main.block c.in_block-per_block.result 0
     c.in-Main.row c.column_start-start.result 72
 in_main_lem c =
-    main_small c.args.d c.args.byte _ _ _ _ _
-    c.requires.0 c.requires.1
+    main_small c.args.d.device c.args.byte _ _ _ _ _
+    c.args.d.is_known c.requires
     c.in-Main.is c.in_block-per_block.ensures c.column_start-start.ensures
 
 in_wire_and_lem : (c : goal.After-column_start-start-in-WireAnd)
     → Small c.in-WireAnd.block c.in_block-per_block.result
     c.in-WireAnd.subarea c.in-WireAnd.row c.column_start-start-in-WireAnd.result 18
 in_wire_and_lem c =
-    wire_and_small c.args.d c.args.byte _ _ _ _ _ _
-    c.requires.0 c.requires.1
+    wire_and_small c.args.d.device c.args.byte _ _ _ _ _ _
+    c.args.d.is_known c.requires
     c.in-WireAnd.is c.in_block-per_block.ensures c.column_start-start-in-WireAnd.ensures
 
 pub overflow_mul-result : goal.overflow_mul-result

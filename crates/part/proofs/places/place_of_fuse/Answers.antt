@@ -11,8 +11,8 @@ use Rattle.part.proofs.places.place_of_fuse.Goals as goal
 
 -- The block, since the device has the fuse.
 the_block : (c : goal.After-block_of_fuse-block)
-    → c.block_of_fuse-block.result ≡ c.args.fuse.0 / block_fuses c.args.d
-the_block c = c.block_of_fuse-block.ensures.0 c.requires.1
+    → c.block_of_fuse-block.result ≡ c.args.fuse.0 / block_fuses c.args.d.device
+the_block c = c.block_of_fuse-block.ensures.0 c.requires
 
 pub portions_before-before-requires : goal.portions_before-before-requires
 portions_before-before-requires c = search (rules, the_block, block_small)

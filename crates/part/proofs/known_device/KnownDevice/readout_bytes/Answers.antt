@@ -1,7 +1,7 @@
 -- `readout_bytes` meets its contract: the definition's two numbers are the constants'.
 -- Assumes nothing.
 use Rattle.part.specs.Device.{readout_bytes}
-use Rattle.part.proofs.geometry.readout_bytes.Goals as goal
+use Rattle.part.proofs.known_device.KnownDevice.readout_bytes.Goals as goal
 
 pub returns : goal.returns
 unfolding readout_bytes
