@@ -10,5 +10,5 @@ pub mod Devices
 pub mod Portions
 pub mod Checks
 pub mod Targets
-pub mod Known
+pub mod Refused
 pub mod Laws

@@ -74,7 +74,7 @@ pub fn is_block_count(n: u32) -> bool
 
 impl Device {
     // How many function blocks a device of these two numbers has.
-    pub fn blocks_of(self) -> u32
+    pub fn block_count(self) -> u32
         ensures { result ≡ blocks_of self }
     {
         self.blocks

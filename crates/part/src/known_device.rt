@@ -8,10 +8,10 @@ ghost use Rattle.part.specs.declared.Refusal.TheVariants.{UnknownDevice};
 use super::geometry::{
     MAIN_BYTES, MAIN_FUSES, MAIN_TEXT, SUBAREA_BYTES, SUBAREA_FUSES, SUBAREA_TEXT, decimal_digits,
 };
-use super::{Device, Refusal, is_known};
+use super::{Device, Refusal};
 
 // A device of the family that is known.
-#[derive(Clone, Copy)]
+#[derive(Clone, Copy, Debug, PartialEq, Eq)]
 pub struct KnownDevice {
     pub device: Device,
     pub ghost is_known: { known device ≡ true },
@@ -20,13 +20,15 @@ pub struct KnownDevice {
 // What a text has besides its L lines and the digits of the count.
 const TEXT_FRAME: u32 = 3 + (2 + 2) + 4 + (1 + 4 + 2) + (1 + 4);
 
-impl Device {
+impl TryFrom<Device> for KnownDevice {
+    type Error = Refusal;
+
+    ghost try_from_gives = { λ d r. MatchResult r (λ k. k.device ≡ d) (λ e. (e ≡ UnknownDevice) × (known d ≡ false)) };
+
     // The device, if it is one of the twelve. Refused: 1.
-    pub fn known(self) -> Result<KnownDevice, Refusal>
-        ensures { MatchResult result (λ k. k.device ≡ self) (λ r. (r ≡ UnknownDevice) × (known self ≡ false)) }
-    {
-        if is_known(self) {
-            Ok(KnownDevice { device: self })
+    fn try_from(device: Device) -> Result<Self, Refusal> {
+        if device.is_known() {
+            Ok(KnownDevice { device })
         } else {
             Err(Refusal::UnknownDevice)
         }

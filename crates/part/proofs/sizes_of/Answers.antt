@@ -8,7 +8,7 @@ use Rattle.part.specs.Outcome.Outcome.{accepted, refused}
 use Rattle.part.specs.Device.{known, fuse_count, image_bytes, readout_bytes, text_bytes}
 use Rattle.part.specs.Sizes.{sizes_of}
 use Rattle.part.specs.declared.Device.{Device}
-use Rattle.part.proofs.Known.{refused_unknown}
+use Rattle.part.proofs.Refused.{refused_with}
 use Rattle.part.proofs.sizes_of.Goals as goal
 
 no_device : (d : Device) → known d ≡ false → refused 1 0 ≡ sizes_of d
@@ -21,7 +21,7 @@ unfolding sizes_of
 the_sizes d f i r t k e1 e2 e3 e4 = rw (k, e1, e2, e3, e4)
 
 pub returns-in_err-part : goal.returns-in_err-part
-returns-in_err-part c = search (rules, refused_unknown, no_device)
+returns-in_err-part c = search (rules, refused_with, no_device)
 
 pub returns : goal.returns
 returns c = rw (← c.in_ok-part.ensures) (search (rules, the_sizes))

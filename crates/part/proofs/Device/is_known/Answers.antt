@@ -5,7 +5,7 @@ use mathlib.Core.Bool.{Bool, ◌&&◌}
 use borrow.Author.Rules.{rules}
 use Rattle.part.specs.Device.{is_block_count, is_class, known}
 use Rattle.part.specs.declared.Device.{Device}
-use Rattle.part.proofs.is_known.Goals as goal
+use Rattle.part.proofs.Device.is_known.Goals as goal
 
 both_tests : (d : Device) (t : Bool) → t ≡ is_block_count d.blocks → (t && is_class d.class) ≡ known d
 unfolding known
