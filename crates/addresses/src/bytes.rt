@@ -1,17 +1,15 @@
 // The address of a byte, composed of its fields; the byte of an address, the position of a fuse, the index of a byte.
 // For the crates above: a function here may require that the device has the byte, or that its numbers are small.
 ghost use Rattle.std.specs.Prelude.{◌≡◌, true, ◌+◌, ◌*◌, ◌-◌, ◌/◌, ◌%◌, ◌^◌, ◌<◌, ◌≤◌};
-ghost use Rattle.part.specs.Device.{known, main_row_fuses, main_fuses, wire_and_row_fuses, subarea_fuses};
+ghost use Rattle.part.specs.Device.{main_row_fuses, main_fuses, wire_and_row_fuses, subarea_fuses};
 ghost use Rattle.part.specs.Place.{has_byte, column_in_row, bit_in_row, place_in_block};
 ghost use Rattle.addresses.specs.Address.{field, address_of_byte, byte_of_address, index_of_byte};
 
 use super::DeviceAddress;
-use part::geometry::{
-    MAIN_BYTES, MAIN_COLUMNS, MAIN_PORTIONS, SUBAREA_BYTES, WIRE_AND_COLUMNS, in_block,
-};
+use part::geometry::{MAIN_BYTES, MAIN_COLUMNS, MAIN_PORTIONS, SUBAREA_BYTES, WIRE_AND_COLUMNS};
 use part::places::{main_row, portion_of_fuse, wire_and_row};
 use part::quotients::{MAIN_COLUMN_FACTOR, WIRE_AND_COLUMN_FACTOR, divided};
-use part::{BytePlace, Device, FuseNumber};
+use part::{BytePlace, FuseNumber, KnownDevice};
 
 // Where the columns 5 and 10 of a main row begin: 40 and 78 bits.
 const COLUMN_5: u32 = 5 * 8;
@@ -35,8 +33,8 @@ fn field_of(x: u32, from: u32, width: u32) -> u32
 }
 
 // The address of a byte of the device.
-pub fn address_of_byte(d: Device, byte: BytePlace) -> DeviceAddress
-    requires { (known d ≡ true) × (has_byte d byte ≡ true) }
+pub fn address_of_byte(d: KnownDevice, byte: BytePlace) -> DeviceAddress
+    requires { has_byte d.device byte ≡ true }
     ensures { result.0 ≡ address_of_byte byte }
 {
     match byte {
@@ -135,11 +133,11 @@ pub fn byte_of_address(a: DeviceAddress) -> BytePlace
 }
 
 // The index of a byte in a readout.
-pub fn index_of_byte(d: Device, byte: BytePlace) -> u32
-    requires { (known d ≡ true) × (has_byte d byte ≡ true) }
-    ensures { result ≡ index_of_byte d byte }
+pub fn index_of_byte(d: KnownDevice, byte: BytePlace) -> u32
+    requires { has_byte d.device byte ≡ true }
+    ensures { result ≡ index_of_byte d.device byte }
 {
-    let per_block = in_block(d, MAIN_BYTES, SUBAREA_BYTES);
+    let per_block = d.in_block(MAIN_BYTES, SUBAREA_BYTES);
     match byte {
         BytePlace::Main { block, row, column } => block * per_block + (row * MAIN_COLUMNS + column),
         BytePlace::WireAnd {

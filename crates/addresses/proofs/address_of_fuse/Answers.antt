@@ -1,7 +1,7 @@
 -- `address_of_fuse` meets its contract: the tests are the definition's, and a position has the address above its lowest three bits.
 -- Assumes nothing.
 use mathlib.Core.Path.{◌≡◌, ◌∙◌, ap}
-use mathlib.Core.Bool.{Bool, true, false}
+use mathlib.Core.Bool.{true, false}
 use Prim.Native.Nat.{ℕ, ◌+◌, ◌*◌, ◌-◌, ◌/◌, ◌%◌, ◌<◌, ◌≤◌}
 use native.Mathlib.Nat.{mod-lt}
 use native.Mathlib.Omega.{arith}
@@ -14,7 +14,8 @@ use Rattle.part.specs.Device.{known, main_fuses, subarea_fuses, block_fuses, fus
 use Rattle.part.specs.Place.{place_in_block, place_of_fuse}
 use Rattle.part.specs.declared.Device.{Device}
 use Rattle.part.proofs.Facts.{compared}
-use Rattle.part.proofs.Devices.{is_known, is_unknown, blocks_small}
+use Rattle.part.proofs.Devices.{blocks_small}
+use Rattle.part.proofs.Refused.{refused_with}
 use Rattle.part.proofs.Fuses.{block_inside}
 use Rattle.part.proofs.Portions.{block_small, fuse_small, before_fits, left_in_block}
 use Rattle.addresses.specs.Address.{address_of_byte}
@@ -64,33 +65,28 @@ the_address d fuse block before p k h e g f =
     let bit : p % 8 ≡ place.bit = ap (λ (x : ℕ). x % 8) f ∙ digits_mod _ small in
     rw (k, lt-ltb fuse (fuse_count d) h, address, bit, e, g)
 
--- What is known where the block is one of the device: the device, that it has the fuse, and that this is its block.
-found : (d : Device) (fuse block n : ℕ) (t : Bool) → t ≡ known d → t ≡ true → n ≡ d.blocks → block < n
+-- What is known where the block is one of the device: that it has the fuse, and that this is its block.
+found : (d : Device) (fuse block n : ℕ) → n ≡ d.blocks → block < n
     → (fuse < fuse_count d → block ≡ fuse / block_fuses d) × (block < d.blocks → fuse < fuse_count d)
-    → (known d ≡ true) × (fuse < fuse_count d) × (block ≡ fuse / block_fuses d)
-found d fuse block n t e k f h says =
-    let has = has_fuse d fuse block n f h says.1 in (is_known d t e k, has, says.0 has)
+    → (fuse < fuse_count d) × (block ≡ fuse / block_fuses d)
+found d fuse block n f h says = let has = has_fuse d fuse block n f h says.1 in (has, says.0 has)
 
-pub returns-then-not-is_known : goal.returns-then-not-is_known
-returns-then-not-is_known c = search (rules, is_unknown, no_device)
+pub returns-in_err-part : goal.returns-in_err-part
+returns-in_err-part c = search (rules, refused_with, no_device)
 
-pub returns-then-blocks_of-block : goal.returns-then-blocks_of-block
-returns-then-blocks_of-block c = search (rules, is_known, no_fuse_lem, past_the_last)
+pub returns-then-blocks-block : goal.returns-then-blocks-block
+returns-then-blocks-block c = rw (← c.in_ok-part.ensures) (search (rules, no_fuse_lem, past_the_last))
 
 pub portions_before-before-requires : goal.portions_before-before-requires
 portions_before-before-requires c =
-    let at = found _ _ _ _ _ c.is_known.ensures c.if-not-is_known.false c.blocks_of.ensures c.if-blocks_of-block.false
-    c.block_of_fuse-block.ensures in
-    search (rules, at, block_small)
+    let at = found _ _ _ _ c.blocks-2.ensures c.if-blocks-block.false c.block_of_fuse-block.ensures in search (rules, at, block_small)
 
 pub position_of_fuse-position-requires : goal.position_of_fuse-position-requires
 position_of_fuse-position-requires c =
-    let at = found _ _ _ _ _ c.is_known.ensures c.if-not-is_known.false c.blocks_of.ensures c.if-blocks_of-block.false
-    c.block_of_fuse-block.ensures in
+    let at = found _ _ _ _ c.blocks-2.ensures c.if-blocks-block.false c.block_of_fuse-block.ensures in
     search (rules, at, block_small, fuse_small, before_fits, left_in_block, rest_small)
 
 pub returns : goal.returns
 returns c =
-    let at = found _ _ _ _ _ c.is_known.ensures c.if-not-is_known.false c.blocks_of.ensures c.if-blocks_of-block.false
-    c.block_of_fuse-block.ensures in
-    search (rules, at, left_in_block, the_address)
+    let at = found _ _ _ _ c.blocks-2.ensures c.if-blocks-block.false c.block_of_fuse-block.ensures in
+    rw (← c.in_ok-part.ensures) (search (rules, at, left_in_block, the_address))

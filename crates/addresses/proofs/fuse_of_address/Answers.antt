@@ -1,11 +1,11 @@
 -- `fuse_of_address` meets its contract: the tests are those of a valid address and of a bit within its width.
 -- Assumes nothing.
 use mathlib.Core.Path.{◌≡◌, ◌∙◌, sym}
-use mathlib.Core.Bool.{Bool, true, false, not, and-false}
+use mathlib.Core.Bool.{Bool, true, false, and-false}
 use Prim.Native.Nat.{ℕ, ◌<◌, ◌≤◌}
 use native.Mathlib.Omega.{arith}
 use borrow.Author.Rules.{rules}
-use borrow.Author.Tests.{lt-ltb, le-ltb, eq-eqb, ne_eqb, not-true, not-false}
+use borrow.Author.Tests.{lt-ltb, le-ltb, eq-eqb, ne_eqb}
 use Rattle.part.specs.Outcome.Outcome.{accepted, refused}
 use Rattle.part.specs.Device.{known}
 use Rattle.part.specs.Place.{has_place, has_byte, width_of, fuse_of_place}
@@ -14,8 +14,12 @@ use Rattle.addresses.specs.Convert.{fuse_of_address}
 use Rattle.part.specs.declared.Device.{Device}
 use Rattle.part.specs.declared.BytePlace.{BytePlace}
 use Rattle.part.proofs.Facts.{and_iff}
-use Rattle.part.proofs.Devices.{is_known, is_unknown}
+use Rattle.part.proofs.Refused.{refused_with}
 use Rattle.addresses.proofs.fuse_of_address.Goals as goal
+
+no_device : (d : Device) (address bit : ℕ) → known d ≡ false → refused 1 0 ≡ fuse_of_address d address bit
+unfolding fuse_of_address
+no_device d address bit k = rw k
 
 -- The answer by cases: what the code has found at each return, and the definition's answer.
 module _ (d : Device) (address bit : ℕ) (k : known d ≡ true) (byte : BytePlace) (named : byte ≡ byte_of_address address) where
@@ -46,26 +50,20 @@ has_place_lem : (d : Device) (byte : BytePlace) (t : Bool) (bit width : ℕ) →
 unfolding has_place
 has_place_lem d byte t bit width e h f hb = (and_iff _ _).1 (has d byte t e h, lt-ltb bit (width_of byte) (omega arith))
 
-pub returns-then-not-is_known : goal.returns-then-not-is_known
-unfolding fuse_of_address
-returns-then-not-is_known c = rw (is_unknown _ _ c.is_known.ensures c.if-not-is_known.true)
+pub returns-in_err-part : goal.returns-in_err-part
+returns-in_err-part c = search (rules, refused_with, no_device)
 
 pub returns-then-not-has_byte : goal.returns-then-not-has_byte
-returns-then-not-has_byte c = search (rules, is_known, no_byte)
+returns-then-not-has_byte c = rw (← c.in_ok-part.ensures) (search (rules, no_byte))
 
-pub returns-then-composed-address : goal.returns-then-composed-address
-returns-then-composed-address c = search (rules, is_known, other_address)
+pub returns-then-ne : goal.returns-then-ne
+returns-then-ne c = rw (← c.in_ok-part.ensures) (search (rules, other_address))
 
 pub returns-then-width_of-bit : goal.returns-then-width_of-bit
-returns-then-width_of-bit c = search (rules, is_known, no_bit_lem)
+returns-then-width_of-bit c = rw (← c.in_ok-part.ensures) (search (rules, no_bit_lem))
 
 pub fuse_of_place-requires : goal.fuse_of_place-requires
-fuse_of_place-requires c =
-    let with_byte = c in (
-      search (rules, is_known),
-      has_place_lem _ _ _ _ _ with_byte.has_byte.ensures with_byte.if-not-has_byte.false c.width_of.ensures
-          c.if-width_of-bit.false,
-    )
+fuse_of_place-requires c = rw c.in_ok-part.ensures (search (rules, has_place_lem))
 
 pub returns : goal.returns
-returns c = search (rules, is_known, the_fuse)
+returns c = rw (← c.in_ok-part.ensures) (search (rules, the_fuse))

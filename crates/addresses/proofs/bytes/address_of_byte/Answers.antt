@@ -24,13 +24,13 @@ wire_and_parts d byte block subarea row column k h e =
     let facts = simp tests at (rw e at h) in omega (arith, blocks_small d k)
 
 pub with_field-requires : goal.with_field-requires
-with_field-requires c = omega (arith, main_parts _ _ _ _ _ c.requires.0 c.requires.1 c.in-Main.is)
+with_field-requires c = omega (arith, main_parts _ _ _ _ _ c.args.d.is_known c.requires c.in-Main.is)
 
 pub with_field-subareas-requires : goal.with_field-subareas-requires
-with_field-subareas-requires c = omega (arith, wire_and_parts _ _ _ _ _ _ c.requires.0 c.requires.1 c.in-WireAnd.is)
+with_field-subareas-requires c = omega (arith, wire_and_parts _ _ _ _ _ _ c.args.d.is_known c.requires c.in-WireAnd.is)
 
 pub with_field-area-requires-in-WireAnd : goal.with_field-area-requires-in-WireAnd
-with_field-area-requires-in-WireAnd c = omega (arith, wire_and_parts _ _ _ _ _ _ c.requires.0 c.requires.1 c.in-WireAnd.is)
+with_field-area-requires-in-WireAnd c = omega (arith, wire_and_parts _ _ _ _ _ _ c.args.d.is_known c.requires c.in-WireAnd.is)
 
 pub with_field-requires-in-WireAnd : goal.with_field-requires-in-WireAnd
-with_field-requires-in-WireAnd c = omega (arith, wire_and_parts _ _ _ _ _ _ c.requires.0 c.requires.1 c.in-WireAnd.is)
+with_field-requires-in-WireAnd c = omega (arith, wire_and_parts _ _ _ _ _ _ c.args.d.is_known c.requires c.in-WireAnd.is)

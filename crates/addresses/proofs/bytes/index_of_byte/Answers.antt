@@ -33,31 +33,31 @@ module _ (d : Device) (byte : BytePlace) where
 pub overflow_mul-result : goal.overflow_mul-result
 overflow_mul-result c = omega (
   arith,
-  in_main_lem c.args.d c.args.byte _ _ _
-      c.in_block-per_block.result c.requires.0 c.requires.1
+  in_main_lem c.args.d.device c.args.byte _ _ _
+      c.in_block-per_block.result c.args.d.is_known c.requires
       c.in-Main.is c.in_block-per_block.ensures,
 )
 
 pub overflow_add-result-in-Main : goal.overflow_add-result-in-Main
 overflow_add-result-in-Main c = omega (
   arith,
-  in_main_lem c.args.d c.args.byte _ _ _
-      c.in_block-per_block.result c.requires.0 c.requires.1
+  in_main_lem c.args.d.device c.args.byte _ _ _
+      c.in_block-per_block.result c.args.d.is_known c.requires
       c.in-Main.is c.in_block-per_block.ensures,
 )
 
 pub overflow_mul-result-in-WireAnd : goal.overflow_mul-result-in-WireAnd
 overflow_mul-result-in-WireAnd c = omega (
   arith,
-  in_wire_and_lem c.args.d c.args.byte _ _ _ _
-      c.in_block-per_block.result c.requires.0 c.requires.1
+  in_wire_and_lem c.args.d.device c.args.byte _ _ _ _
+      c.in_block-per_block.result c.args.d.is_known c.requires
       c.in-WireAnd.is c.in_block-per_block.ensures,
 )
 
 pub overflow_add-result-in-WireAnd-3 : goal.overflow_add-result-in-WireAnd-3
 overflow_add-result-in-WireAnd-3 c = omega (
   arith,
-  in_wire_and_lem c.args.d c.args.byte _ _ _ _
-      c.in_block-per_block.result c.requires.0 c.requires.1
+  in_wire_and_lem c.args.d.device c.args.byte _ _ _ _
+      c.in_block-per_block.result c.args.d.is_known c.requires
       c.in-WireAnd.is c.in_block-per_block.ensures,
 )
