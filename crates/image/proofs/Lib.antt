@@ -3,5 +3,6 @@
 pub mod Bits
 pub mod Pairs
 pub mod Counts
+pub mod Checked
 pub mod Numbers
 pub mod Images

@@ -1,6 +1,6 @@
 -- `copy` meets its contract: the bytes copied so far are those of the other.
 -- Assumes nothing.
-use Rattle.std.proofs.Common.{◌≡◌, ℕ, ◌+◌, ◌-◌, ◌<◌, ◌≤◌, List, [], ◌∷◌, ◌++◌, length, get_or, set, sym, refl, ap, ◌∙◌, add-one, arith, length-set, take_all, take-suc, take-suc-set, rules}
+use Rattle.std.proofs.Common.{◌≡◌, ℕ, ◌+◌, ◌<◌, ◌≤◌, List, [], ◌∷◌, ◌++◌, length, get_or, set, sym, refl, ap, ◌∙◌, add-one, arith, length-set, take_all, take-suc, take-suc-set, rules}
 use Rattle.image.proofs.bytes.copy.Invariants.{Copied}
 use Rattle.image.proofs.bytes.copy.Goals as goal
 

@@ -1,6 +1,6 @@
 -- `ones_of` meets its contract. The invariant of both loops, said of what is left: the ones so far and those still to come.
 -- Assumes nothing.
-use Rattle.std.proofs.Common.{◌≡◌, ℕ, ◌+◌, ◌-◌, ◌≤◌, List, length, drop, replicate, add-zero, arith, length-drop, drop_of_length-le, drop-drop, w64, Fits, rules}
+use Rattle.std.proofs.Common.{◌≡◌, ℕ, ◌+◌, ◌≤◌, List, length, drop, replicate, add-zero, arith, length-drop, drop_of_length-le, drop-drop, w64, Fits, rules}
 use lib.Count.{ones as onesOf}
 use Rattle.cells.specs.Cells.{join}
 use Rattle.image.specs.Bits.{ones_in}
