@@ -1,4 +1,3 @@
 -- The laws of `values` that belong to no one function.
 -- Assumes nothing.
-pub mod Facts
 pub mod Laws

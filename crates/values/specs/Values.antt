@@ -1,6 +1,7 @@
 -- Which value each pattern stands for: document 003's assignment lists, in its order.
 -- A pattern is a number whose bit b is the state of the fuse of bit b; in print the highest bit stands left.
 use Rattle.std.specs.Prelude.{ℕ, ◌+◌, ◌*◌, ◌-◌, ◌^◌, Bool, true, false, cond, ◌||◌, List, [], ◌∷◌, eqb}
+use Rattle.std.specs.Prelude.{Result, Ok, Err}
 use Rattle.values.specs.declared.TermAlloc.TheVariants as termAlloc
 use Rattle.values.specs.declared.ImportAlloc.TheVariants as importAlloc
 use Rattle.values.specs.declared.ExportDir.TheVariants as exportDir
@@ -14,6 +15,7 @@ use Rattle.values.specs.declared.UimOeMux.TheVariants as uimOeMux
 use Rattle.values.specs.declared.IobSlew.TheVariants as iobSlew
 use Rattle.values.specs.declared.FclkMux.TheVariants as fclkMux
 use Rattle.values.specs.declared.FoeMux.TheVariants as foeMux
+use Rattle.values.specs.declared.NoName.{NoName}
 use Rattle.values.specs.declared.Value.{Value}
 use Rattle.values.specs.declared.Value.TheVariants as value
 use Rattle.values.specs.declared.Kind.{Kind}
@@ -30,6 +32,11 @@ bits3 b2 b1 b0 = 4 * b2 + 2 * b1 + b0
 unfoldable pub named : List (ℕ × Value) → ℕ → Value
 named [] pattern = value.Unassigned pattern
 named (entry ∷ entries) pattern = cond (eqb pattern entry.0) entry.1 (named entries pattern)
+
+-- What the answer of a search in a list of names says: the value of the name that it gives, or Unassigned.
+abbrev pub value_by : {A : Type 0} → (A → Value) → Result A NoName → Value
+value_by name (Ok x) = name x
+value_by name (Err pattern) = value.Unassigned pattern.0
 
 -- 003, "The fuse combination assignments are": PT[*].ALLOC.
 abbrev pub term_allocs : List (ℕ × Value)
