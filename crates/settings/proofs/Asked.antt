@@ -1,8 +1,7 @@
 -- What the code's test of a setting says, for the operations that ask for one.
 -- Assumes nothing.
 use mathlib.Core.Path.{◌≡◌, sym, ◌∙◌}
-use mathlib.Core.Bool.{Bool, true, false, not}
-use borrow.Author.Tests.{not-true, not-false}
+use mathlib.Core.Bool.{Bool, true, false}
 use Rattle.part.specs.declared.Device.{Device}
 use Rattle.settings.specs.Settings.{has_setting}
 use Rattle.settings.specs.declared.Setting.{Setting}

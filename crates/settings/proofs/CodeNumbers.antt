@@ -12,7 +12,7 @@ use Rattle.part.proofs.Devices.{by_count, known_count}
 use Rattle.settings.specs.Fields.{foes, polarity_index, macrocell_fields, macrocell_index, block_index, global_fields}
 use Rattle.settings.specs.Fields.{global_index}
 use Rattle.settings.specs.Settings.{has_setting}
-use Rattle.settings.specs.Order.{at, start, count_of, number_of}
+use Rattle.settings.specs.Order.{start, count_of, number_of}
 use Rattle.settings.specs.Order.Group.{wire_ands, macrocell_settings, block_settings, globals}
 use Rattle.settings.specs.declared.Polarity.{Polarity}
 use Rattle.settings.specs.declared.MacrocellField.{MacrocellField}
@@ -63,27 +63,28 @@ module _ (d : Device) (k : known d ≡ true) where
   numbered_small : (s : Setting) (r : ℕ) → has_setting d s ≡ true → r ≡ number_of d s → Numbered r s
   numbered_small s r h e = (e, omega (arith, number_below d s h, count_small d k))
 
-  pub literal_number : (block j t l : ℕ) (p : Polarity) (i : ℕ) → has_setting d (Literal block j t l p) ≡ true → i ≡ polarity_index p
-      → Numbered (block * 6480 + (j * 360 + (t * 72 + (l * 2 + i)))) (Literal block j t l p)
-  unfolding number_of
-  literal_number block j t l p i h g = numbered_small (Literal block j t l p) _ h (rw g (omega arith))
+  module _ (s : Setting) (h : has_setting d s ≡ true) where
+    pub literal_number : (block j t l : ℕ) (p : Polarity) (i : ℕ) → s ≡ Literal block j t l p → i ≡ polarity_index p
+        → Numbered (block * 6480 + (j * 360 + (t * 72 + (l * 2 + i)))) s
+    unfolding number_of
+    literal_number block j t l p i e g = numbered_small s _ h (rw (e, g) (omega arith))
 
-  pub wire_and_number : (i j t l n first : ℕ) → has_setting d (WireAnd i j t l) ≡ true → n ≡ blocks_of d → first ≡ start d wire_ands
-      → Numbered (first + (i * (36 * (n * 18)) + (j * (n * 18) + (t * 18 + l)))) (WireAnd i j t l)
-  unfolding number_of
-  wire_and_number i j t l n first h g f = numbered_small (WireAnd i j t l) _ h (rw (f, g) (omega arith))
+    pub wire_and_number : (i j t l n first : ℕ) → s ≡ WireAnd i j t l → n ≡ blocks_of d → first ≡ start d wire_ands
+        → Numbered (first + (i * (36 * (n * 18)) + (j * (n * 18) + (t * 18 + l)))) s
+    unfolding number_of
+    wire_and_number i j t l n first e g f = numbered_small s _ h (rw (e, f, g) (omega arith))
 
-  pub macrocell_number : (block m : ℕ) (f : MacrocellField) (i first : ℕ) → has_setting d (Macrocell block m f) ≡ true
-      → i ≡ macrocell_index f → first ≡ start d macrocell_settings → Numbered (first + (block * 486 + (m * 27 + i))) (Macrocell block m f)
-  unfolding number_of
-  macrocell_number block m f i first h g e = numbered_small (Macrocell block m f) _ h (rw (e, g) (omega arith))
+    pub macrocell_number : (block m : ℕ) (f : MacrocellField) (i first : ℕ) → s ≡ Macrocell block m f
+        → i ≡ macrocell_index f → first ≡ start d macrocell_settings → Numbered (first + (block * 486 + (m * 27 + i))) s
+    unfolding number_of
+    macrocell_number block m f i first w g e = numbered_small s _ h (rw (w, e, g) (omega arith))
 
-  pub block_number : (block : ℕ) (f : BlockField) (i first : ℕ) → has_setting d (Block block f) ≡ true
-      → i ≡ block_index f → first ≡ start d block_settings → Numbered (first + (block * 6 + i)) (Block block f)
-  unfolding number_of
-  block_number block f i first h g e = numbered_small (Block block f) _ h (rw (e, g) (omega arith))
+    pub block_number : (block : ℕ) (f : BlockField) (i first : ℕ) → s ≡ Block block f
+        → i ≡ block_index f → first ≡ start d block_settings → Numbered (first + (block * 6 + i)) s
+    unfolding number_of
+    block_number block f i first w g e = numbered_small s _ h (rw (w, e, g) (omega arith))
 
-  pub global_number : (f : GlobalField) (i first : ℕ) → has_setting d (Global f) ≡ true
-      → i ≡ global_index (foes d) f → first ≡ start d globals → Numbered (first + i) (Global f)
-  unfolding number_of
-  global_number f i first h g e = numbered_small (Global f) _ h (rw (e, g) (omega arith))
+    pub global_number : (f : GlobalField) (i first : ℕ) → s ≡ Global f
+        → i ≡ global_index (foes d) f → first ≡ start d globals → Numbered (first + i) s
+    unfolding number_of
+    global_number f i first w g e = numbered_small s _ h (rw (w, e, g) (omega arith))

@@ -12,7 +12,7 @@ use Rattle.part.proofs.Facts.{compared}
 use Rattle.part.proofs.Devices.{by_count, known_count}
 use Rattle.settings.specs.Fields.{foes, listed, polarity_index, macrocell_fields, macrocell_index, block_fields, block_index, global_fields}
 use Rattle.settings.specs.Fields.{global_index}
-use Rattle.settings.specs.Order.{at, polarity_at}
+use Rattle.settings.specs.Order.{polarity_at}
 use Rattle.settings.specs.Order.{macrocell_field_at, block_field_at, global_field_at}
 use Rattle.settings.specs.declared.Polarity.{Polarity}
 use Rattle.settings.specs.declared.Polarity.TheVariants.{P, N}
@@ -25,7 +25,6 @@ use Rattle.settings.specs.declared.BlockField.TheVariants.{Enable, ExportEnable,
 use Rattle.settings.specs.declared.GlobalField.{GlobalField}
 use Rattle.settings.specs.declared.GlobalField.TheVariants.{FsrInv, FclkInv, FoeInv, FclkMux, FoeMux, Usercode}
 use Rattle.part.proofs.Tables.{all_below, below_all, Each, each_below}
-use Rattle.settings.proofs.Order.Within.{more}
 
 -- A known device has a block 0.
 pub block_0 : (d : Device) → known d ≡ true → 0 < blocks_of d

@@ -11,7 +11,7 @@ use borrow.Author.Tests.{lt-ltb, le-ltb, eq-eqb, ne_eqb}
 use Rattle.part.specs.declared.Device.{Device}
 use Rattle.part.proofs.Facts.{compared}
 use Rattle.settings.specs.Settings.{has_setting}
-use Rattle.settings.specs.Order.{Group, rank, group, indices, bounds, position, at, size, start, number_of}
+use Rattle.settings.specs.Order.{Group, rank, group, indices, bounds, position, size, start, number_of}
 use Rattle.settings.specs.Order.{earlier, before}
 use Rattle.settings.specs.Order.Group.{literals, wire_ands, macrocell_settings, block_settings, globals}
 use Rattle.settings.specs.declared.Setting.{Setting}

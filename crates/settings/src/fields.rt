@@ -28,7 +28,7 @@ pub const BLOCK_FIELDS: u32 = 6;
 fn foe_count(d: Device) -> u32
     ensures { result ≡ foes d }
 {
-    if part::geometry::is_large(d) {
+    if d.is_large() {
         return 4;
     }
     2
@@ -46,7 +46,7 @@ pub fn global_fields(d: Device) -> u32
 pub fn has_setting(d: Device, s: Setting) -> bool
     ensures { result ≡ has_setting d s }
 {
-    let n = part::geometry::blocks_of(d);
+    let n = d.block_count();
     match s {
         Setting::Literal {
             block,
@@ -66,24 +66,14 @@ pub fn has_setting(d: Device, s: Setting) -> bool
             macrocell,
             field,
         } => {
-            let index = macrocell_index(field);
+            let index = field.index();
             (block < n) & (macrocell < MACROCELLS) & (index < MACROCELL_FIELDS)
         }
         Setting::Block { block, .. } => block < n,
         Setting::Global(field) => {
-            let index = global_index(d, field);
+            let index = field.index(d);
             index < global_fields(d)
         }
-    }
-}
-
-// The index of each field in the listing order.
-pub fn polarity_index(polarity: Polarity) -> u32
-    ensures { result ≡ polarity_index polarity }
-{
-    match polarity {
-        Polarity::P => 0,
-        Polarity::N => 1,
     }
 }
 
@@ -98,132 +88,139 @@ fn listed_at(k: u32, count: u32, first: u32, past: u32) -> u32
     past
 }
 
-pub fn macrocell_index(field: MacrocellField) -> u32
-    ensures { result ≡ macrocell_index field }
-{
-    match field {
-        MacrocellField::Alloc(k) => listed_at(k, TERMS, 0, MACROCELL_FIELDS),
-        MacrocellField::Inv => 5,
-        MacrocellField::ImportUpAlloc => 6,
-        MacrocellField::ImportDownAlloc => 7,
-        MacrocellField::ExportDir => 8,
-        MacrocellField::SumHp => 9,
-        MacrocellField::IobOeMux => 10,
-        MacrocellField::OeMux => 11,
-        MacrocellField::OutMux => 12,
-        MacrocellField::ClkMux => 13,
-        MacrocellField::RegMode => 14,
-        MacrocellField::RstMux => 15,
-        MacrocellField::SetMux => 16,
-        MacrocellField::Init => 17,
-        MacrocellField::UimOeMux => 18,
-        MacrocellField::UimOutInv => 19,
-        MacrocellField::IobGnd => 20,
-        MacrocellField::IobSlew => 21,
-        MacrocellField::Hp(k) => listed_at(k, TERMS, 22, MACROCELL_FIELDS),
+// Each kind of field and its index in the listing order, both ways.
+impl Polarity {
+    pub fn index(self) -> u32
+        ensures { result ≡ polarity_index self }
+    {
+        self as u32
+    }
+
+    pub fn from_index(x: u32) -> Polarity
+        ensures { result ≡ polarity_at x }
+    {
+        if x == 0 {
+            return Polarity::P;
+        }
+        Polarity::N
     }
 }
 
-pub fn block_index(field: BlockField) -> u32
-    ensures { result ≡ block_index field }
-{
-    match field {
-        BlockField::Enable => 0,
-        BlockField::ExportEnable => 1,
-        BlockField::PullupDisable => 2,
-        BlockField::ReadProtA => 3,
-        BlockField::ReadProtB => 4,
-        BlockField::WriteProt => 5,
+impl MacrocellField {
+    pub fn index(self) -> u32
+        ensures { result ≡ macrocell_index self }
+    {
+        match self {
+            MacrocellField::Alloc(k) => listed_at(k, TERMS, 0, MACROCELL_FIELDS),
+            MacrocellField::Inv => 5,
+            MacrocellField::ImportUpAlloc => 6,
+            MacrocellField::ImportDownAlloc => 7,
+            MacrocellField::ExportDir => 8,
+            MacrocellField::SumHp => 9,
+            MacrocellField::IobOeMux => 10,
+            MacrocellField::OeMux => 11,
+            MacrocellField::OutMux => 12,
+            MacrocellField::ClkMux => 13,
+            MacrocellField::RegMode => 14,
+            MacrocellField::RstMux => 15,
+            MacrocellField::SetMux => 16,
+            MacrocellField::Init => 17,
+            MacrocellField::UimOeMux => 18,
+            MacrocellField::UimOutInv => 19,
+            MacrocellField::IobGnd => 20,
+            MacrocellField::IobSlew => 21,
+            MacrocellField::Hp(k) => listed_at(k, TERMS, 22, MACROCELL_FIELDS),
+        }
+    }
+
+    pub fn from_index(x: u32) -> MacrocellField
+        requires { x < macrocell_fields }
+        ensures { result ≡ macrocell_field_at x }
+    {
+        if x < 5 {
+            return MacrocellField::Alloc(x);
+        }
+        if 21 < x {
+            return MacrocellField::Hp(x - 22);
+        }
+        match x {
+            5 => MacrocellField::Inv,
+            6 => MacrocellField::ImportUpAlloc,
+            7 => MacrocellField::ImportDownAlloc,
+            8 => MacrocellField::ExportDir,
+            9 => MacrocellField::SumHp,
+            10 => MacrocellField::IobOeMux,
+            11 => MacrocellField::OeMux,
+            12 => MacrocellField::OutMux,
+            13 => MacrocellField::ClkMux,
+            14 => MacrocellField::RegMode,
+            15 => MacrocellField::RstMux,
+            16 => MacrocellField::SetMux,
+            17 => MacrocellField::Init,
+            18 => MacrocellField::UimOeMux,
+            19 => MacrocellField::UimOutInv,
+            20 => MacrocellField::IobGnd,
+            _ => MacrocellField::IobSlew,
+        }
     }
 }
 
-pub fn global_index(d: Device, field: GlobalField) -> u32
-    ensures { result ≡ global_index (foes d) field }
-{
-    let count = foe_count(d);
-    let past = global_fields(d);
-    match field {
-        GlobalField::FsrInv => 0,
-        GlobalField::FclkInv(c) => listed_at(c, FCLKS, 1, past),
-        GlobalField::FoeInv(e) => listed_at(e, count, 4, past),
-        GlobalField::FclkMux(c) => listed_at(c, FCLKS, 4 + count, past),
-        GlobalField::FoeMux(e) => listed_at(e, count, 7 + count, past),
-        GlobalField::Usercode => past - 1,
+impl BlockField {
+    pub fn index(self) -> u32
+        ensures { result ≡ block_index self }
+    {
+        self as u32
+    }
+
+    pub fn from_index(x: u32) -> BlockField
+        ensures { result ≡ block_field_at x }
+    {
+        match x {
+            0 => BlockField::Enable,
+            1 => BlockField::ExportEnable,
+            2 => BlockField::PullupDisable,
+            3 => BlockField::ReadProtA,
+            4 => BlockField::ReadProtB,
+            _ => BlockField::WriteProt,
+        }
     }
 }
 
-// Each field by its index.
-pub fn polarity_at(x: u32) -> Polarity
-    ensures { result ≡ polarity_at x }
-{
-    if x == 0 {
-        return Polarity::P;
+impl GlobalField {
+    pub fn index(self, d: Device) -> u32
+        ensures { result ≡ global_index (foes d) self }
+    {
+        let count = foe_count(d);
+        let past = global_fields(d);
+        match self {
+            GlobalField::FsrInv => 0,
+            GlobalField::FclkInv(c) => listed_at(c, FCLKS, 1, past),
+            GlobalField::FoeInv(e) => listed_at(e, count, 4, past),
+            GlobalField::FclkMux(c) => listed_at(c, FCLKS, 4 + count, past),
+            GlobalField::FoeMux(e) => listed_at(e, count, 7 + count, past),
+            GlobalField::Usercode => past - 1,
+        }
     }
-    Polarity::N
-}
 
-pub fn macrocell_field_at(x: u32) -> MacrocellField
-    requires { x < macrocell_fields }
-    ensures { result ≡ macrocell_field_at x }
-{
-    if x < 5 {
-        return MacrocellField::Alloc(x);
+    pub fn from_index(d: Device, x: u32) -> GlobalField
+        ensures { result ≡ global_field_at (foes d) x }
+    {
+        let count = foe_count(d);
+        if x == 0 {
+            return GlobalField::FsrInv;
+        }
+        if x < 4 {
+            return GlobalField::FclkInv(x - 1);
+        }
+        if x < 4 + count {
+            return GlobalField::FoeInv(x - 4);
+        }
+        if x < 7 + count {
+            return GlobalField::FclkMux(x - (4 + count));
+        }
+        if x < 7 + count + count {
+            return GlobalField::FoeMux(x - (7 + count));
+        }
+        GlobalField::Usercode
     }
-    if 21 < x {
-        return MacrocellField::Hp(x - 22);
-    }
-    match x {
-        5 => MacrocellField::Inv,
-        6 => MacrocellField::ImportUpAlloc,
-        7 => MacrocellField::ImportDownAlloc,
-        8 => MacrocellField::ExportDir,
-        9 => MacrocellField::SumHp,
-        10 => MacrocellField::IobOeMux,
-        11 => MacrocellField::OeMux,
-        12 => MacrocellField::OutMux,
-        13 => MacrocellField::ClkMux,
-        14 => MacrocellField::RegMode,
-        15 => MacrocellField::RstMux,
-        16 => MacrocellField::SetMux,
-        17 => MacrocellField::Init,
-        18 => MacrocellField::UimOeMux,
-        19 => MacrocellField::UimOutInv,
-        20 => MacrocellField::IobGnd,
-        _ => MacrocellField::IobSlew,
-    }
-}
-
-pub fn block_field_at(x: u32) -> BlockField
-    ensures { result ≡ block_field_at x }
-{
-    match x {
-        0 => BlockField::Enable,
-        1 => BlockField::ExportEnable,
-        2 => BlockField::PullupDisable,
-        3 => BlockField::ReadProtA,
-        4 => BlockField::ReadProtB,
-        _ => BlockField::WriteProt,
-    }
-}
-
-pub fn global_field_at(d: Device, x: u32) -> GlobalField
-    ensures { result ≡ global_field_at (foes d) x }
-{
-    let count = foe_count(d);
-    if x == 0 {
-        return GlobalField::FsrInv;
-    }
-    if x < 4 {
-        return GlobalField::FclkInv(x - 1);
-    }
-    if x < 4 + count {
-        return GlobalField::FoeInv(x - 4);
-    }
-    if x < 7 + count {
-        return GlobalField::FclkMux(x - (4 + count));
-    }
-    if x < 7 + count + count {
-        return GlobalField::FoeMux(x - (7 + count));
-    }
-    GlobalField::Usercode
 }

@@ -7,20 +7,23 @@ ghost use Rattle.part.specs.Answer.{number_outcome};
 ghost use Rattle.settings.specs.Answer.{setting_outcome, setting_number_outcome};
 ghost use Rattle.settings.specs.Operations.{count_of_settings, setting_of_number, number_of_setting};
 
-use part::{Device, NumberAnswer, Refusal};
+use part::{Device, KnownDevice, Refusal};
 
+pub mod device_setting;
 pub mod fields;
 pub mod numbers;
 
+pub use device_setting::DeviceSetting;
+
 // Which sense of an input a literal takes: the input itself, or its complement.
-#[derive(Clone, Copy)]
+#[derive(Clone, Copy, Debug, PartialEq, Eq)]
 pub enum Polarity {
     P,
     N,
 }
 
 // The 27 fields of a macrocell; ALLOC and HP carry their term.
-#[derive(Clone, Copy)]
+#[derive(Clone, Copy, Debug, PartialEq, Eq)]
 pub enum MacrocellField {
     Alloc(u32),
     Inv,
@@ -44,7 +47,7 @@ pub enum MacrocellField {
 }
 
 // The fields that each block has.
-#[derive(Clone, Copy)]
+#[derive(Clone, Copy, Debug, PartialEq, Eq)]
 pub enum BlockField {
     Enable,
     ExportEnable,
@@ -55,7 +58,7 @@ pub enum BlockField {
 }
 
 // The fields of the whole part; those of FCLK carry c, those of FOE carry e.
-#[derive(Clone, Copy)]
+#[derive(Clone, Copy, Debug, PartialEq, Eq)]
 pub enum GlobalField {
     FsrInv,
     FclkInv(u32),
@@ -67,7 +70,7 @@ pub enum GlobalField {
 
 // A setting: its group, its indices and, where the group has fields, its field. Any numbers;
 // `has_setting` tells which exist.
-#[derive(Clone, Copy)]
+#[derive(Clone, Copy, Debug, PartialEq, Eq)]
 pub enum Setting {
     Literal {
         block: u32,
@@ -95,53 +98,33 @@ pub enum Setting {
 }
 
 // The number of a setting in the listing order.
-#[derive(Clone, Copy)]
+#[derive(Clone, Copy, Debug, PartialEq, Eq)]
 pub struct SettingNumber(pub u32);
 
-#[derive(Clone, Copy)]
-pub enum SettingAnswer {
-    Setting(Setting),
-    Refused(Refusal),
-}
-
-#[derive(Clone, Copy)]
-pub enum SettingNumberAnswer {
-    Number(SettingNumber),
-    Refused(Refusal),
-}
-
 // How many settings the device has. Refused: 1.
-pub fn setting_count(d: Device) -> NumberAnswer
+pub fn setting_count(d: Device) -> Result<u32, Refusal>
     ensures { number_outcome result ≡ count_of_settings d }
 {
-    if !part::is_known(d) {
-        return NumberAnswer::Refused(Refusal::UnknownDevice);
-    }
-    NumberAnswer::Number(numbers::count_of(d))
+    let part = KnownDevice::try_from(d)?;
+    Ok(numbers::count_of(part))
 }
 
 // The setting of a number. Refused: 1, 4.
-pub fn setting_of_number(d: Device, number: SettingNumber) -> SettingAnswer
+pub fn setting_of_number(d: Device, number: SettingNumber) -> Result<Setting, Refusal>
     ensures { setting_outcome result ≡ setting_of_number d number.0 }
 {
-    if !part::is_known(d) {
-        return SettingAnswer::Refused(Refusal::UnknownDevice);
+    let part = KnownDevice::try_from(d)?;
+    if numbers::count_of(part) <= number.0 {
+        return Err(Refusal::NoSuchSetting);
     }
-    if numbers::count_of(d) <= number.0 {
-        return SettingAnswer::Refused(Refusal::NoSuchSetting);
-    }
-    SettingAnswer::Setting(numbers::setting_of(d, number))
+    Ok(numbers::setting_of(part, number).setting)
 }
 
 // The number of a setting. Refused: 1, 4.
-pub fn number_of_setting(d: Device, s: Setting) -> SettingNumberAnswer
+pub fn number_of_setting(d: Device, s: Setting) -> Result<SettingNumber, Refusal>
     ensures { setting_number_outcome result ≡ number_of_setting d s }
 {
-    if !part::is_known(d) {
-        return SettingNumberAnswer::Refused(Refusal::UnknownDevice);
-    }
-    if !fields::has_setting(d, s) {
-        return SettingNumberAnswer::Refused(Refusal::NoSuchSetting);
-    }
-    SettingNumberAnswer::Number(numbers::number_of(d, s))
+    let part = KnownDevice::try_from(d)?;
+    let there = DeviceSetting::new(part, s)?;
+    Ok(numbers::number_of(there))
 }

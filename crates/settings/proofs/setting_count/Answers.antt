@@ -6,7 +6,7 @@ use Prim.Native.Nat.{ℕ}
 use Rattle.part.specs.Outcome.Outcome.{accepted, refused}
 use Rattle.part.specs.Device.{known}
 use Rattle.part.specs.declared.Device.{Device}
-use Rattle.part.proofs.Devices.{is_known, is_unknown}
+use Rattle.part.proofs.Refused.{refused_with}
 use Rattle.settings.specs.Order.{count_of}
 use Rattle.settings.specs.Operations.{count_of_settings}
 use borrow.Author.Rules.{rules}
@@ -20,8 +20,8 @@ the_count : (d : Device) (x : ℕ) → known d ≡ true → x ≡ count_of d →
 unfolding count_of_settings
 the_count d x k e = rw (k, e)
 
-pub returns-then-not-is_known : goal.returns-then-not-is_known
-returns-then-not-is_known c = search (rules, is_unknown, no_device)
+pub returns-in_err-part : goal.returns-in_err-part
+returns-in_err-part c = search (rules, refused_with, no_device)
 
 pub returns : goal.returns
-returns c = search (rules, is_known, the_count)
+returns c = rw (← c.in_ok-part.ensures) (search (rules, the_count))

@@ -8,7 +8,7 @@ use borrow.Author.Tests.{lt-ltb, le-ltb}
 use Rattle.part.specs.Outcome.Outcome.{accepted, refused}
 use Rattle.part.specs.Device.{known}
 use Rattle.part.specs.declared.Device.{Device}
-use Rattle.part.proofs.Devices.{is_known, is_unknown}
+use Rattle.part.proofs.Refused.{refused_with}
 use Rattle.settings.specs.Order.{count_of, setting_of}
 use Rattle.settings.specs.Operations.{setting_of_number}
 use Rattle.settings.specs.declared.Setting.{Setting}
@@ -31,11 +31,11 @@ module _ (d : Device) (x count : ℕ) (k : known d ≡ true) (e : count ≡ coun
   unfolding setting_of_number
   the_setting s h g = rw (k, lt-ltb x (count_of d) (omega arith), g)
 
-pub returns-then-not-is_known : goal.returns-then-not-is_known
-returns-then-not-is_known c = search (rules, is_unknown, no_device)
+pub returns-in_err-part : goal.returns-in_err-part
+returns-in_err-part c = search (rules, refused_with, no_device)
 
 pub returns-then-count_of-number : goal.returns-then-count_of-number
-returns-then-count_of-number c = search (rules, is_known, no_setting_lem)
+returns-then-count_of-number c = rw (← c.in_ok-part.ensures) (search (rules, no_setting_lem))
 
 pub returns : goal.returns
-returns c = search (rules, is_known, the_setting)
+returns c = rw (← c.in_ok-part.ensures) (search (rules, the_setting))

@@ -10,7 +10,7 @@ use Rattle.settings.proofs.numbers.count_of.Goals as goal
 pub overflow_add-result : goal.overflow_add-result
 overflow_add-result c =
     rw (c.global_fields.ensures, c.start_of_globals.ensures)
-    (omega (arith, ends c.args.d globals, count_small c.args.d c.requires))
+    (omega (arith, ends c.args.d.device globals, count_small c.args.d.device c.args.d.is_known))
 
 pub returns : goal.returns
 unfolding count_of

@@ -4,4 +4,4 @@ use Rattle.settings.proofs.CodeNumbers.{whole}
 use Rattle.settings.proofs.numbers.macrocell_at.Goals as goal
 
 pub returns : goal.returns
-returns c = rw (whole, c.macrocell_field_at-field.ensures)
+returns c = rw (whole, c.from_index-field.ensures)

@@ -1,20 +1,18 @@
--- `setting_of` meets its contract: the tests find the group of the number.
+-- `setting_of` meets its contract: the device has the setting of each number below the count.
 -- Assumes nothing.
-use Rattle.settings.proofs.Among.{among_literals, among_wire_ands, among_macrocells, among_blocks, among_globals}
+use mathlib.Core.Path.{◌≡◌}
+use mathlib.Core.Bool.{true}
+use Prim.Native.Nat.{ℕ, ◌<◌}
 use borrow.Author.Rules.{rules}
+use Rattle.part.specs.declared.Device.{Device}
+use Rattle.settings.specs.Settings.{has_setting}
+use Rattle.settings.specs.Order.{count_of, setting_of}
+use Rattle.settings.specs.declared.Setting.{Setting}
+use Rattle.settings.proofs.Numbering.{number_inverse}
 use Rattle.settings.proofs.numbers.setting_of.Goals as goal
 
-pub returns-then-x-wire_ands : goal.returns-then-x-wire_ands
-returns-then-x-wire_ands c = search (rules, among_literals)
+its_device_has : (d : Device) (x : ℕ) (s : Setting) → x < count_of d → s ≡ setting_of d x → has_setting d s ≡ true
+its_device_has d x s h e = rw e (number_inverse d x h).0
 
-pub returns-then-x-macrocells : goal.returns-then-x-macrocells
-returns-then-x-macrocells c = search (rules, among_wire_ands)
-
-pub returns-then-x-blocks : goal.returns-then-x-blocks
-returns-then-x-blocks c = search (rules, among_macrocells)
-
-pub returns-then-x-globals : goal.returns-then-x-globals
-returns-then-x-globals c = search (rules, among_blocks)
-
-pub returns : goal.returns
-returns c = search (rules, among_globals)
+pub invariant_of-result : goal.invariant_of-result
+invariant_of-result c = search (rules, its_device_has)

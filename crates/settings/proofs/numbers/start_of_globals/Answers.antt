@@ -8,5 +8,5 @@ use Rattle.settings.proofs.numbers.start_of_globals.Goals as goal
 
 pub overflow_add-result : goal.overflow_add-result
 overflow_add-result c =
-    rw (c.blocks_of.ensures, c.start_of_blocks.ensures)
-    (omega (arith, ends c.args.d block_settings, count_small c.args.d c.requires))
+    rw (c.blocks-2.ensures, c.start_of_blocks.ensures)
+    (omega (arith, ends c.args.d.device block_settings, count_small c.args.d.device c.args.d.is_known))

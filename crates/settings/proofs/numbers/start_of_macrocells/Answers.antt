@@ -8,10 +8,10 @@ use Rattle.settings.proofs.numbers.start_of_macrocells.Goals as goal
 
 pub overflow_mul-result-3 : goal.overflow_mul-result-3
 overflow_mul-result-3 c =
-    rw c.blocks_of-n.ensures
-    (omega (arith, ends c.args.d wire_ands, count_small c.args.d c.requires))
+    rw c.blocks-n.ensures
+    (omega (arith, ends c.args.d.device wire_ands, count_small c.args.d.device c.args.d.is_known))
 
 pub overflow_add-result : goal.overflow_add-result
 overflow_add-result c =
-    rw (c.blocks_of-n.ensures, c.start_of_wire_ands.ensures)
-    (omega (arith, ends c.args.d wire_ands, count_small c.args.d c.requires))
+    rw (c.blocks-n.ensures, c.start_of_wire_ands.ensures)
+    (omega (arith, ends c.args.d.device wire_ands, count_small c.args.d.device c.args.d.is_known))

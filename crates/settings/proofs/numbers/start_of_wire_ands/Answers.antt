@@ -8,4 +8,4 @@ use Rattle.settings.proofs.numbers.start_of_wire_ands.Goals as goal
 
 pub overflow_mul-result : goal.overflow_mul-result
 overflow_mul-result c =
-    rw c.blocks_of.ensures (omega (arith, ends c.args.d literals, count_small c.args.d c.requires))
+    rw c.blocks-2.ensures (omega (arith, ends c.args.d.device literals, count_small c.args.d.device c.args.d.is_known))

@@ -47,7 +47,7 @@ same_indices : (d : Device) (x n q r : ℕ) → known d ≡ true → n ≡ block
 same_indices d x n q r k same e f = let its = divided_so d x k in rw (whole, e, f, same, its.0, its.1, its.2)
 
 pub overflow_mul-per_input : goal.overflow_mul-per_input
-overflow_mul-per_input c = omega (arith, c.blocks_of-per_input.ensures, blocks_small c.args.d c.requires.0)
+overflow_mul-per_input c = omega (arith, c.blocks-per_input.ensures, blocks_small c.args.d.device c.args.d.is_known)
 
 pub divided-at-requires : goal.divided-at-requires
 divided-at-requires c = search (rules, product_small, quotient)
