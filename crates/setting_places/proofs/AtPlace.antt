@@ -2,12 +2,10 @@
 -- Assumes nothing.
 use mathlib.Core.Path.{◌≡◌, refl, ◌∙◌, ap}
 use mathlib.Core.Bool.{true}
-use mathlib.Core.Option.{Option}
 use mathlib.Core.Option.Option.{none, some}
 use Prim.Native.Nat.{ℕ, ◌<◌, ◌≤◌}
 use native.Mathlib.Omega.{arith}
 use borrow.Author.Tests.{lt-ltb, le-ltb}
-use Rattle.part.specs.Outcome.{Outcome}
 use Rattle.part.specs.Outcome.Outcome.{accepted}
 use Rattle.part.specs.Device.{known}
 use Rattle.part.specs.Place.{has_place, fuse_of_place}
@@ -24,9 +22,9 @@ use Rattle.setting_places.specs.Places.{LocatedFuse, place_of, bits_of, fuse_of,
 use Rattle.setting_places.specs.Operations.{located_bit}
 use Rattle.setting_places.proofs.OnePlaceEach.{place_there}
 
--- What `located` answers for a place.
-abbrev pub at_place : Device → Place → Outcome (Option LocatedFuse)
-at_place d p = accepted (some (fuse_of_place d p, address_of_place p))
+-- What `located` finds at a place.
+abbrev pub at_place : Device → Place → LocatedFuse
+at_place d p = (fuse_of_place d p, address_of_place p)
 
 module _ (d : Device) (s : Setting) (bit width : ℕ) (k : known d ≡ true) (h : has_setting d s ≡ true) (e : width ≡ bits_of s) where
   pub no_bit_lem : width ≤ bit → accepted none ≡ located_bit d s bit
@@ -37,9 +35,9 @@ module _ (d : Device) (s : Setting) (bit width : ℕ) (k : known d ≡ true) (h 
     pub there : has_place d p ≡ true
     there = place_there d s bit p k h (omega arith) at
 
-    pub at_place_lem : (o : Outcome (Option LocatedFuse)) → o ≡ at_place d p → o ≡ located_bit d s bit
+    pub at_place_lem : (x : LocatedFuse) → x ≡ at_place d p → accepted (some x) ≡ located_bit d s bit
     unfolding located_bit fuse_of address_of
-    at_place_lem o f = rw (k, h, lt-ltb bit (bits_of s) (omega arith), ← at) f
+    at_place_lem x f = rw (k, h, lt-ltb bit (bits_of s) (omega arith), ← at, f)
 
 -- The same for a setting of one bit.
 module _ (d : Device) (s : Setting) (k : known d ≡ true) (h : has_setting d s ≡ true) (e : 1 ≡ bits_of s) where
@@ -50,9 +48,9 @@ module _ (d : Device) (s : Setting) (k : known d ≡ true) (h : has_setting d s 
     pub there_once : has_place d p ≡ true
     there_once = there d s 0 1 k h e (omega arith) p at
 
-    pub at_one_place : (bit : ℕ) (o : Outcome (Option LocatedFuse)) → bit ≤ 0 → o ≡ at_place d p → o ≡ located_bit d s bit
-    at_one_place bit o g f =
-        let same : 0 ≡ bit = omega arith in at_place_lem d s 0 1 k h e (omega arith) p at o f ∙ ap (located_bit d s) same
+    pub at_one_place : (bit : ℕ) (x : LocatedFuse) → bit ≤ 0 → x ≡ at_place d p → accepted (some x) ≡ located_bit d s bit
+    at_one_place bit x g f =
+        let same : 0 ≡ bit = omega arith in at_place_lem d s 0 1 k h e (omega arith) p at x f ∙ ap (located_bit d s) same
 
 -- A literal by its number: the device has it, and it has one bit.
 module _ (d : Device) (x : ℕ) (l : x < start d wire_ands) where

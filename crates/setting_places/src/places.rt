@@ -1,8 +1,6 @@
 // The rows and columns of each field, and the place and the fuse of a bit of a setting.
-// For the crates above: a function here may require that the device is known or has the setting.
-ghost use Rattle.std.specs.Prelude.{◌≡◌, true, ◌+◌, ◌*◌, ◌/◌, ◌%◌, ◌^◌, ◌<◌};
-ghost use Rattle.part.specs.Device.{known};
-ghost use Rattle.settings.specs.Settings.{has_setting};
+// For the crates above: a function here may require that the device has the setting, or that its field has the bit.
+ghost use Rattle.std.specs.Prelude.{◌≡◌, ◌+◌, ◌*◌, ◌/◌, ◌%◌, ◌^◌, ◌<◌};
 ghost use Rattle.settings.specs.Fields.{inputs, terms, foes, macrocell_fields, global_fields, global_index};
 ghost use Rattle.settings.specs.Order.{macrocell_field_at, start, setting_of};
 ghost use Rattle.settings.specs.Order.Group.{wire_ands};
@@ -11,11 +9,11 @@ ghost use Rattle.setting_places.specs.Places.{main, literal_row, first_row, rows
 ghost use Rattle.setting_places.specs.Places.{global_bits, bits_of, fuse_of};
 
 use part::geometry::MAIN_COLUMNS;
+use part::places::fuse_of_place;
 use part::quotients::{MAIN_COLUMN_FACTOR, divided};
-use part::{BytePlace, Device, FuseNumber, Place};
-use settings::fields::polarity_at;
-use settings::numbers::TERM_LITERALS;
-use settings::{BlockField, GlobalField, Polarity, Setting, SettingNumber};
+use part::{BytePlace, Device, FuseNumber, KnownDevice, Place};
+use settings::numbers::{LiteralIndices, TERM_LITERALS, WireAndIndices};
+use settings::{BlockField, DeviceSetting, GlobalField, Polarity, Setting, SettingNumber};
 
 // The factors that divide the number of a literal by the literals of a term, and that of a term by the columns, with
 // their shifts.
@@ -125,14 +123,13 @@ fn global_bits(field: GlobalField) -> u32
 }
 
 // How many bits a setting has.
-pub fn bits_of(d: Device, s: Setting) -> u32
-    requires { has_setting d s ≡ true }
-    ensures { result ≡ bits_of s }
+pub fn bits_of(there: DeviceSetting) -> u32
+    ensures { result ≡ bits_of there.setting }
 {
-    match s {
+    match there.setting {
         Setting::Literal { .. } => 1,
         Setting::WireAnd { .. } => 1,
-        Setting::Macrocell { field, .. } => rows_of(settings::fields::macrocell_index(field)),
+        Setting::Macrocell { field, .. } => rows_of(field.index()),
         Setting::Block { .. } => 1,
         Setting::Global(field) => global_bits(field),
     }
@@ -149,17 +146,17 @@ fn main_place(block: u32, row: u32, column: u32, bit: u32) -> Place
 }
 
 // The place of a wire-AND.
-pub fn wire_and_place(block: u32, input: u32, source: u32, macrocell: u32) -> Place
-    ensures { result ≡ place_of (WireAnd block input source macrocell) 0 }
+pub fn wire_and_place(at: WireAndIndices) -> Place
+    ensures { result ≡ place_of (WireAnd at.block at.input at.source at.macrocell) 0 }
 {
     Place {
         byte: BytePlace::WireAnd {
-            block,
-            subarea: source,
-            row: macrocell,
-            column: input % 5,
+            block: at.block,
+            subarea: at.source,
+            row: at.macrocell,
+            column: at.input % 5,
         },
-        bit: input / 5,
+        bit: at.input / 5,
     }
 }
 
@@ -187,31 +184,37 @@ fn literal_row(input: u32, polarity: Polarity) -> u32
     2 * input + row_in_pair(polarity)
 }
 
-fn literal_place(block: u32, macrocell: u32, term: u32, input: u32, polarity: Polarity) -> Place
-    requires { (term < terms) × (input < inputs) }
-    ensures { result ≡ place_of (Literal block macrocell term input polarity) 0 }
+// The place of a literal.
+fn literal_place(at: LiteralIndices) -> Place
+    requires { (at.term < terms) × (at.input < inputs) }
+    ensures { result ≡ place_of (Literal at.block at.macrocell at.term at.input at.polarity) 0 }
 {
-    let row = literal_row(input, polarity);
-    main_place(block, row, term + 5 * (macrocell % 3), macrocell / 3)
+    let row = literal_row(at.input, at.polarity);
+    main_place(
+        at.block,
+        row,
+        at.term + 5 * (at.macrocell % 3),
+        at.macrocell / 3,
+    )
 }
 
 // The place of a literal, by its number: 72 literals to a term, and the terms of a block run through the 15 columns,
 // bit after bit.
-pub fn place_of_literal(d: Device, number: SettingNumber) -> Place
-    requires { (known d ≡ true) × (number.0 < start d wire_ands) }
-    ensures { result ≡ place_of (setting_of d number.0) 0 }
+pub fn place_of_literal(d: KnownDevice, number: SettingNumber) -> Place
+    requires { number.0 < start d.device wire_ands }
+    ensures { result ≡ place_of (setting_of d.device number.0) 0 }
 {
     let terms = divided(number.0, TERM_LITERALS, TERM_FACTOR, TERM_SHIFT);
     let columns = divided(terms.quotient, MAIN_COLUMNS, COLUMN_FACTOR, COLUMN_SHIFT);
     let bits = divided(columns.quotient, 6, MAIN_COLUMN_FACTOR, 8);
-    let row = literal_row(terms.rest / 2, polarity_at(terms.rest % 2));
+    let row = literal_row(terms.rest / 2, Polarity::from_index(terms.rest % 2));
     main_place(bits.quotient, row, columns.rest, bits.rest)
 }
 
 fn block_place(block: u32, field: BlockField) -> Place
     ensures { result ≡ block_place block field }
 {
-    let index = settings::fields::block_index(field) as usize;
+    let index = field.index() as usize;
     main_place(block, BLOCK_ROW[index], BLOCK_COLUMN[index], 6)
 }
 
@@ -230,42 +233,53 @@ fn global_place(d: Device, field: GlobalField, bit: u32) -> Place
 }
 
 // The place of a bit of a setting.
-pub fn place_of(d: Device, s: Setting, bit: u32) -> Place
-    requires { (known d ≡ true) × (has_setting d s ≡ true) × (bit < bits_of s) }
-    ensures { result ≡ place_of s bit }
+pub fn place_of(there: DeviceSetting, bit: u32) -> Place
+    requires { bit < bits_of there.setting }
+    ensures { result ≡ place_of there.setting bit }
 {
-    match s {
+    match there.setting {
         Setting::Literal {
             block,
             macrocell,
             term,
             input,
             polarity,
-        } => literal_place(block, macrocell, term, input, polarity),
+        } => literal_place(LiteralIndices {
+            block,
+            macrocell,
+            term,
+            input,
+            polarity,
+        }),
         Setting::WireAnd {
             block,
             input,
             source,
             macrocell,
-        } => wire_and_place(block, input, source, macrocell),
+        } => wire_and_place(WireAndIndices {
+            block,
+            input,
+            source,
+            macrocell,
+        }),
         Setting::Macrocell {
             block,
             macrocell,
             field,
         } => {
-            let row = row_of(settings::fields::macrocell_index(field), bit);
+            let row = row_of(field.index(), bit);
             macrocell_place(block, row, macrocell)
         }
         Setting::Block { block, field } => block_place(block, field),
-        Setting::Global(field) => global_place(d, field, bit),
+        Setting::Global(field) => global_place(there.device.device, field, bit),
     }
 }
 
 // The fuse of a bit of a setting.
-pub fn fuse_of(d: Device, s: Setting, bit: u32) -> FuseNumber
-    requires { (known d ≡ true) × (has_setting d s ≡ true) × (bit < bits_of s) }
-    ensures { result.0 ≡ fuse_of d s bit }
+pub fn fuse_of(there: DeviceSetting, bit: u32) -> FuseNumber
+    requires { bit < bits_of there.setting }
+    ensures { result.0 ≡ fuse_of there.device.device there.setting bit }
 {
-    let place = place_of(d, s, bit);
-    part::places::fuse_of_place(d, place)
+    let place = place_of(there, bit);
+    fuse_of_place(there.device, place)
 }

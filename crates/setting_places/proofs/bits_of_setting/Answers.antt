@@ -6,10 +6,9 @@ use Prim.Native.Nat.{ℕ}
 use Rattle.part.specs.Outcome.Outcome.{accepted, refused}
 use Rattle.part.specs.Device.{known}
 use Rattle.part.specs.declared.Device.{Device}
-use Rattle.part.proofs.Devices.{is_known, is_unknown}
+use Rattle.part.proofs.Refused.{refused_with}
 use Rattle.settings.specs.Settings.{has_setting}
 use Rattle.settings.specs.declared.Setting.{Setting}
-use Rattle.settings.proofs.Asked.{has, has_not}
 use Rattle.setting_places.specs.Places.{bits_of}
 use Rattle.setting_places.specs.Operations.{bits_of_setting}
 use borrow.Author.Rules.{rules}
@@ -27,11 +26,11 @@ the_bits : (d : Device) (s : Setting) (x : ℕ) → known d ≡ true → has_set
 unfolding bits_of_setting
 the_bits d s x k h e = rw (k, h, e)
 
-pub returns-then-not-is_known : goal.returns-then-not-is_known
-returns-then-not-is_known c = search (rules, is_unknown, no_device)
+pub returns-in_err-part : goal.returns-in_err-part
+returns-in_err-part c = search (rules, refused_with, no_device)
 
-pub returns-then-not-has_setting : goal.returns-then-not-has_setting
-returns-then-not-has_setting c = search (rules, is_known, has_not, no_setting_lem)
+pub returns-in_err-there : goal.returns-in_err-there
+returns-in_err-there c = rw (← c.in_ok-part.ensures) (search (rules, refused_with, no_setting_lem))
 
 pub returns : goal.returns
-returns c = search (rules, is_known, has, the_bits)
+returns c = rw (← c.in_ok-part.ensures, ← c.in_ok-there.ensures.0, ← c.in_ok-there.ensures.1) (search (rules, the_bits))

@@ -6,11 +6,9 @@ use Prim.Native.Nat.{ℕ}
 use Rattle.part.specs.Outcome.Outcome.{refused}
 use Rattle.part.specs.Device.{known}
 use Rattle.part.specs.declared.Device.{Device}
-use Rattle.part.proofs.Devices.{is_known, is_unknown}
+use Rattle.part.proofs.Refused.{refused_with}
 use Rattle.settings.specs.Settings.{has_setting}
 use Rattle.settings.specs.declared.Setting.{Setting}
-use Rattle.settings.proofs.Asked.{has, has_not}
-use Rattle.setting_places.specs.Places.{bits_of}
 use Rattle.setting_places.specs.Operations.{located_bit}
 use Rattle.setting_places.proofs.AtPlace.{no_bit_lem, there, at_place_lem}
 use borrow.Author.Rules.{rules}
@@ -24,20 +22,19 @@ no_setting_lem : (d : Device) (s : Setting) (bit : ℕ) → known d ≡ true →
 unfolding located_bit
 no_setting_lem d s bit k h = rw (k, h)
 
-pub returns-then-not-is_known : goal.returns-then-not-is_known
-returns-then-not-is_known c = search (rules, is_unknown, no_device)
+pub returns-in_err-part : goal.returns-in_err-part
+returns-in_err-part c = search (rules, refused_with, no_device)
 
-pub returns-then-not-has_setting : goal.returns-then-not-has_setting
-returns-then-not-has_setting c = search (rules, is_known, has_not, no_setting_lem)
+pub returns-in_err-there : goal.returns-in_err-there
+returns-in_err-there c = rw (← c.in_ok-part.ensures) (search (rules, refused_with, no_setting_lem))
 
 pub returns-then-bits_of-bit : goal.returns-then-bits_of-bit
-returns-then-bits_of-bit c = search (rules, is_known, has, no_bit_lem)
+returns-then-bits_of-bit c =
+    rw (← c.in_ok-part.ensures, ← c.in_ok-there.ensures.0, ← c.in_ok-there.ensures.1) (search (rules, no_bit_lem))
 
 pub located-requires : goal.located-requires
-located-requires c =
-    let its = is_known _ _ c.is_known.ensures c.if-not-is_known.false in
-    let had = has _ _ _ c.has_setting.ensures c.if-not-has_setting.false in
-    (its, there _ _ _ _ its had c.bits_of.ensures c.if-bits_of-bit.false _ c.place_of-place.ensures)
+located-requires c = rw (← c.in_ok-there.ensures.0) (search (rules, there))
 
 pub returns : goal.returns
-returns c = search (rules, is_known, has, at_place_lem)
+returns c =
+    rw (← c.in_ok-part.ensures, ← c.in_ok-there.ensures.0, ← c.in_ok-there.ensures.1) (search (rules, at_place_lem))

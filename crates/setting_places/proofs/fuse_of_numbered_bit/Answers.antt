@@ -9,7 +9,6 @@ use borrow.Author.Tests.{lt-ltb}
 use Rattle.part.specs.Outcome.{Outcome}
 use Rattle.part.specs.Device.{known}
 use Rattle.part.specs.declared.Device.{Device}
-use Rattle.part.proofs.Devices.{is_known}
 use Rattle.settings.specs.Order.{start, count_of, in_group, setting_of}
 use Rattle.settings.specs.Order.Group.{literals, wire_ands, macrocell_settings, block_settings}
 use Rattle.settings.specs.Operations.{setting_of_number}
@@ -41,10 +40,10 @@ module _ (d : Device) (x bit : ℕ) (o : Outcome (Option LocatedFuse)) (k : know
       (among_macrocells d x a b _ e f low high refl) g
 
 pub returns-then-x-wire_ands : goal.returns-then-x-wire_ands
-returns-then-x-wire_ands c = search (rules, is_known, for_literal)
+returns-then-x-wire_ands c = rw (← c.in-Ok.ensures) (search (rules, for_literal))
 
 pub returns-then-x-macrocells : goal.returns-then-x-macrocells
-returns-then-x-macrocells c = search (rules, is_known, for_wire_and)
+returns-then-x-macrocells c = rw (← c.in-Ok.ensures) (search (rules, for_wire_and))
 
 pub returns-then-x-blocks : goal.returns-then-x-blocks
-returns-then-x-blocks c = search (rules, is_known, for_field)
+returns-then-x-blocks c = rw (← c.in-Ok.ensures) (search (rules, for_field))

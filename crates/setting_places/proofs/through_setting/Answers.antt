@@ -3,33 +3,29 @@
 use mathlib.Core.Path.{◌≡◌}
 use mathlib.Core.Option.{Option}
 use Prim.Native.Nat.{ℕ}
-use Rattle.part.specs.Answer.{refusal_number, refusal_value}
 use Rattle.part.specs.Outcome.{Outcome}
-use Rattle.part.specs.Outcome.Outcome.{refused}
+use Rattle.part.specs.Outcome.Outcome.{accepted, refused}
+use Rattle.part.proofs.Refused.{refused_with}
 use Rattle.part.specs.declared.Device.{Device}
-use Rattle.part.specs.declared.Refusal.{Refusal}
-use Rattle.settings.specs.Answer.{setting_outcome}
 use Rattle.settings.specs.Operations.{setting_of_number}
 use Rattle.settings.specs.declared.Setting.{Setting}
-use Rattle.settings.specs.declared.SettingAnswer.{SettingAnswer}
-use Rattle.settings.specs.declared.SettingAnswer.TheVariants as setting
 use Rattle.setting_places.specs.Places.{LocatedFuse}
 use Rattle.setting_places.specs.Operations.{located_bit, located_by_number}
 use borrow.Author.Rules.{rules}
 use Rattle.setting_places.proofs.through_setting.Goals as goal
 
-module _ (d : Device) (x bit : ℕ) (a : SettingAnswer) (e : setting_outcome a ≡ setting_of_number d x) where
-  its_bit : (s : Setting) (o : Outcome (Option LocatedFuse)) → a ≡ setting.Setting s → o ≡ located_bit d s bit
+module _ (d : Device) (x bit : ℕ) where
+  its_bit : (s : Setting) (o : Outcome (Option LocatedFuse)) → accepted s ≡ setting_of_number d x → o ≡ located_bit d s bit
       → o ≡ located_by_number d x bit
   unfolding located_by_number
-  its_bit s o f g = rw (← e, f) g
+  its_bit s o e g = rw (← e) g
 
-  no_setting_lem : (r : Refusal) → a ≡ setting.Refused r → refused (refusal_number r) (refusal_value r) ≡ located_by_number d x bit
+  no_setting_lem : (n v : ℕ) → refused n v ≡ setting_of_number d x → refused n v ≡ located_by_number d x bit
   unfolding located_by_number
-  no_setting_lem r f = rw (← e, f)
+  no_setting_lem n v e = rw (← e)
 
-pub returns-in-Setting : goal.returns-in-Setting
-returns-in-Setting c = search (rules, its_bit)
+pub returns-in_err-s : goal.returns-in_err-s
+returns-in_err-s c = search (rules, refused_with, no_setting_lem)
 
-pub returns-in-Refused : goal.returns-in-Refused
-returns-in-Refused c = search (rules, no_setting_lem)
+pub returns : goal.returns
+returns c = search (rules, its_bit)

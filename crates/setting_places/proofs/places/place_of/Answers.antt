@@ -45,21 +45,21 @@ module _ (d : Device) (s : Setting) (block m : â„•) (f : MacrocellField) (i : â„
 
 pub literal_place-requires : goal.literal_place-requires
 literal_place-requires c =
-    let there = has_literal c.args.d c.args.s
-    c.requires.1 _ _ _ _ _ c.in-Literal.is in (there.2, there.3)
+    let there = has_literal c.args.there.device.device c.args.there.setting
+    c.args.there.is_there _ _ _ _ _ c.in-Literal.is in (there.2, there.3)
 
 pub row_of-row-requires : goal.row_of-row-requires
 row_of-row-requires c =
-    inside c.args.d c.args.s _ _ _ c.macrocell_index.result
-    c.requires.1 c.in-Macrocell.is c.macrocell_index.ensures
-    c.args.bit c.requires.2
+    inside c.args.there.device.device c.args.there.setting _ _ _ c.index.result
+    c.args.there.is_there c.in-Macrocell.is c.index.ensures
+    c.args.bit c.requires
 
 pub global_place-requires : goal.global_place-requires
 unfolding bits_of
 global_place-requires c = (
-  has_global c.args.d c.args.s c.requires.1 _
+  has_global c.args.there.device.device c.args.there.setting c.args.there.is_there _
       c.in-Global.is,
-  (rw c.in-Global.is at c.requires.2),
+  (rw c.in-Global.is at c.requires),
 )
 
 pub returns-in-Literal : goal.returns-in-Literal
