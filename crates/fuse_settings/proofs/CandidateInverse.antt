@@ -24,7 +24,7 @@ use Rattle.setting_places.specs.Places.{literal_row, first_row, rows, block_plac
 use Rattle.setting_places.specs.Places.{bits_of}
 use Rattle.fuse_settings.specs.Back.{polarity_of_row, last_up_to, field_index_at_row, field_at_row, global_bit_near, candidate_in_main}
 use Rattle.fuse_settings.specs.Back.{candidate_at}
-use Rattle.fuse_settings.specs.declared.candidates.Candidate.{Candidate}
+use Rattle.fuse_settings.specs.declared.SettingBit.{SettingBit}
 use Rattle.part.proofs.Tables.{all_below, below_all, Each, each_below}
 use Rattle.settings.proofs.FieldIndices.{few, numbered, macrocell_at}
 use Rattle.setting_places.proofs.OnePlaceEach.{rows_few, on_row}
@@ -69,7 +69,7 @@ at_row row low high =
         let less = ltb-true (first_row (field_at_row r)) (r + 1) facts.1 in (ltb-true _ _ facts.0, omega arith)
 
 -- The candidate at each place: a setting and a bit.
-abbrev pub candidate : Setting → ℕ → Candidate
+abbrev pub candidate : Setting → ℕ → SettingBit
 candidate s bit = record { setting = s; bit = bit }
 
 first_bit : (s : Setting) (bit : ℕ) → bit < 1 → candidate s 0 ≡ candidate s bit

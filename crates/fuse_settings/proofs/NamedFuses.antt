@@ -29,7 +29,7 @@ use Rattle.settings.specs.declared.Setting.TheVariants.{Literal, WireAnd, Macroc
 use Rattle.setting_places.specs.Places.{main, wire_and, literal_row, bits_of, block_place, global_place, place_of, fuse_of, lists}
 use Rattle.fuse_settings.specs.Back.{polarity_of_row, candidate_in_main, candidate_in, candidate_at, always_listed, if_listed, setting_at}
 use Rattle.fuse_settings.specs.Unnamed.{one_if_none}
-use Rattle.fuse_settings.specs.declared.candidates.Candidate.{Candidate}
+use Rattle.fuse_settings.specs.declared.SettingBit.{SettingBit}
 use Rattle.setting_places.proofs.OnePlaceEach.{has_place_lem}
 use Rattle.setting_places.proofs.Laws.{listed}
 use Rattle.fuse_settings.proofs.Laws.{left_inverse}
@@ -76,7 +76,7 @@ stands first (Block block field) = true
 stands first (Global field) = first
 
 -- Whether the candidate at a row, column and bit is one that lies there.
-abbrev pub named : (foeCount : ℕ) (first : Bool) (row column bit : ℕ) → Candidate → Bool
+abbrev pub named : (foeCount : ℕ) (first : Bool) (row column bit : ℕ) → SettingBit → Bool
 named e first row column bit c =
     (stands first c.setting && at_bit row column bit (place_of c.setting c.bit))
     && (has_with e c.setting && ltb c.bit (bits_of c.setting))
@@ -110,7 +110,7 @@ data InMain (block : ℕ) : Setting → Type 0 where
   blocks : (field : BlockField) → InMain block (Block block field)
   global : (field : GlobalField) → InMain block (Global field)
 
-abbrev CandidateInMain : ℕ → Candidate → Type 0
+abbrev CandidateInMain : ℕ → SettingBit → Type 0
 CandidateInMain block c = InMain block c.setting
 
 candidate_in_main_lem : (block row column bit : ℕ) → CandidateInMain block (candidate_in_main block row column bit)
@@ -121,7 +121,7 @@ candidate_in_main_lem block row column bit =
     (λ g. by_cases (CandidateInMain block) row 55 (λ l. macrocell _ _) (λ g. blocks _))))
 
 -- A candidate that is always listed stands below bit 6.
-abbrev LiteralBit : ℕ → Candidate → Type 0
+abbrev LiteralBit : ℕ → SettingBit → Type 0
 LiteralBit bit c = always_listed c.setting ≡ true → bit < 6
 
 literal_bit : (block row column bit : ℕ) → LiteralBit bit (candidate_in_main block row column bit)
@@ -211,7 +211,7 @@ module _ (d : Device) (k : known d ≡ true) (f : ℕ) (below : f < fuse_count d
   main_unnamed block row column bit h e =
       rw (← e) (at_candidate (candidate_in_main block row column bit) (candidate_in_main_lem block row column bit))
     where
-      at_candidate : (c : Candidate) → CandidateInMain block c
+      at_candidate : (c : SettingBit) → CandidateInMain block c
           → one_if_none (if_listed d f c) ≡ cond (named (foes d) (eqb 0 block) row column bit c) 0 1
       at_candidate c i =
           rw (lists_at block row column bit e c.setting c.bit, stands_here block c.bit i, has_with_lem block d h i)
@@ -233,7 +233,7 @@ module _ (d : Device) (k : known d ≡ true) (f : ℕ) (below : f < fuse_count d
       ap one_if_none (ap (setting_at d) (sym on) ∙ (left_inverse d k).inverse s 0 ((and_iff (has_setting d s) true).1 (has, refl)))
 
   -- A literal or a wire-AND that is the candidate at the place of a fuse is the setting there.
-  pub always_listed_lem : (c : Candidate) → c ≡ candidate_at (place_of_fuse d f) → always_listed c.setting ≡ true
+  pub always_listed_lem : (c : SettingBit) → c ≡ candidate_at (place_of_fuse d f) → always_listed c.setting ≡ true
       → some (c.setting, c.bit) ≡ setting_at d f
   unfolding setting_at candidate_at has_place
   always_listed_lem c g a =
@@ -248,5 +248,5 @@ module _ (d : Device) (k : known d ≡ true) (f : ℕ) (below : f < fuse_count d
           ∙ rw (literal_named (foes d) (eqb 0 block) block row column bit facts.0.0.1 facts.0.1 low)
       named_there (byte.WireAnd block subarea row column) bit e a = wire_and_named block subarea row column bit e
 
-      the_candidate : (c : Candidate) → one_if_none (if_listed d f c) ≡ 0 → some (c.setting, c.bit) ≡ if_listed d f c
+      the_candidate : (c : SettingBit) → one_if_none (if_listed d f c) ≡ 0 → some (c.setting, c.bit) ≡ if_listed d f c
       the_candidate c = some_unless (lists d c.setting c.bit && eqb (fuse_of d c.setting c.bit) f) (c.setting, c.bit)

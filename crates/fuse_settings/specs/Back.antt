@@ -21,7 +21,7 @@ use Rattle.settings.specs.declared.GlobalField.TheVariants.{FsrInv, FclkInv, Foe
 use Rattle.settings.specs.declared.Setting.{Setting}
 use Rattle.settings.specs.declared.Setting.TheVariants.{Literal, WireAnd, Macrocell, Block, Global}
 use Rattle.setting_places.specs.Places.{first_row, fuse_of, lists}
-use Rattle.fuse_settings.specs.declared.candidates.Candidate.{Candidate}
+use Rattle.fuse_settings.specs.declared.SettingBit.{SettingBit}
 
 abbrev pub polarity_of_row : ℕ → Polarity
 polarity_of_row row = cond (eqb (row % 2) 1) P N
@@ -57,7 +57,7 @@ global_bit_near row column bit =
     (cond (ltb row 6) (row - 3)
     (cond (ltb row 8 && ltb column 8) (16 * (7 - row) + 2 * (7 - column) + (bit - 6)) 0))
 
-abbrev pub candidate_in_main : (block row column bit : ℕ) → Candidate
+abbrev pub candidate_in_main : (block row column bit : ℕ) → SettingBit
 candidate_in_main block row column bit =
     cond (ltb bit 6)
     (record { setting = Literal block (column / 5 + 3 * bit) (column % 5) (row / 2) (polarity_of_row row); bit = 0 })
@@ -72,12 +72,12 @@ candidate_in_main block row column bit =
     })
     (record { setting = Block block (block_field_near row column); bit = 0 }))))
 
-abbrev pub candidate_in : BytePlace → ℕ → Candidate
+abbrev pub candidate_in : BytePlace → ℕ → SettingBit
 candidate_in (byte.Main block row column) bit = candidate_in_main block row column bit
 candidate_in (byte.WireAnd block subarea row column) bit =
     record { setting = WireAnd block (column + 5 * bit) subarea row; bit = 0 }
 
-unfoldable pub candidate_at : Place → Candidate
+unfoldable pub candidate_at : Place → SettingBit
 candidate_at p = candidate_in p.byte p.bit
 
 -- Literals and wire-ANDs always list the place at which they are the candidate: law `always_listed_lem`.
@@ -89,7 +89,7 @@ always_listed (Block block field) = false
 always_listed (Global field) = false
 
 -- The setting and the bit whose fuse it is, or none.
-abbrev pub if_listed : Device → ℕ → Candidate → Option (Setting × ℕ)
+abbrev pub if_listed : Device → ℕ → SettingBit → Option (Setting × ℕ)
 if_listed d fuse c =
     cond (lists d c.setting c.bit && eqb (fuse_of d c.setting c.bit) fuse) (some (c.setting, c.bit)) none
 

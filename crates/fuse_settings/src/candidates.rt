@@ -7,9 +7,10 @@ ghost use Rattle.settings.specs.declared.Setting.TheVariants.{Literal};
 ghost use Rattle.fuse_settings.specs.Back.{polarity_of_row, field_index_at_row, block_field_near, global_field_near};
 ghost use Rattle.fuse_settings.specs.Back.{global_bit_near, candidate_in_main, candidate_at, always_listed};
 
+use super::SettingBit;
 use part::{BytePlace, Device, Place};
 use setting_places::places::first_row;
-use settings::{BlockField, GlobalField, Polarity, Setting};
+use settings::{BlockField, GlobalField, MacrocellField, Polarity, Setting};
 
 const FIRST_MACROCELL_ROW: u32 = 12;
 
@@ -18,13 +19,6 @@ const FIELD_INDEX_AT_ROW: [u32; 43] = [
     0, 0, 1, 1, 2, 2, 3, 3, 4, 4, 5, 6, 7, 8, 9, 10, 10, 11, 11, 11, 11, 11, 11, 12, 13, 13, 13,
     13, 14, 15, 16, 17, 18, 18, 19, 19, 20, 21, 22, 23, 24, 25, 26,
 ];
-
-// A setting and a bit that may be those at a place.
-#[derive(Clone, Copy)]
-pub struct Candidate {
-    pub setting: Setting,
-    pub bit: u32,
-}
 
 fn polarity_of_row(row: u32) -> Polarity
     ensures { result ≡ polarity_of_row row }
@@ -98,13 +92,13 @@ fn global_bit_near(row: u32, column: u32, bit: u32) -> u32
     0
 }
 
-fn candidate_in_main(block: u32, row: u32, column: u32, bit: u32) -> Candidate
+fn candidate_in_main(block: u32, row: u32, column: u32, bit: u32) -> SettingBit
     requires { (bit < 8) × (column < main_columns) }
     ensures { result ≡ candidate_in_main block row column bit }
 {
     if bit < 6 {
         let polarity = polarity_of_row(row);
-        return Candidate {
+        return SettingBit {
             setting: Setting::Literal {
                 block,
                 macrocell: column / 5 + 3 * bit,
@@ -118,13 +112,13 @@ fn candidate_in_main(block: u32, row: u32, column: u32, bit: u32) -> Candidate
     if row < 11 {
         let global = global_field_near(row, column);
         let at = global_bit_near(row, column, bit);
-        return Candidate {
+        return SettingBit {
             setting: Setting::Global(global),
             bit: at,
         };
     }
     if row < 12 {
-        return Candidate {
+        return SettingBit {
             setting: Setting::Block {
                 block,
                 field: BlockField::ReadProtA,
@@ -134,9 +128,9 @@ fn candidate_in_main(block: u32, row: u32, column: u32, bit: u32) -> Candidate
     }
     if row < 55 {
         let index = field_index_at_row(row);
-        let field = settings::fields::macrocell_field_at(index);
+        let field = MacrocellField::from_index(index);
         let first = first_row(index);
-        return Candidate {
+        return SettingBit {
             setting: Setting::Macrocell {
                 block,
                 macrocell: column + 9 * (bit - 6),
@@ -146,14 +140,14 @@ fn candidate_in_main(block: u32, row: u32, column: u32, bit: u32) -> Candidate
         };
     }
     let near = block_field_near(row, column);
-    Candidate {
+    SettingBit {
         setting: Setting::Block { block, field: near },
         bit: 0,
     }
 }
 
 // The setting and the bit at a place, if there are any there.
-pub fn candidate_at(d: Device, place: Place) -> Candidate
+pub fn candidate_at(d: Device, place: Place) -> SettingBit
     requires { has_place d place ≡ true }
     ensures { result ≡ candidate_at place }
 {
@@ -166,7 +160,7 @@ pub fn candidate_at(d: Device, place: Place) -> Candidate
             subarea,
             row,
             column,
-        } => Candidate {
+        } => SettingBit {
             setting: Setting::WireAnd {
                 block,
                 input: column + 5 * bit,
@@ -182,26 +176,5 @@ pub fn candidate_at(d: Device, place: Place) -> Candidate
 pub fn always_listed(s: Setting) -> bool
     ensures { result ≡ always_listed s }
 {
-    match s {
-        Setting::Literal {
-            block: _,
-            macrocell: _,
-            term: _,
-            input: _,
-            polarity: _,
-        } => true,
-        Setting::WireAnd {
-            block: _,
-            input: _,
-            source: _,
-            macrocell: _,
-        } => true,
-        Setting::Macrocell {
-            block: _,
-            macrocell: _,
-            field: _,
-        } => false,
-        Setting::Block { block: _, field: _ } => false,
-        Setting::Global(_) => false,
-    }
+    matches!(s, Setting::Literal { .. } | Setting::WireAnd { .. })
 }

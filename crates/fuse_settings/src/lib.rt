@@ -6,44 +6,43 @@ ghost use Rattle.std.specs.Prelude.{◌≡◌};
 ghost use Rattle.fuse_settings.specs.Answer.{named_outcome};
 ghost use Rattle.fuse_settings.specs.Operations.{setting_at_fuse};
 
-use part::{Device, FuseNumber, Refusal};
-use settings::Setting;
+use candidates::{always_listed, candidate_at};
+use part::places::place_of_fuse;
+use part::{Device, FuseNumber, KnownDevice, Refusal};
+use setting_places::places::{bits_of, fuse_of};
+use settings::{DeviceSetting, Setting};
 
 pub mod candidates;
 
-// The setting that a fuse belongs to, and which of its bits the fuse is.
-#[derive(Clone, Copy)]
-pub enum NamedAnswer {
-    Bit(Setting, u32),
-    Unnamed,
-    Refused(Refusal),
+// A setting and one of its bits.
+#[derive(Clone, Copy, Debug, PartialEq, Eq)]
+pub struct SettingBit {
+    pub setting: Setting,
+    pub bit: u32,
 }
 
-// The setting and the bit at a fuse. Refused: 1, 3.
-pub fn setting_at_fuse(d: Device, fuse: FuseNumber) -> NamedAnswer
+// The setting and the bit at a fuse, if a setting has the fuse. Refused: 1, 3.
+pub fn setting_at_fuse(d: Device, fuse: FuseNumber) -> Result<Option<SettingBit>, Refusal>
     ensures { named_outcome result ≡ setting_at_fuse d fuse.0 }
 {
-    if !part::is_known(d) {
-        return NamedAnswer::Refused(Refusal::UnknownDevice);
+    let part = KnownDevice::try_from(d)?;
+    if part.fuse_count() <= fuse.0 {
+        return Err(Refusal::NoSuchFuse);
     }
-    if part::geometry::fuse_count(d) <= fuse.0 {
-        return NamedAnswer::Refused(Refusal::NoSuchFuse);
+    let place = place_of_fuse(part, fuse);
+    let candidate = candidate_at(d, place);
+    if always_listed(candidate.setting) {
+        return Ok(Some(candidate));
     }
-    let place = part::places::place_of_fuse(d, fuse);
-    let candidate = candidates::candidate_at(d, place);
-    let s = candidate.setting;
-    if candidates::always_listed(s) {
-        return NamedAnswer::Bit(s, candidate.bit);
+    let Ok(there) = DeviceSetting::new(part, candidate.setting) else {
+        return Ok(None);
+    };
+    if bits_of(there) <= candidate.bit {
+        return Ok(None);
     }
-    if !settings::fields::has_setting(d, s) {
-        return NamedAnswer::Unnamed;
+    let found = fuse_of(there, candidate.bit);
+    if found != fuse {
+        return Ok(None);
     }
-    if setting_places::places::bits_of(d, s) <= candidate.bit {
-        return NamedAnswer::Unnamed;
-    }
-    let found = setting_places::places::fuse_of(d, s, candidate.bit);
-    if found.0 != fuse.0 {
-        return NamedAnswer::Unnamed;
-    }
-    NamedAnswer::Bit(s, candidate.bit)
+    Ok(Some(candidate))
 }

@@ -8,18 +8,17 @@ use borrow.Author.Tests.{lt-ltb, le-ltb, eq-eqb, ne_eqb}
 use Rattle.part.specs.Outcome.Outcome.{accepted, refused}
 use Rattle.part.specs.Device.{known}
 use Rattle.part.specs.declared.Device.{Device}
-use Rattle.part.proofs.Devices.{is_known, is_unknown}
+use Rattle.part.proofs.Refused.{refused_with}
 use mathlib.Core.Option.Option.{none, some}
 use Rattle.part.specs.Device.{fuse_count}
 use Rattle.part.specs.Place.{has_place, place_of_fuse}
 use Rattle.part.specs.declared.Place.{Place}
 use Rattle.part.proofs.Fuses.{at_fuse}
 use Rattle.settings.specs.Settings.{has_setting}
-use Rattle.settings.proofs.Asked.{has, has_not}
 use Rattle.setting_places.specs.Places.{bits_of, fuse_of}
 use Rattle.fuse_settings.specs.Back.{candidate_at, always_listed, setting_at}
 use Rattle.fuse_settings.specs.Operations.{setting_at_fuse}
-use Rattle.fuse_settings.specs.declared.candidates.Candidate.{Candidate}
+use Rattle.fuse_settings.specs.declared.SettingBit.{SettingBit}
 use Rattle.fuse_settings.proofs.NamedFuses.{always_listed_lem}
 use borrow.Author.Rules.{rules}
 use Rattle.fuse_settings.proofs.setting_at_fuse.Goals as goal
@@ -39,7 +38,7 @@ place_there : (d : Device) (f : ℕ) (p : Place) → p ≡ place_of_fuse d f →
 place_there d f p e h = rw e (at_fuse d f h).0
 
 -- What the code has found at each return, and the definition's answer.
-module _ (d : Device) (f : ℕ) (p : Place) (c : Candidate) (k : known d ≡ true) (h : f < fuse_count d) (e : p ≡ place_of_fuse d f)
+module _ (d : Device) (f : ℕ) (p : Place) (c : SettingBit) (k : known d ≡ true) (h : f < fuse_count d) (e : p ≡ place_of_fuse d f)
     (g : c ≡ candidate_at p) where
   always : (t : Bool) → t ≡ always_listed c.setting → t ≡ true → accepted (some (c.setting, c.bit)) ≡ setting_at_fuse d f
   unfolding setting_at_fuse
@@ -81,26 +80,26 @@ module _ (d : Device) (f : ℕ) (p : Place) (c : Candidate) (k : known d ≡ tru
           eq-eqb (fuse_of d c.setting c.bit) f (sym w ∙ same),
         )
 
-pub returns-then-not-is_known : goal.returns-then-not-is_known
-returns-then-not-is_known c = search (rules, is_unknown, no_device)
+pub returns-in_err-part : goal.returns-in_err-part
+returns-in_err-part c = search (rules, refused_with, no_device)
 
 pub returns-then-fuse_count-fuse : goal.returns-then-fuse_count-fuse
-returns-then-fuse_count-fuse c = search (rules, is_known, no_fuse_lem)
+returns-then-fuse_count-fuse c = rw (← c.in_ok-part.ensures) (search (rules, no_fuse_lem))
 
 pub candidate_at-candidate-requires : goal.candidate_at-candidate-requires
-candidate_at-candidate-requires c = search (rules, below, place_there)
+candidate_at-candidate-requires c = rw (← c.in_ok-part.ensures) (search (rules, below, place_there))
 
 pub returns-then-always_listed : goal.returns-then-always_listed
-returns-then-always_listed c = search (rules, is_known, below, always)
+returns-then-always_listed c = rw (← c.in_ok-part.ensures) (search (rules, below, always))
 
-pub returns-then-not-has_setting : goal.returns-then-not-has_setting
-returns-then-not-has_setting c = search (rules, is_known, has_not, below, not_there)
+pub returns-in_default : goal.returns-in_default
+returns-in_default c = rw (← c.in_ok-part.ensures) (search (rules, below, not_there))
 
 pub returns-then-bits_of-candidate : goal.returns-then-bits_of-candidate
-returns-then-bits_of-candidate c = search (rules, is_known, has, below, no_such_bit)
+returns-then-bits_of-candidate c = rw (← c.in_ok-part.ensures) (search (rules, below, no_such_bit))
 
-pub returns-then-found-fuse : goal.returns-then-found-fuse
-returns-then-found-fuse c = search (rules, is_known, has, below, another)
+pub returns-then-ne : goal.returns-then-ne
+returns-then-ne c = rw (← c.in_ok-part.ensures) (search (rules, below, another))
 
 pub returns : goal.returns
-returns c = search (rules, is_known, has, below, listed)
+returns c = rw (← c.in_ok-part.ensures) (search (rules, below, listed))
