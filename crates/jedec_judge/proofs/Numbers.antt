@@ -1,24 +1,22 @@
 -- Numbers of decimal digits: the digits that bytes start with, and bytes that are 1 to 7 digits and nothing else.
 -- Assumes nothing.
 use mathlib.Core.Path.{◌≡◌, refl, sym, ◌∙◌, ap}
-use mathlib.Core.Bool.{true, false, ◌&&◌, true≢false}
 use mathlib.Core.List.{List, [], ◌∷◌, ◌++◌}
 use mathlib.Core.Option.{Option}
 use mathlib.Core.Option.Option.{none, some}
-use Prim.Native.Nat.{ℕ, suc, ◌+◌, ◌*◌, ◌-◌, ◌^◌, ◌≤◌, ◌<◌}
+use Prim.Native.Nat.{ℕ, suc, ◌+◌, ◌*◌, ◌^◌, ◌≤◌, ◌<◌, min}
 use native.Mathlib.Omega.{arith}
 use native.Mathlib.Nat.{pow-suc, pow-le-pow_right, lt_of_lt_of_le}
 use native.Mathlib.Numerals.{add-one}
 use lib.Arith.{digits_lt}
-use lib.Dec.{ltb}
 use lib.ListN.{length, get_or, take, drop, length-append}
 use lib.Seq.{take_all, length-take-le, take-suc, split_at}
-use borrow.Author.Tests.{le-leb, lt-leb, ltb-true, lt-ltb}
-use Rattle.part.proofs.Facts.{compared, and_iff}
+use borrow.Author.Tests.{le-leb, lt-leb}
+use Rattle.part.proofs.Facts.{compared}
 use Rattle.jedec.specs.Characters.{decimal_value, and_then, digits_read, number_in}
-use Rattle.jedec_judge.specs.Judged.{value_or, DigitsStand}
+use Rattle.jedec_judge.specs.Judged.{DigitsStand}
 use Rattle.jedec_judge.specs.declared.digits.LeadingDigits.{LeadingDigits}
-use Rattle.jedec_judge.proofs.DigitsRead.{decimal_digit_lem}
+use Rattle.jedec_judge.proofs.DigitsRead.{digit_below, decimal_below}
 
 -- A digit more is read behind the digits of the first bytes.
 digits_snoc : (base : ℕ) (digit : ℕ → Option ℕ) (a : List ℕ) (x b : ℕ)
@@ -49,54 +47,34 @@ module _ (bytes : List ℕ) (x i : ℕ) (r : Leads bytes x i) where
   leads_small : x < 10 ^ 7
   leads_small = lt_of_lt_of_le r.small (pow-le-pow_right (omega arith) r.few)
 
-  module _ (both : (ltb i 7 && ltb i (length bytes)) ≡ true) where
-    here : (i < 7) × (i < length bytes)
-    here = let p = (and_iff (ltb i 7) (ltb i (length bytes))).0 both in (ltb-true i 7 p.0, ltb-true i (length bytes) p.1)
+  pub leads_space : x * 10 < 2 ^ 32
+  leads_space = omega (arith, leads_small)
 
-    pub leads_there : i < length bytes
-    leads_there = here.1
+  module _ (y : ℕ) (e : some y ≡ decimal_value (get_or bytes i 0)) where
+    less : y < 10
+    less = digit_below 10 y _ (decimal_below (get_or bytes i 0)) e
 
-    pub leads_falls : 7 - (i + 1) < 7 - i
-    leads_falls = omega (arith, here.0)
+    pub leads_sum : x * 10 + y < 2 ^ 32
+    leads_sum = omega (arith, leads_small, less)
 
-    pub leads_space : x * 10 < 2 ^ 32
-    leads_space = omega (arith, leads_small)
+    pub leads_on : i < length bytes → i < 7 → Leads bytes (x * 10 + y) (i + 1)
+    leads_on l m =
+        record {
+          inside = omega arith;
+          few = omega arith;
+          small = rw (add-one i, pow-suc 10 i) (digits_lt r.small less);
+          reads =
+              rw (add-one i, take-suc bytes i 0 l, digits_snoc 10 decimal_value (take i bytes) 0 (get_or bytes i 0), r.reads, ← e);
+        }
 
-    module _ (y : ℕ) (e : y ≡ value_or 16 (decimal_value (get_or bytes i 0))) where
-      pub leads_sum : (y ≡ 16 → ⊥) → x * 10 + y < 2 ^ 32
-      leads_sum h = let less : y < 10 = rw e ((decimal_digit_lem (get_or bytes i 0)).below (λ w. h (e ∙ w))) in omega (arith, leads_small)
+  pub leads_stop : none ≡ decimal_value (get_or bytes i 0) → DigitsStand bytes (record { value = x; length = i })
+  leads_stop e = record { inside = r.inside; few = r.few; reads = r.reads; stops = λ l m. sym e }
 
-      pub leads_on : (y ≡ 16 → ⊥) → Leads bytes (x * 10 + y) (i + 1)
-      leads_on h =
-          let d = decimal_digit_lem (get_or bytes i 0) in
-          let ne : value_or 16 (decimal_value (get_or bytes i 0)) ≡ 16 → ⊥ = λ z. h (e ∙ z) in
-          let is : decimal_value (get_or bytes i 0) ≡ some y = d.some_there ne ∙ ap some (sym e) in
-          let less : y < 10 = rw e (d.below ne) in
-          record {
-            inside = omega (arith, here.1);
-            few = omega (arith, here.0);
-            small = rw (add-one i, pow-suc 10 i) (digits_lt r.small less);
-            reads =
-                rw (add-one i, take-suc bytes i 0 here.1, digits_snoc 10 decimal_value (take i bytes) 0 (get_or bytes i 0), r.reads, is);
-          }
-
-      pub leads_stop : y ≡ 16 → DigitsStand bytes (record { value = x; length = i })
-      leads_stop h =
-          record {
-            inside = r.inside;
-            few = r.few;
-            reads = r.reads;
-            stops = λ l m. (decimal_digit_lem (get_or bytes i 0)).none_there (sym e ∙ h);
-          }
-
-  pub leads_end : (ltb i 7 && ltb i (length bytes)) ≡ false → DigitsStand bytes (record { value = x; length = i })
-  leads_end n =
-      record {
-        inside = r.inside;
-        few = r.few;
-        reads = r.reads;
-        stops = λ l m. absurd (true≢false (sym (rw (lt-ltb i 7 m, lt-ltb i (length bytes) l)) ∙ n));
-      }
+  pub leads_end : (most : ℕ) → most ≡ min (length bytes) 7 → i ≤ most → most ≤ i
+      → DigitsStand bytes (record { value = x; length = most })
+  leads_end most e l m =
+      let here : i ≡ most = omega arith in
+      rw (← here) (record { inside = r.inside; few = r.few; reads = r.reads; stops = λ u v. absurd (omega arith) })
 
 -- Digits and a byte behind them that is no digit write no number.
 digits_wrong : (a c : List ℕ) (x v b : ℕ) → digits_read 10 decimal_value x a ≡ some v → decimal_value b ≡ none

@@ -1,6 +1,7 @@
 -- What the answers about numbers and judged fields say, in the terms of crate `jedec`.
 -- A field is judged without a list of its states: they are read off its bytes, and few are told as bits.
 use Rattle.std.specs.Prelude.{ℕ, ◌-◌, ◌^◌, ◌≤◌, ◌<◌, ◌≡◌, true, List, [], length, get_or, take, drop, replicate}
+use Rattle.std.specs.Prelude as code
 use Rattle.std.proofs.Math.Option.{Option}
 use Rattle.std.proofs.Math.Option.Option.{none, some}
 use Rattle.cells.specs.Cells.{cut}
@@ -8,21 +9,15 @@ use Rattle.jedec.specs.Characters.{letter_l, decimal_value, digits_read}
 use Rattle.jedec.specs.Cut.{starts_with}
 use Rattle.jedec.specs.Judge.{Judged, states_in, list_in}
 use Rattle.jedec.specs.Judge.Judged.{count, start, list, sum, skipped, bad}
-use Rattle.jedec_judge.specs.declared.digits.Digits.{Digits}
-use Rattle.jedec_judge.specs.declared.digits.Digits.TheVariants as digits
 use Rattle.jedec_judge.specs.declared.digits.LeadingDigits.{LeadingDigits}
+use Rattle.jedec_judge.specs.declared.FuseList.{FuseList}
 use Rattle.jedec_judge.specs.declared.FieldSays.{FieldSays}
 use Rattle.jedec_judge.specs.declared.FieldSays.TheVariants as says
 
--- A number, or another where there is none.
-abbrev pub value_or : ℕ → Option ℕ → ℕ
-value_or other none = other
-value_or other (some x) = x
-
--- What an answer about a number says.
-abbrev pub number_read : Digits → Option ℕ
-number_read (digits.Number x) = some x
-number_read digits.Wrong = none
+-- What an answer about a digit or a number says.
+abbrev pub number_read : code.Option ℕ → Option ℕ
+number_read (code.Some x) = some x
+number_read code.None = none
 
 -- The first bytes that are digits write a number, and are at most seven; fewer only before a byte that is no digit.
 pub record DigitsStand (bytes : List ℕ) (r : LeadingDigits) : Type 0 where
@@ -43,7 +38,7 @@ states_of bytes = or_empty (states_in bytes)
 abbrev pub judged_after : (after : List ℕ) → FieldSays → Judged
 judged_after after (says.Count n) = count n
 judged_after after (says.Start s) = start s
-judged_after after (says.List first skip many bits) = list first (states_of (drop skip after))
+judged_after after (says.List l) = list l.first (states_of (drop l.skip after))
 judged_after after (says.Sum x) = sum x
 judged_after after says.Skipped = skipped
 judged_after after says.Bad = bad
@@ -58,19 +53,19 @@ pub record AsBits (states : List ℕ) (number bits : ℕ) : Type 0 where
   pub are : states ≡ cut (replicate number 1) bits
 
 -- The states that an answer speaks of are there, and there are so many; few are told as bits.
-pub record ListFits (after : List ℕ) (skip number bits : ℕ) : Type 0 where
-  pub inside : skip ≤ length after
-  pub found : states_in (drop skip after) ≡ some (states_of (drop skip after))
-  pub many : length (states_of (drop skip after)) ≡ number
-  pub few : number ≤ length after
-  pub any : 0 < number
-  pub told : number ≤ states_in_word → AsBits (states_of (drop skip after)) number bits
+pub record ListFits (after : List ℕ) (l : FuseList) : Type 0 where
+  pub inside : l.skip ≤ length after
+  pub found : states_in (drop l.skip after) ≡ some (states_of (drop l.skip after))
+  pub many : length (states_of (drop l.skip after)) ≡ l.count
+  pub few : l.count ≤ length after
+  pub any : 0 < l.count
+  pub told : l.count ≤ states_in_word → AsBits (states_of (drop l.skip after)) l.count l.bits
 
 -- What an answer speaks of is there: a start state is 0 or 1, and states stand in the field.
 abbrev pub SaysFits : (after : List ℕ) → FieldSays → Type 0
 SaysFits after (says.Count n) = Unit {0}
 SaysFits after (says.Start s) = s < 2
-SaysFits after (says.List first skip many bits) = ListFits after skip many bits
+SaysFits after (says.List l) = ListFits after l
 SaysFits after (says.Sum x) = Unit {0}
 SaysFits after says.Skipped = Unit {0}
 SaysFits after says.Bad = Unit {0}

@@ -1,103 +1,80 @@
 // Decimal and hex digits, and the numbers that they write.
-// A function here may require that a base is at most ten.
-ghost use Rattle.std.specs.Prelude.{◌≡◌, cond, ◌&&◌, ◌+◌, ◌-◌, ◌≤◌, leb};
+// A byte or bytes that write none are answered by `None`.
+ghost use Rattle.std.specs.Prelude.{◌≡◌};
 ghost use Rattle.jedec.specs.Characters.{decimal_value, hex_value, number_in, sum_in};
-ghost use Rattle.jedec_judge.specs.Judged.{value_or, number_read, DigitsStand};
-
-// A number, or bytes that write none.
-#[derive(Clone, Copy)]
-pub enum Digits {
-    Number(u32),
-    Wrong,
-}
+ghost use Rattle.jedec_judge.specs.Judged.{number_read, DigitsStand};
 
 // Decimal digits from the first byte on, and the number that they write.
-#[derive(Clone, Copy)]
+#[derive(Clone, Copy, Debug, PartialEq, Eq)]
 pub struct LeadingDigits {
     pub value: u32,
     pub length: usize,
 }
 
-// What a byte between two others stands for, or another number.
-fn value_between(b: u8, low: u8, high: u8, base: u32, other: u32) -> u32
-    requires { base ≤ 10 }
-    ensures { result ≡ cond (leb low b && leb b high) (b - low + base) other }
+// What a decimal digit stands for.
+fn decimal_value(b: u8) -> Option<u32>
+    ensures { number_read result ≡ decimal_value b }
 {
-    if (low <= b) & (b <= high) {
-        return (b - low) as u32 + base;
+    match b {
+        b'0'..=b'9' => Some((b - b'0') as u32),
+        _ => None,
     }
-    other
 }
 
-// What a decimal digit stands for, or 16.
-fn decimal_value(b: u8) -> u32
-    ensures { result ≡ value_or 16 (decimal_value b) }
+// What a hex digit stands for.
+pub fn hex_value(b: u8) -> Option<u32>
+    ensures { number_read result ≡ hex_value b }
 {
-    value_between(b, b'0', b'9', 0, 16)
-}
-
-// What a hex digit stands for, or 16.
-pub fn hex_value(b: u8) -> u32
-    ensures { result ≡ value_or 16 (hex_value b) }
-{
-    let lower = value_between(b, b'a', b'f', 10, 16);
-    let upper = value_between(b, b'A', b'F', 10, lower);
-    value_between(b, b'0', b'9', 0, upper)
+    match b {
+        b'0'..=b'9' => Some((b - b'0') as u32),
+        b'A'..=b'F' => Some((b - b'A') as u32 + 10),
+        b'a'..=b'f' => Some((b - b'a') as u32 + 10),
+        _ => None,
+    }
 }
 
 // The first bytes that are decimal digits, at most seven, and the number that they write.
 pub fn leading_digits(bytes: &[u8]) -> LeadingDigits
     ensures { DigitsStand bytes.now result }
 {
-    let mut x: u32 = 0;
-    let mut i: usize = 0;
-    while (i < 7) & (i < bytes.len()) {
-        let y = decimal_value(bytes[i]);
-        if y == 16 {
-            return LeadingDigits {
-                value: x,
-                length: i,
-            };
-        }
-        x = x * 10 + y;
-        i += 1;
+    let most = bytes.len().min(7);
+    let mut value: u32 = 0;
+    for i in 0..most {
+        let Some(digit) = decimal_value(bytes[i]) else {
+            return LeadingDigits { value, length: i };
+        };
+        value = value * 10 + digit;
     }
     LeadingDigits {
-        value: x,
-        length: i,
+        value,
+        length: most,
     }
 }
 
 // The number that 1 to 7 decimal digits write.
-pub fn number_in(bytes: &[u8]) -> Digits
+pub fn number_in(bytes: &[u8]) -> Option<u32>
     ensures { number_read result ≡ number_in bytes.now }
 {
     let digits = leading_digits(bytes);
     if digits.length == 0 {
-        return Digits::Wrong;
+        return None;
     }
     if digits.length != bytes.len() {
-        return Digits::Wrong;
+        return None;
     }
-    Digits::Number(digits.value)
+    Some(digits.value)
 }
 
 // The number that four hex digits write.
-pub fn sum_in(bytes: &[u8]) -> Digits
+pub fn sum_in(bytes: &[u8]) -> Option<u32>
     ensures { number_read result ≡ sum_in bytes.now }
 {
     if bytes.len() != 4 {
-        return Digits::Wrong;
+        return None;
     }
-    let mut x: u32 = 0;
-    let mut i: usize = 0;
-    while i < bytes.len() {
-        let y = hex_value(bytes[i]);
-        if y == 16 {
-            return Digits::Wrong;
-        }
-        x = x * 16 + y;
-        i += 1;
+    let mut sum: u32 = 0;
+    for b in bytes {
+        sum = sum * 16 + hex_value(*b)?;
     }
-    Digits::Number(x)
+    Some(sum)
 }

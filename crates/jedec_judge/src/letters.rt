@@ -6,55 +6,36 @@ ghost use Rattle.jedec.specs.Judge.Judged.{sum};
 ghost use Rattle.jedec.specs.Judge.{or_bad, start_in, after_q, by_letters, judge};
 ghost use Rattle.jedec_judge.specs.Judged.{NoGoodList, Says};
 
-use super::digits::{Digits, number_in, sum_in};
+use super::digits::{number_in, sum_in};
 use super::{FieldSays, holds_mark};
 
 // What follows an F.
 fn start_in(bytes: &[u8]) -> FieldSays
     ensures { Says bytes.now (start_in bytes.now) result }
 {
-    if bytes.len() != 1 {
-        return FieldSays::Bad;
+    match bytes {
+        [b'0'] => FieldSays::Start(0),
+        [b'1'] => FieldSays::Start(1),
+        _ => FieldSays::Bad,
     }
-    if bytes[0] == b'0' {
-        return FieldSays::Start(0);
-    }
-    if bytes[0] == b'1' {
-        return FieldSays::Start(1);
-    }
-    FieldSays::Bad
 }
 
 // What follows a Q.
 fn after_q(bytes: &[u8]) -> FieldSays
     ensures { Says bytes.now (after_q bytes.now) result }
 {
-    if bytes.len() == 0 {
-        return FieldSays::Bad;
+    match bytes {
+        [b'F', number @ ..] => number_in(number).map_or(FieldSays::Bad, FieldSays::Count),
+        [b'P' | b'V', ..] => FieldSays::Skipped,
+        _ => FieldSays::Bad,
     }
-    let b = bytes[0];
-    if b == b'F' {
-        let number = number_in(&bytes[1..]);
-        return match number {
-            Digits::Number(n) => FieldSays::Count(n),
-            Digits::Wrong => FieldSays::Bad,
-        };
-    }
-    if (b == b'P') | (b == b'V') {
-        return FieldSays::Skipped;
-    }
-    FieldSays::Bad
 }
 
 // What follows a C.
 fn after_c(bytes: &[u8]) -> FieldSays
     ensures { Says bytes.now (or_bad (sum_in bytes.now) sum) result }
 {
-    let number = sum_in(bytes);
-    match number {
-        Digits::Number(x) => FieldSays::Sum(x),
-        Digits::Wrong => FieldSays::Bad,
-    }
+    sum_in(bytes).map_or(FieldSays::Bad, FieldSays::Sum)
 }
 
 // What a field that is no good L field says, by the letters that it starts with. It holds neither STX nor ETX.
@@ -62,23 +43,13 @@ fn by_letters(field: &[u8]) -> FieldSays
     requires { NoGoodList field.now }
     ensures { Says (drop 1 field.now) (by_letters field.now) result }
 {
-    if field.len() == 0 {
-        return FieldSays::Bad;
+    match field {
+        [b'N' | b'J' | b'X', ..] => FieldSays::Skipped,
+        [b'Q', after @ ..] => after_q(after),
+        [b'F', after @ ..] => start_in(after),
+        [b'C', after @ ..] => after_c(after),
+        _ => FieldSays::Bad,
     }
-    let b = field[0];
-    if (b == b'N') | (b == b'J') | (b == b'X') {
-        return FieldSays::Skipped;
-    }
-    if b == b'Q' {
-        return after_q(&field[1..]);
-    }
-    if b == b'F' {
-        return start_in(&field[1..]);
-    }
-    if b == b'C' {
-        return after_c(&field[1..]);
-    }
-    FieldSays::Bad
 }
 
 // What a field that is no good L field says.

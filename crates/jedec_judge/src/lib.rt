@@ -15,18 +15,22 @@ pub mod letters;
 // which come up to eight at a time, and then for the low bits of the byte that the first state goes into.
 pub const STATES_IN_WORD: usize = 64 - 8;
 
-// What a field says. Of an L field these are the first fuse, how many bytes after the L stand before the states, how
-// many states there are, and the states themselves, the first as the lowest bit, if they are at most `STATES_IN_WORD`.
-#[derive(Clone, Copy)]
+// What an L field says: its first fuse, how many bytes after the L stand before the states, how many states there are,
+// and the states themselves, the first as the lowest bit, if they are at most `STATES_IN_WORD`.
+#[derive(Clone, Copy, Debug, PartialEq, Eq)]
+pub struct FuseList {
+    pub first: u32,
+    pub skip: usize,
+    pub count: usize,
+    pub bits: u64,
+}
+
+// What a field says.
+#[derive(Clone, Copy, Debug, PartialEq, Eq)]
 pub enum FieldSays {
     Count(u32),
     Start(u32),
-    List {
-        first: u32,
-        skip: usize,
-        count: usize,
-        bits: u64,
-    },
+    List(FuseList),
     Sum(u32),
     Skipped,
     Bad,
@@ -39,15 +43,10 @@ fn is_mark(b: u8) -> bool
     (b == STX) | (b == ETX)
 }
 
-// Whether some bytes hold STX or ETX. Every byte is looked at, so that several are at a time.
+// Whether some bytes hold STX or ETX. Every byte is looked at, which is faster than to stop at the first: several are
+// looked at at a time.
 pub fn holds_mark(bytes: &[u8]) -> bool
     ensures { result ≡ holds_mark bytes.now }
 {
-    let mut found = false;
-    let mut i: usize = 0;
-    while i < bytes.len() {
-        found = found | is_mark(bytes[i]);
-        i += 1;
-    }
-    found
+    bytes.iter().fold(false, |found, b| found | is_mark(*b))
 }
