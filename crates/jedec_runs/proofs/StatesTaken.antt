@@ -1,28 +1,15 @@
 -- What stands at an offset, states or a blank, and what is taken there.
 -- Assumes nothing.
-use Rattle.std.proofs.Common.{◌≡◌, ℕ, suc, ◌+◌, ◌-◌, ◌/◌, ◌%◌, ◌^◌, ◌<◌, ◌≤◌, Bool, true, false, ◌||◌, eqb, List, [], length, get_or, take, drop, replicate, sym, ap, ◌∙◌, append-nil, add-zero, mod-eq_of_lt, arith, length-drop, drop_of_length-le, get_or-drop, drop-cons, drop-drop, take-add, w8, Fits}
+use Rattle.std.proofs.Common.{◌≡◌, ℕ, suc, ◌+◌, ◌-◌, ◌/◌, ◌%◌, ◌^◌, ◌<◌, ◌≤◌, true, false, ◌||◌, eqb, List, [], length, get_or, take, drop, replicate, sym, ap, ◌∙◌, append-nil, add-zero, mod-eq_of_lt, arith, length-drop, get_or-drop, drop-cons, drop-drop, take-add, w8, Fits}
 use mathlib.Core.Option.Option.{none, some}
 use lib.Bits.{bit_and}
 use Rattle.cells.specs.Cells.{cut, join}
 use Rattle.cells.proofs.Laws.{join_small, total_replicate}
-use Rattle.jedec.specs.Characters.{is_blank}
 use Rattle.jedec.specs.Judge.{states_in}
 use Rattle.jedec_runs.specs.Runs.{AllStates, one_if_blank, IsBlankAt, StatesAt}
 use Rattle.jedec_runs.proofs.Words.{no_states, spread, and_apart}
 use Rattle.jedec_runs.proofs.LowestBits.{bits_low}
 use Rattle.jedec_runs.proofs.StatesWritten.{Octets, states_append, state_half, states_written, blank_written, no_blank}
-
--- A blank stands at an offset, or another byte, or none.
-module _ (bytes : List ℕ) (at : ℕ) where
-  pub none_there : length bytes ≤ at → IsBlankAt bytes at 0
-  none_there l = record { is = rw (drop_of_length-le bytes l); few = omega arith; inside = λ h. omega arith }
-
-  module _ (l : at < length bytes) (t : Bool) (e : t ≡ is_blank (get_or bytes at 0)) where
-    pub blank_there : t ≡ true → IsBlankAt bytes at 1
-    blank_there h = record { is = rw (drop-cons bytes at 0 l, ← e, h); few = omega arith; inside = λ m. omega arith }
-
-    pub other_there : t ≡ false → IsBlankAt bytes at 0
-    other_there h = record { is = rw (drop-cons bytes at 0 l, ← e, h); few = omega arith; inside = λ m. omega arith }
 
 -- A blank behind states writes no state.
 with_blank : (bytes : List ℕ) (at k z : ℕ) (states : List ℕ) → IsBlankAt bytes (at + k) z → states_in (take k (drop at bytes)) ≡ some states

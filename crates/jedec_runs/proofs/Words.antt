@@ -5,6 +5,7 @@ use native.Mathlib.Nat.{mod-one}
 use lib.Bits.{bit_and, and_block, and_mask}
 use lib.Pow.{high, low, mod-mod-pow, mod-pow-add}
 use Rattle.cells.specs.Cells.{cut, join}
+use Rattle.cells.proofs.Laws.{join_small, total_replicate}
 use Rattle.jedec_runs.specs.Runs.{AllStates}
 
 -- The lowest bits of so many bytes, a byte each.
@@ -99,20 +100,28 @@ unfolding AllStates
 no_states bytes = tt
 
 module _ (word : ℕ) (bytes : List ℕ) (e : word ≡ join (replicate 8 8) bytes) where
+  -- What differs from the character 0, in a word of eight of these.
+  abbrev others : ℕ
+  others = (word - bit_and word 0x0101010101010101 + (2 ^ 64 - 0x3030303030303030)) % 2 ^ 64
+
+  back : (others + 0x3030303030303030) % 2 ^ 64 ≡ word - bit_and word 0x0101010101010101
+  back =
+      let small : word < 2 ^ 64 = rw e (rw (total_replicate 8 8) at (join_small (replicate 8 8) bytes)) in
+      omega arith
+
   -- Where a word of the characters differs from the character 0 in no byte, each byte is a state.
-  module _ (others : ℕ) (d : (others + 0x3030303030303030) % 2 ^ 64 ≡ word - bit_and word 0x0101010101010101) where
-    pub eight_states : others ≡ 0 → AllStates 8 bytes
+  pub eight_states : others ≡ 0 → AllStates 8 bytes
+  unfolding zeros
+  eight_states z = evens_zeros 8 bytes (sym (characters_of word bytes e) ∙ sym back ∙ rw z)
+
+  first_states : (k j : ℕ) → k + j ≡ 8 → (others + 0x3030303030303030) % 2 ^ 64 % 2 ^ (k * 8) ≡ zeros k → AllStates k bytes
+  first_states k j h f = evens_zeros k bytes (sym (evens_low k j bytes) ∙ rw (h, ← characters_of word bytes e, ← back) f)
+
+  module _ (x : ℕ) where
+    pub seven_states : x ≡ others % 2 ^ 56 → x ≡ 0 → AllStates 7 bytes
     unfolding zeros
-    eight_states z = evens_zeros 8 bytes (sym (characters_of word bytes e) ∙ sym d ∙ rw z)
+    seven_states f g = first_states 7 1 refl (omega arith)
 
-    first_states : (k j : ℕ) → k + j ≡ 8 → (others + 0x3030303030303030) % 2 ^ 64 % 2 ^ (k * 8) ≡ zeros k → AllStates k bytes
-    first_states k j h f = evens_zeros k bytes (sym (evens_low k j bytes) ∙ rw (h, ← characters_of word bytes e, ← d) f)
-
-    module _ (x : ℕ) where
-      pub seven_states : x ≡ others % 2 ^ 56 → x ≡ 0 → AllStates 7 bytes
-      unfolding zeros
-      seven_states f g = first_states 7 1 refl (omega arith)
-
-      pub six_states : x ≡ others % 2 ^ 48 → x ≡ 0 → AllStates 6 bytes
-      unfolding zeros
-      six_states f g = first_states 6 2 refl (omega arith)
+    pub six_states : x ≡ others % 2 ^ 48 → x ≡ 0 → AllStates 6 bytes
+    unfolding zeros
+    six_states f g = first_states 6 2 refl (omega arith)

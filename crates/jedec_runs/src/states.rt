@@ -2,7 +2,7 @@
 // A function here may require that an offset is in the bytes.
 ghost use Rattle.std.specs.Prelude.{◌≡◌, ℕ, ◌+◌, ◌^◌, ◌<◌, ◌≤◌, List, length, drop, replicate};
 ghost use Rattle.cells.specs.Cells.{cut, join};
-ghost use Rattle.jedec_runs.specs.Runs.{AllStates, StatesAt, IsBlankAt};
+ghost use Rattle.jedec_runs.specs.Runs.{AllStates, StatesAt, one_if, IsBlankAt};
 
 use cells::words::{joined, low_bits, word8};
 use jedec::is_blank;
@@ -27,7 +27,7 @@ fn lowest_bits(ones: u64) -> u64
 fn states_first(word: u64) -> usize
     ensures { (result ≤ 8) × ((bytes : List ℕ) → word ≡ join (replicate 8 8) bytes → AllStates result bytes) }
 {
-    let others = std::num::wrapping_sub_u64(word - (word & ONES), ZEROS);
+    let others = (word - (word & ONES)).wrapping_sub(ZEROS);
     if others == 0 {
         return 8;
     }
@@ -41,7 +41,7 @@ fn states_first(word: u64) -> usize
 }
 
 // How many states stand at an offset, one next to another: at most eight, and perhaps not all; none only where none
-// stands.
+// stands. The readers add the count to their offset, 0 too: so an `Option` is no plainer.
 pub fn states_at(bytes: &[u8], at: usize) -> usize
     requires { at < length bytes.now }
     ensures { StatesAt bytes.now at result }
@@ -71,14 +71,9 @@ pub fn bits_at(bytes: &[u8], at: usize, count: usize) -> u64
     joined(bytes, at, 1, count)
 }
 
-// 1 if a blank stands at an offset.
-pub fn blank_at(bytes: &[u8], at: usize) -> usize
-    ensures { IsBlankAt bytes.now at result }
+// Whether a blank stands at an offset.
+pub fn blank_at(bytes: &[u8], at: usize) -> bool
+    ensures { IsBlankAt bytes.now at (one_if result) }
 {
-    if at < bytes.len() {
-        if is_blank(bytes[at]) {
-            return 1;
-        }
-    }
-    0
+    at < bytes.len() && is_blank(bytes[at])
 }
