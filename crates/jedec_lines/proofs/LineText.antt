@@ -2,15 +2,21 @@
 -- Assumes nothing.
 use mathlib.Core.Path.{◌≡◌, refl, sym, ◌∙◌, ap, ap₂, subst}
 use mathlib.Core.List.{List, [], ◌∷◌, ◌++◌, append_assoc, append-nil}
-use Prim.Native.Nat.{ℕ, zero, suc, ◌+◌, ◌*◌, ◌-◌, ◌/◌, ◌^◌, ◌≤◌}
+use Prim.Native.Nat.{ℕ, zero, suc, ◌+◌, ◌*◌, ◌-◌, ◌/◌, ◌^◌, ◌≤◌, ◌<◌}
 use native.Mathlib.Omega.{arith}
-use lib.ListN.{length, replicate, length-append}
+use lib.ListN.{length, get_or, take, replicate, length-append}
+use Rattle.std.proofs.lemmas.List.{take_all}
+use Rattle.std.proofs.Common.{length-take-le}
+use lib.Pow.{shr-shr}
+use Rattle.std.proofs.lemmas.List.{take_more}
+use native.Mathlib.Nat.{div-one, le_of_suc-le-suc, not-suc-le-zero}
+use Rattle.cells.proofs.Laws.{total_append}
 use lib.Seq.{sets}
 use Rattle.cells.specs.Cells.{cut, total, number}
 use Rattle.part.specs.Device.{line_bytes}
 use Rattle.jedec.specs.Characters.{letter_l, decimal_digit, seven_digits}
 use Rattle.jedec.specs.WrittenText.{line_end, states_text, columns_text, line_text}
-use Rattle.jedec_lines.specs.Columns.{column_text, columns_of, Wide, Stored}
+use Rattle.jedec_lines.specs.Columns.{column_text, columns_of, Wide, AllWide, Stored}
 use Rattle.jedec.proofs.Numbers.{digits_length}
 use Rattle.jedec_lines.proofs.Bits.{bits_length, columns_bits, columns_same}
 use Rattle.jedec_lines.proofs.Stored.{stored_next, stored_last}
@@ -48,40 +54,8 @@ end_cut : cut (replicate 2 8) 0x0A2A ≡ line_end
 unfolding cut
 end_cut = refl
 
-regrouped : (a b c d e : List ℕ) → a ++ b ++ c ++ d ++ e ≡ a ++ (b ++ (c ++ (d ++ (e ++ []))))
-regrouped a b c d e = simp (append_assoc, append-nil)
-
--- Five columns stored one after another, with the number of their bytes.
-abbrev UpTo : (before after : List ℕ) (at : ℕ) (bytes : List ℕ) → ℕ → Type 0
-UpTo before after at bytes n = Stored before after at bytes × (length bytes ≡ n)
-
 column_length : (width x : ℕ) → length (column_text width x) ≡ 1 + width
 column_length width x = ap suc (bits_length width x) ∙ omega arith
-
-column_next : {before after next bytes : List ℕ} {at n : ℕ} (here width x : ℕ) → UpTo before after at bytes n → here ≡ at + n → Wide width
-    → Stored after next here (column_text width x) → UpTo before next at (bytes ++ column_text width x) (n + (1 + width))
-column_next {before} {after} {next} {bytes} {at} {n} here width x s e h t =
-    let place : here ≡ at + length bytes = e ∙ ap (λ (k : ℕ). at + k) (sym s.1) in (
-      stored_next here s.0 place (omega (arith, column_length width x)) t,
-      length-append bytes (column_text width x) ∙ ap₂ ◌+◌ s.1 (column_length width x),
-    )
-
-pub columns_of_lem : (out s1 s2 s3 s4 s5 : List ℕ) (at a b c d e w : ℕ) → Wide a → Wide b → Wide c → Wide d → Wide e
-    → Stored out s1 at (column_text a w)
-    → Stored s1 s2 (at + (1 + a)) (column_text b (w / 2 ^ a))
-    → Stored s2 s3 (at + (1 + a) + (1 + b)) (column_text c (w / 2 ^ a / 2 ^ b))
-    → Stored s3 s4 (at + (1 + a) + (1 + b) + (1 + c)) (column_text d (w / 2 ^ a / 2 ^ b / 2 ^ c))
-    → Stored s4 s5 (at + (1 + a) + (1 + b) + (1 + c) + (1 + d)) (column_text e (w / 2 ^ a / 2 ^ b / 2 ^ c / 2 ^ d))
-    → Stored out s5 at (columns_of w (a ∷ b ∷ c ∷ d ∷ e ∷ []))
-unfolding columns_of
-columns_of_lem out s1 s2 s3 s4 s5 at a b c d e w ha hb hc hd he t1 t2 t3 t4 t5 =
-    let one : UpTo out s1 at (column_text a w) (1 + a) = (t1, column_length a w) in
-    let two = column_next (at + (1 + a)) b (w / 2 ^ a) one (omega arith) hb t2 in
-    let three = column_next (at + (1 + a) + (1 + b)) c (w / 2 ^ a / 2 ^ b) two (omega arith) hc t3 in
-    let four = column_next (at + (1 + a) + (1 + b) + (1 + c)) d (w / 2 ^ a / 2 ^ b / 2 ^ c) three (omega arith) hd t4 in
-    let five = column_next (at + (1 + a) + (1 + b) + (1 + c) + (1 + d)) e (w / 2 ^ a / 2 ^ b / 2 ^ c / 2 ^ d) four (omega arith) he t5 in
-    subst (Stored out s5 at) (regrouped (column_text a w) (column_text b (w / 2 ^ a)) (column_text c (w / 2 ^ a / 2 ^ b))
-    (column_text d (w / 2 ^ a / 2 ^ b / 2 ^ c)) (column_text e (w / 2 ^ a / 2 ^ b / 2 ^ c / 2 ^ d))) five.0
 
 columns_of_length : (x : ℕ) (widths : List ℕ) → length (columns_of x widths) ≡ length widths + total widths
 unfolding columns_of total
@@ -90,24 +64,106 @@ columns_of_length x (w ∷ widths) =
     length-append (column_text w x) (columns_of (x / 2 ^ w) widths)
     ∙ ap₂ ◌+◌ (column_length w x) (columns_of_length (x / 2 ^ w) widths) ∙ omega arith
 
-pub line_of : (image out s0 s1 s2 : List ℕ) (fuse at a b c d e w x : ℕ)
-    → ((ws : List ℕ) → total ws ≤ 56 → fuse + total ws ≤ length image * 8 → cut ws w ≡ cut ws (number image / 2 ^ fuse))
-    → fuse + (a + b + c + d + e) ≤ length image * 8 → Wide a → Wide b → Wide c → Wide d → Wide e
-    → x ≡ number (letter_l ∷ seven_digits fuse) → s0 ≡ sets out at (cut (replicate 8 8) x)
-    → Stored s0 s1 (at + 8) (columns_of w (a ∷ b ∷ c ∷ d ∷ e ∷ []))
-    → s2 ≡ sets s1 (at + (13 + (a + b + c + d + e))) (cut (replicate 2 8) 0x0A2A)
-    → s2 ≡ sets out at (line_text image fuse (a ∷ b ∷ c ∷ d ∷ e ∷ []))
+columns_append : (ws vs : List ℕ) (x : ℕ) → columns_of x (ws ++ vs) ≡ columns_of x ws ++ columns_of (x / 2 ^ total ws) vs
+unfolding columns_of total
+columns_append [] vs x = ap (λ (y : ℕ). columns_of y vs) (sym (div-one x))
+columns_append (w ∷ ws) vs x =
+    ap (λ (l : List ℕ). column_text w x ++ l)
+    (columns_append ws vs (x / 2 ^ w) ∙ ap (λ (y : ℕ). columns_of (x / 2 ^ w) ws ++ columns_of y vs) (shr-shr x w (total ws)))
+    ∙ sym (append_assoc (column_text w x) (columns_of (x / 2 ^ w) ws) _)
+
+-- Each of some widths is one that a column has, so there is space for the columns from each on.
+wide_at : (ws : List ℕ) (i : ℕ) → AllWide ws → i < length ws → Wide (get_or ws i 0)
+wide_at [] i h l = absurd (not-suc-le-zero l)
+wide_at (w ∷ ws) zero h l = h.0
+wide_at (w ∷ ws) (suc i) h l = wide_at ws i h.1 (le_of_suc-le-suc l)
+
+wide_few : (ws : List ℕ) → AllWide ws → total ws ≤ 8 * length ws
 unfolding total
-line_of image out s0 s1 s2 fuse at a b c d e w x given fits ha hb hc hd he ex e0 t e2 =
-    let widths : List ℕ = a ∷ b ∷ c ∷ d ∷ e ∷ [] in
+wide_few [] h = omega arith
+wide_few (w ∷ ws) h = omega (arith, h.0, wide_few ws h.1)
+
+wide_left : (ws : List ℕ) (i : ℕ) → AllWide ws → i ≤ length ws → total (take i ws) + 6 * (length ws - i) ≤ total ws
+unfolding total
+wide_left [] zero h l = omega arith
+wide_left [] (suc i) h l = absurd (not-suc-le-zero l)
+wide_left (w ∷ ws) zero h l = omega (arith, h.0, wide_left ws zero h.1 (omega arith))
+wide_left (w ∷ ws) (suc i) h l = omega (arith, wide_left ws i h.1 (le_of_suc-le-suc l))
+
+pub line_bits : (widths : List ℕ) → AllWide widths → length widths ≡ 5 → (30 ≤ total widths) × (total widths ≤ 40)
+unfolding total
+line_bits widths wide five = (omega (arith, wide_left widths 0 wide (omega arith)), omega (arith, wide_few widths wide))
+
+-- The columns of a line are put one after another: what is stored when `i` of them are, where the next one stands,
+-- and what is left of the word.
+pub record ColumnsPut (word : ℕ) (widths before after : List ℕ) (at i rest next : ℕ) : Type 0 where
+  pub stored : Stored before after at (columns_of word (take i widths))
+  pub rest_is : rest ≡ word / 2 ^ total (take i widths)
+  pub next_is : next ≡ at + (i + total (take i widths))
+
+pub none_put : (word : ℕ) (widths out : List ℕ) (at : ℕ) → ColumnsPut word widths out out at 0 word at
+unfolding columns_of total
+none_put word widths out at =
+    record {
+      stored = record { more = []; few = omega arith; holds = refl };
+      rest_is = sym (div-one word);
+      next_is = omega arith;
+    }
+
+pub column_fits : {word : ℕ} {widths before after : List ℕ} {at i rest next : ℕ} → ColumnsPut word widths before after at i rest next
+    → AllWide widths → length widths ≡ 5 → i < 5 → at + 7 + total widths ≤ length after
+    → Wide (get_or widths i 0) × (next + 9 ≤ length after)
+column_fits {word} {widths} {before} {after} {at} {i} {rest} {next} put wide five below fits =
+    let here : i < length widths = omega arith in
+    (wide_at widths i wide here, omega (arith, put.next_is, wide_left widths i wide (omega arith)))
+
+pub column_put : (word : ℕ) (widths before after : List ℕ) (at i rest next : ℕ) → ColumnsPut word widths before after at i rest next
+    → AllWide widths → i < length widths → (more : List ℕ) (width : ℕ) → width ≡ get_or widths i 0
+    → Stored after more next (column_text width rest)
+    → ColumnsPut word widths before more at (i + 1) (rest / 2 ^ width) (next + (1 + width))
+unfolding columns_of total
+column_put word widths before after at i rest next put wide below more width e t =
+    let so_far = take i widths in
+    let now : take (i + 1) widths ≡ so_far ++ width ∷ [] = take_more widths i 0 below ∙ ap (λ (w : ℕ). so_far ++ w ∷ []) (sym e) in
+    let sum : total (take (i + 1) widths) ≡ total so_far + width = ap total now ∙ total_append so_far (width ∷ []) ∙ omega arith in
+    let long : length so_far ≡ i = length-take-le i widths (omega arith) in
+    let place : next ≡ at + length (columns_of word so_far) =
+    put.next_is ∙ ap (λ (k : ℕ). at + k) (sym (columns_of_length word so_far ∙ ap (λ (k : ℕ). k + total so_far) long)) in
+    let wide_one : Wide width = subst Wide (sym e) (wide_at widths i wide below) in
+    let both = stored_next next put.stored place (omega (arith, column_length width rest)) t in
+    let text : columns_of word so_far ++ column_text width rest ≡ columns_of word (take (i + 1) widths) =
+    sym (ap (columns_of word) now ∙ columns_append so_far (width ∷ []) word
+    ∙ ap (λ (l : List ℕ). columns_of word so_far ++ l) (append-nil _ ∙ ap (column_text width) (sym put.rest_is))) in
+    record {
+      stored = subst (Stored before more at) text both;
+      rest_is = ap (λ (y : ℕ). y / 2 ^ width) put.rest_is ∙ shr-shr word (total so_far) width ∙ ap (λ (k : ℕ). word / 2 ^ k) (sym sum);
+      next_is = omega (arith, put.next_is, sum);
+    }
+
+pub all_put : {word : ℕ} {widths before after : List ℕ} {at i rest next : ℕ} → ColumnsPut word widths before after at i rest next
+    → length widths ≡ 5 → i ≤ 5 → 5 ≤ i → Stored before after at (columns_of word widths) × (next ≡ at + (5 + total widths))
+all_put {word} {widths} {before} {after} {at} {i} {rest} {next} put five below above =
+    let all : take i widths ≡ widths = take_all i widths (omega arith) in
+    let end : i ≡ 5 = omega arith in
+    (rw all at put.stored, put.next_is ∙ rw (all, end))
+
+pub line_of : (image out s0 s1 s2 widths : List ℕ) (fuse at behind w x : ℕ)
+    → ((ws : List ℕ) → total ws ≤ 56 → fuse + total ws ≤ length image * 8 → cut ws w ≡ cut ws (number image / 2 ^ fuse))
+    → fuse + total widths ≤ length image * 8 → AllWide widths → length widths ≡ 5
+    → x ≡ number (letter_l ∷ seven_digits fuse) → s0 ≡ sets out at (cut (replicate 8 8) x)
+    → Stored s0 s1 (at + 8) (columns_of w widths) → behind ≡ at + 8 + (5 + total widths)
+    → s2 ≡ sets s1 behind (cut (replicate 2 8) 0x0A2A)
+    → s2 ≡ sets out at (line_text image fuse widths)
+line_of image out s0 s1 s2 widths fuse at behind w x given fits wide five ex e0 t eb e2 =
     let start = letter_l ∷ seven_digits fuse in
-    let long : length (columns_of w widths) ≡ 5 + (a + b + c + d + e) = columns_of_length w widths ∙ omega arith in
     let begun : Stored out s0 at start =
     record { more = []; few = omega arith; holds = e0 ∙ rw (ex, start_cut fuse) (ap (sets out at) (sym (append-nil start))) } in
-    let both = stored_next (at + 8) begun (rw (start_length fuse)) (omega arith) t in
-    let place : at + (13 + (a + b + c + d + e)) ≡ at + length (start ++ columns_of w widths) =
-    rw (length-append start (columns_of w widths), start_length fuse, long) (omega arith) in
-    let columns : columns_text image fuse widths ≡ columns_of w widths = columns_bits image widths fuse (omega arith)
-    ∙ sym (columns_same widths w (number image / 2 ^ fuse) (given widths (omega arith) (omega arith))) in
+    let long : length (columns_of w widths) ≡ 5 + total widths =
+    columns_of_length w widths ∙ ap (λ (k : ℕ). k + total widths) five in
+    let both = stored_next (at + 8) begun (rw (start_length fuse)) (omega (arith, long)) t in
+    let place : behind ≡ at + length (start ++ columns_of w widths) =
+    eb ∙ rw (length-append start (columns_of w widths), start_length fuse, long) (omega arith) in
+    let columns : columns_text image fuse widths ≡ columns_of w widths = columns_bits image widths fuse fits
+    ∙ sym (columns_same widths w (number image / 2 ^ fuse) (given widths (omega (arith, line_bits widths wide five)) fits)) in
     stored_last _ s2 line_end both place (omega arith) (rw end_cut at e2)
     ∙ ap (λ (l : List ℕ). sets out at (start ++ l ++ line_end)) (sym columns)

@@ -2,11 +2,12 @@
 -- Assumes nothing.
 use mathlib.Core.Path.{◌≡◌, refl, sym, ◌∙◌, ap}
 use mathlib.Core.List.{List, [], ◌∷◌, ◌++◌, append_assoc}
-use Prim.Native.Nat.{ℕ, suc, ◌+◌, ◌-◌, ◌≤◌, ◌<◌}
+use Prim.Native.Nat.{ℕ, suc, ◌+◌, ◌≤◌, ◌<◌}
 use native.Mathlib.Omega.{arith}
 use native.Mathlib.Nat.{zero-add, le_of_suc-le-suc, not-suc-le-zero}
-use lib.ListN.{length, set, drop, length-append}
+use lib.ListN.{length, set, get_or, take, drop, length-append}
 use lib.Seq.{sets, sets-eq, set-set, set_comm}
+use Rattle.std.proofs.lemmas.List.{take_more, length-take-le}
 use Rattle.cells.proofs.Laws.{sets_append}
 use Rattle.jedec_lines.specs.Columns.{Stored}
 
@@ -55,6 +56,13 @@ pub stored_last : {before after bytes : List ℕ} {at : ℕ} (here : ℕ) (next 
     → here ≡ at + length bytes → 2 ≤ length new → next ≡ sets after here new → next ≡ sets before at (bytes ++ new)
 stored_last {before} {after} {bytes} {at} here next new s e h f =
     f ∙ rw s.holds (overwritten before bytes s.more new at here e (omega (arith, s.few)))
+
+-- Bytes stored one by one: when `k` of them are, the next one follows.
+pub next_stored : (out now bytes : List ℕ) (at k : ℕ) → now ≡ sets out at (take k bytes) → k < length bytes
+    → set now (at + k) (get_or bytes k 0) ≡ sets out at (take (k + 1) bytes)
+next_stored out now bytes at k e h =
+    let long : length (take k bytes) ≡ k = length-take-le k bytes (omega arith) in
+    rw (e, take_more bytes k 0 h, sets_append out at (take k bytes) (get_or bytes k 0 ∷ []), long)
 
 -- What is stored from the first byte on is what the list then starts with.
 pub stored_first : (out bytes : List ℕ) (n : ℕ) → length bytes ≡ n → n ≤ length out → sets out 0 bytes ≡ bytes ++ drop n out

@@ -1,6 +1,6 @@
 -- What the proofs of a line work with: the characters of a number's bits, the columns of a line, bytes stored with more
 -- behind them. Assumes nothing.
-use Rattle.std.specs.Prelude.{ℕ, ◌+◌, ◌/◌, ◌^◌, ◌≤◌, ◌≡◌, List, [], ◌∷◌, ◌++◌, map, length, replicate}
+use Rattle.std.specs.Prelude.{ℕ, ◌/◌, ◌^◌, ◌≤◌, ◌≡◌, List, [], ◌∷◌, ◌++◌, map, length, replicate}
 use Rattle.std.proofs.lemmas.List.Edits.{sets}
 use Rattle.cells.specs.Cells.{cut}
 use Rattle.jedec.specs.Characters.{space, decimal_digit}
@@ -21,6 +21,10 @@ columns_of x (w ∷ widths) = column_text w x ++ columns_of (x / 2 ^ w) widths
 -- The widths that columns have.
 abbrev pub Wide : ℕ → Type 0
 Wide width = (6 ≤ width) × (width ≤ 8)
+
+abbrev pub AllWide : List ℕ → Type 0
+AllWide [] = Unit {0}
+AllWide (w ∷ widths) = (Wide w) × AllWide widths
 
 -- Some bytes stored from an index on, and at most two more behind them, which what is stored next replaces.
 pub record Stored (before after : List ℕ) (at : ℕ) (bytes : List ℕ) : Type 0 where

@@ -1,10 +1,12 @@
--- `put_eight` meets its contract: eight bytes, one after another.
+-- `put_eight` meets its contract: the bytes of a word are the word cut into bytes.
 -- Assumes nothing.
-use Rattle.jedec_lines.proofs.Words.{bytes_of_lem}
+use borrow.Author.Rules.{rules}
+use Rattle.jedec_lines.proofs.Words.{word_stored}
+use Rattle.jedec_lines.proofs.Stored.{next_stored}
 use Rattle.jedec_lines.proofs.lines.put_eight.Goals as goal
 
+pub loop-k-preserved : goal.loop-k-preserved
+loop-k-preserved c = search (rules, next_stored)
+
 pub returns : goal.returns
-returns c =
-    bytes_of_lem _ _ _ _ _ _ _ _ _ _ _ c.put_byte.ensures c.put_byte-2.ensures c.put_byte-3.ensures
-    c.put_byte-4.ensures c.put_byte-5.ensures c.put_byte-6.ensures c.put_byte-7.ensures
-    c.put_byte-8.ensures
+returns c = search (rules, word_stored)
