@@ -1,5 +1,6 @@
 -- What holds of the pattern of a value, each law once, for every kind:
 --   same_iff              two values are the same exactly if they are equal
+--   equal_same            the derived `==` of values is `same`
 --   pattern_iff           p is the pattern of a value exactly if p has the kind's bits and stands for the value
 --   no_pattern_iff        a value is refused exactly if no pattern of the kind stands for it
 --   each_value            two patterns of a kind stand for two values
@@ -15,6 +16,7 @@ use Prim.Native.Nat.{ℕ, ◌-◌, ◌^◌, ◌<◌}
 use native.Mathlib.Omega.{arith}
 use lib.Dec.{eqb, ltb}
 use borrow.Author.Tests.{eqb-true, eq-eqb, ltb-true, lt-ltb}
+use Rattle.std.proofs.lemmas.Bool.Decides.{same_from_decides}
 use Rattle.part.proofs.Facts.{given, and_iff}
 use Rattle.part.proofs.Tables.{all_below, below_all}
 use Rattle.values.specs.Values.{bits2, named, flags, term_allocs, import_allocs, export_dirs, iob_oe_muxes, out_muxes, oe_muxes, clk_muxes}
@@ -36,6 +38,8 @@ use Rattle.values.specs.declared.FclkMux.TheVariants as fclkMux
 use Rattle.values.specs.declared.FoeMux.TheVariants as foeMux
 use Rattle.values.specs.declared.Value.{Value}
 use Rattle.values.specs.declared.Value.TheVariants as value
+use Rattle.values.specs.contracts.ValuePartialEq.TheImpl.{ghosts}
+use Rattle.values.proofs.Equal.{equal_value}
 use Rattle.values.specs.declared.Kind.{Kind}
 use Rattle.values.specs.declared.Kind.TheVariants as kind
 
@@ -117,6 +121,14 @@ same_iff v w = (to, from)
 
     from : v ≡ w → same v w ≡ true
     from e = (and_iff (eqb (case_of v) (case_of w)) (eqb (in_case v) (in_case w))).1 (eq-eqb _ _ (ap case_of e), eq-eqb _ _ (ap in_case e))
+
+-- So the derived `==` is `same`.
+pub equal_same : (v w : Value) → ghosts.eq v w ≡ same v w
+equal_same v w = same_from_decides (ghosts.eq v w) (same v w) (equal_value v w) (same_iff v w)
+
+-- What a test `==` of the code says, by its result.
+pub compared : (v w x : Value) (t b : Bool) → t ≡ ghosts.eq v w → v ≡ x → t ≡ b → same x w ≡ b
+compared v w x t b e f g = ap (λ (z : Value). same z w) (sym f) ∙ sym (equal_same v w) ∙ sym e ∙ g
 
 -- A pattern is right if it is the candidate of the value that it stands for, and that is Unassigned where it should be.
 right : (stands : ℕ → Value) (without : ℕ → Bool) → ℕ → Bool

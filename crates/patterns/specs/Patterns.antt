@@ -33,8 +33,7 @@ use Rattle.values.specs.declared.FoeMux.TheVariants as foeMux
 use Rattle.values.specs.declared.Value.{Value}
 use Rattle.values.specs.declared.Value.TheVariants as value
 use Rattle.values.specs.declared.Kind.{Kind}
-use Rattle.patterns.specs.declared.Found.{Found}
-use Rattle.patterns.specs.declared.Found.TheVariants as found
+use Rattle.std.specs.Prelude as rust
 
 -- Two values are the same if they are of one case, and the same in it (`same_iff` in proofs/Laws.antt): the case.
 abbrev pub case_of : Value → ℕ
@@ -166,6 +165,7 @@ pattern_in k v =
     (some (candidate (value_in k) v))
     none
 
-abbrev pub found_pattern : Found → Option ℕ
-found_pattern (found.Pattern pattern) = some pattern
-found_pattern found.NoSuchValue = none
+-- What an answer of the code says.
+abbrev pub found_pattern : rust.Option ℕ → Option ℕ
+found_pattern (rust.Some pattern) = some pattern
+found_pattern rust.None = none

@@ -2,12 +2,4 @@
 // The functions stand in `of_values`: they serve the crates above.
 #![tactic(auto)]
 
-mod cases;
 pub mod of_values;
-
-// The pattern that stands for a value, or that none does.
-#[derive(Clone, Copy)]
-pub enum Found {
-    Pattern(u32),
-    NoSuchValue,
-}

@@ -1,33 +1,47 @@
 // The pattern that stands for a value in settings of a kind: the only candidate, and whether it stands for it.
 // For the crates above: nothing here is part of the public interface.
-ghost use Rattle.std.specs.Prelude.{◌≡◌, ◌^◌, ◌≤◌, ltb};
+ghost use Rattle.std.specs.Prelude.{◌≡◌, ◌^◌, ◌≤◌, cond, ltb};
 ghost use Rattle.values.specs.Values.{value_in};
-ghost use Rattle.patterns.specs.Patterns.{candidate, pattern_in, found_pattern};
+ghost use Rattle.patterns.specs.Patterns.{same, candidate, pattern_in, found_pattern};
 
-use super::Found;
-use super::cases::{FCLK_MUX, FOE_MUX, USERCODE, case_of, in_case, same};
 use values::lists::{bits_in, value_in};
 use values::{Kind, Value};
 
+// The only pattern that can stand for a name of FCLK.MUX or FOE.MUX: the lists of the kind say which.
+fn mux_candidate(kind: Kind, v: Value) -> u32
+    ensures { result ≡ cond (same (value_in kind 1) v) 1 (cond (same (value_in kind 2) v) 2 3) }
+{
+    if value_in(kind, 1) == v {
+        1
+    } else if value_in(kind, 2) == v {
+        2
+    } else {
+        3
+    }
+}
+
 // The only pattern that can stand for a value.
+#[tactic(auto, unfolding(crate::specs::Patterns::candidate))]
 fn candidate(kind: Kind, v: Value) -> u32
     ensures { result ≡ candidate (value_in kind) v }
 {
-    let case = case_of(v);
-    let number = in_case(v);
-    if case == USERCODE {
-        return !number;
+    match v {
+        Value::Flag(x) => u32::from(!x),
+        Value::TermAlloc(x) => x as u32,
+        Value::ImportAlloc(x) => x as u32,
+        Value::ExportDir(x) => x as u32,
+        Value::IobOeMux(x) => x as u32,
+        Value::OutMux(x) => x as u32,
+        Value::OeMux(x) => x as u32,
+        Value::ClkMux(x) => x as u32,
+        Value::RegMode(x) => x as u32,
+        Value::RstSetMux(x) => x as u32,
+        Value::UimOeMux(x) => x as u32,
+        Value::IobSlew(x) => x as u32,
+        Value::FclkMux(_) | Value::FoeMux(_) => mux_candidate(kind, v),
+        Value::Usercode(number) => !number,
+        Value::Unassigned(pattern) => pattern,
     }
-    if (case == FCLK_MUX) | (case == FOE_MUX) {
-        if same(value_in(kind, 1), v) {
-            return 1;
-        }
-        if same(value_in(kind, 2), v) {
-            return 2;
-        }
-        return 3;
-    }
-    number
 }
 
 // Whether a pattern has no bit at or over a width.
@@ -39,14 +53,11 @@ pub fn fits(bits: u32, pattern: u32) -> bool
 }
 
 // The pattern that stands for a value.
-pub fn pattern_in(kind: Kind, v: Value) -> Found
+pub fn pattern_in(kind: Kind, v: Value) -> Option<u32>
     ensures { found_pattern result ≡ pattern_in kind v }
 {
     let pattern = candidate(kind, v);
-    let stands = value_in(kind, pattern);
-    let bits = bits_in(kind);
-    if fits(bits, pattern) & same(stands, v) {
-        return Found::Pattern(pattern);
-    }
-    Found::NoSuchValue
+    let in_range = fits(bits_in(kind), pattern);
+    let stands = value_in(kind, pattern) == v;
+    (in_range & stands).then_some(pattern)
 }
