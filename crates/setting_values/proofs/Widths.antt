@@ -1,4 +1,4 @@
--- The kind of a setting has as many bits as the setting has fuses.
+-- The kind of a setting has as many bits as the setting has fuses; and what the operations are proved by.
 -- Assumes nothing.
 use mathlib.Core.Path.{◌≡◌, refl, subst}
 use mathlib.Core.Bool.{true}
@@ -6,6 +6,7 @@ use Prim.Native.Nat.{◌<◌}
 use lib.Dec.{eqb}
 use borrow.Author.Tests.{eqb-true}
 use Rattle.part.specs.declared.Device.{Device}
+use Rattle.part.proofs.Refused.{refused_with}
 use Rattle.part.proofs.Tables.{below_all}
 use Rattle.settings.specs.Fields.{macrocell_fields, macrocell_index}
 use Rattle.settings.specs.Settings.{has_setting}
@@ -42,3 +43,6 @@ kind_bits d (WireAnd i j k l) h = refl
 kind_bits d (Macrocell block m field) h = macrocell_bits field (has_macrocell d (Macrocell block m field) h block m field refl).2
 kind_bits d (Block block field) h = refl
 kind_bits d (Global field) h = global_bits_lem d field
+
+-- What the operations are proved by, besides their definitions.
+pub ruleset operations = (refused_with, kind_bits)

@@ -37,7 +37,7 @@ fn macrocell_kind(field: MacrocellField) -> Kind
 fn global_kind(d: Device, field: GlobalField) -> Kind
     ensures { result ≡ global_kind d field }
 {
-    let large = part::geometry::is_large(d);
+    let large = d.is_large();
     match field {
         GlobalField::FsrInv => Kind::Flag,
         GlobalField::FclkInv(_) => Kind::Flag,
@@ -49,6 +49,7 @@ fn global_kind(d: Device, field: GlobalField) -> Kind
 }
 
 // The kind of value of a setting.
+#[tactic(auto, unfolding(crate::specs::Kinds::kind_of))]
 pub fn kind_of(d: Device, s: Setting) -> Kind
     ensures { result ≡ kind_of d s }
 {

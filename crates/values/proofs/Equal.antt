@@ -36,7 +36,8 @@ TellApart [] es = Unit {0}
 TellApart (Fs ∷ Fss) es = ((x y : Values Fs) → es.0 x y ≡ true → x ≡ y) × TellApart Fss es.1
 
 -- So does that of an enum.
-same_choice : (Fss : List (List Field)) (es : Each Bool Fss) → TellApart Fss es → (c d : Choice Fss) → by false false Fss es c d ≡ true → c ≡ d
+same_choice : (Fss : List (List Field)) (es : Each Bool Fss) → TellApart Fss es → (c d : Choice Fss)
+    → by false false Fss es c d ≡ true → c ≡ d
 same_choice [] es all c d e = absurd c
 same_choice (Fs ∷ Fss) es all (inl x) (inl y) e = ap inl (all.0 x y e)
 same_choice (Fs ∷ Fss) es all (inl x) (inr y) e = absurd (true≢false (sym e))
