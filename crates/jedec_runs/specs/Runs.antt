@@ -1,6 +1,6 @@
 -- States and blanks that stand at an offset among bytes.
 -- A state is written by the character 0 or 1, whose codes are 48 and 49: half of either is 24.
-use Rattle.std.specs.Prelude.{◌≡◌, ℕ, zero, suc, ◌+◌, ◌/◌, ◌%◌, ◌^◌, ◌≤◌, Bool, false, cond, ◌||◌, List, [], ◌∷◌, length, drop, ◌==◌, slice_index}
+use Rattle.std.specs.Prelude.{◌≡◌, ℕ, zero, suc, ◌+◌, ◌/◌, ◌%◌, ◌^◌, ◌≤◌, false, cond, ◌||◌, List, [], ◌∷◌, length, drop, ◌==◌, slice_index}
 use Rattle.jedec.specs.Characters.{is_blank}
 
 -- The first so many bytes are each 0 or 1.
@@ -12,10 +12,6 @@ AllStates (suc k) bytes = (slice_index bytes 0 % 2 ^ 8 / 2 ≡ 24) × AllStates 
 abbrev pub one_if_blank : List ℕ → ℕ
 one_if_blank [] = 0
 one_if_blank (b ∷ bytes) = cond (is_blank b) 1 0
-
--- 1 for what holds, else 0.
-abbrev pub one_if : Bool → ℕ
-one_if t = cond t 1 0
 
 -- Whether a blank stands at an offset, which is then in the bytes.
 pub record IsBlankAt (bytes : List ℕ) (at r : ℕ) : Type 0 where

@@ -2,7 +2,8 @@
 // A function here may require that an offset is in the bytes.
 ghost use Rattle.std.specs.Prelude.{◌≡◌, ℕ, ◌+◌, ◌^◌, ◌<◌, ◌≤◌, List, length, drop, replicate};
 ghost use Rattle.cells.specs.Cells.{cut, join};
-ghost use Rattle.jedec_runs.specs.Runs.{AllStates, StatesAt, one_if, IsBlankAt};
+ghost use Rattle.jedec_runs.specs.Runs.{AllStates, StatesAt, IsBlankAt};
+ghost use mir.Val.{bool_byte};
 
 use cells::words::{joined, low_bits, word8};
 use jedec::is_blank;
@@ -73,7 +74,7 @@ pub fn bits_at(bytes: &[u8], at: usize, count: usize) -> u64
 
 // Whether a blank stands at an offset.
 pub fn blank_at(bytes: &[u8], at: usize) -> bool
-    ensures { IsBlankAt bytes.now at (one_if result) }
+    ensures { IsBlankAt bytes.now at (bool_byte result) }
 {
     at < bytes.len() && is_blank(bytes[at])
 }
