@@ -11,7 +11,6 @@ use native.Mathlib.Nat.{zero-add, suc-add}
 use lib.ListN.{length, get_or, take, drop}
 use lib.Seq.{take-append-add, drop-append-add}
 use Rattle.jedec.specs.Characters.{is_blank, decimal_value, and_then, digits_read, number_in}
-use Rattle.jedec.specs.Cut.Tail.{wrong}
 use Rattle.jedec.specs.Judge.{Judged, or_bad, unbroken, states_in, states_from, list_in}
 use Rattle.jedec.specs.Judge.Judged.{bad}
 use Rattle.jedec_runs.specs.Runs.{one_if_blank}

@@ -18,7 +18,8 @@ use Rattle.jedec_judge.specs.Judged.{Says}
 use Rattle.jedec_fields.proofs.PlainBytes.{blank_other}
 use Rattle.jedec_fields.specs.Fields.{until_star, fields_at, cut_of, Stands}
 use Rattle.jedec_judge.specs.declared.FieldSays.{FieldSays}
-use Rattle.jedec_fields.specs.declared.NextSays.TheVariants.{Field, End, Early}
+use Rattle.std.specs.Prelude.{Some, None}
+use Rattle.jedec_fields.specs.declared.NextSays.TheVariants.{Field, End}
 
 -- A text is cut at its first `*`, or holds none.
 pub record Cuts (bytes : List ℕ) (u : ℕ) : Type 0 where
@@ -150,16 +151,16 @@ module _ (text : List ℕ) (at start : ℕ) (e : start ≡ at + blanks_before (d
   from_start : fields_at at (drop at text) ≡ fields_at start (drop start text)
   from_start = blanks_skipped at (drop at text) ∙ rw (drop-drop (blanks_before (drop at text)) at text, ← e)
 
-  pub nothing_left : start ≡ length text → Stands text at Early
-  nothing_left l =
+  nothing_from : start ≡ length text → Stands text at None
+  nothing_from l =
       let past : length text ≤ start = omega arith in
       record { cut = sym (from_start ∙ rw (drop_of_length-le text past) (nothing start)); inside = tt; judged = tt }
 
-  module _ (l : start ≤ length text) (n : start ≡ length text → ⊥) where
+  module _ (l : start < length text) where
     first_there : drop start text ≡ get_or text start 0 ∷ drop (suc start) text
     first_there = drop-cons text start 0 (omega arith)
 
-    pub the_end : get_or text start 0 ≡ 3 → Stands text at (End start)
+    pub the_end : get_or text start 0 ≡ 3 → Stands text at (Some (End start))
     the_end f =
         record { cut = sym (from_start ∙ rw (first_there, f) (at_etx start (drop (suc start) text))); inside = omega arith; judged = tt }
 
@@ -172,8 +173,8 @@ module _ (text : List ℕ) (at start : ℕ) (e : start ≡ at + blanks_before (d
       long : length (get_or text start 0 ∷ drop (suc start) text) ≡ length text - start
       long = ap length (sym first_there) ∙ length-drop start text
 
-      pub no_star : star ≡ length text → Stands text at Early
-      no_star g =
+      no_star_from : star ≡ length text → Stands text at None
+      no_star_from g =
           let u : until_star (get_or text start 0 ∷ drop (suc start) text) ≡ length text - start = rw (← first_there) (omega arith) in
           record {
             cut =
@@ -183,16 +184,23 @@ module _ (text : List ℕ) (at start : ℕ) (e : start ≡ at + blanks_before (d
             judged = tt;
           }
 
-      pub a_field : star ≤ length text → (star ≡ length text → ⊥) → (fs : FieldSays)
+      pub a_field : star < length text → (fs : FieldSays)
           → Says (drop 1 (take (star - start) (drop start text))) (judge (take (star - start) (drop start text))) fs
-          → Stands text at (Field start star fs)
-      a_field k g fs j =
+          → Stands text at (Some (Field start star fs))
+      a_field k fs j =
           let w : star - start ≡ until_star (get_or text start 0 ∷ drop (suc start) text) = rw (← first_there) (omega arith) in
           let there : start + (star - start) + 1 ≡ star + 1 = omega arith in
           let next : start + (star - start + 1) ≡ star + 1 = omega arith in
           let beyond : drop (star - start + 1) (drop start text) ≡ drop (star + 1) text =
           drop-drop (star - start + 1) start text ∙ ap (λ (j : ℕ). drop j text) next in
-          let field : fields_at start (drop start text) ≡ cut_of text (Field start star fs) =
+          let field : fields_at start (drop start text) ≡ cut_of text (Some (Field start star fs)) =
           rw (← first_there, there, beyond) at (at_field start (get_or text start 0) (drop (suc start) text) no_blank m (star - start) w
           (omega (arith, long))) in
           record { cut = sym (from_start ∙ field); inside = (omega arith, omega arith, omega arith); judged = j }
+
+pub nothing_left : (text : List ℕ) (at : ℕ) → at + blanks_before (drop at text) ≡ length text → Stands text at None
+nothing_left text at e = nothing_from text at _ refl e
+
+pub no_star : (text : List ℕ) (at start : ℕ) → start ≡ at + blanks_before (drop at text) → start < length text
+    → (get_or text start 0 ≡ 3 → ⊥) → start + until_star (drop start text) ≡ length text → Stands text at None
+no_star text at start e l m g = no_star_from text at start e l m _ refl g

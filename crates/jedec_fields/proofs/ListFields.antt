@@ -14,9 +14,9 @@ use lib.Seq.{take_all, length-take-le, drop-append-add, take-add, take-suc, drop
 use borrow.Author.Tests.{ne_eqb}
 use Rattle.jedec.specs.Characters.{is_blank, decimal_value, number_in}
 use Rattle.jedec.specs.Cut.{holds_mark}
-use Rattle.jedec.specs.Cut.Tail.{wrong}
 use Rattle.jedec.specs.Judge.{states_in, states_from, list_in}
 use Rattle.jedec_runs.specs.Runs.{IsBlankAt}
+use mir.Val.{bool_byte}
 use Rattle.jedec_judge.specs.Judged.{DigitsStand, or_empty, states_of}
 use Rattle.jedec_judge.specs.declared.digits.LeadingDigits.{LeadingDigits}
 use Rattle.jedec_judge.proofs.Slices.{rest_whole}
@@ -51,10 +51,13 @@ module _ (after : List ℕ) (d : LeadingDigits) (s : DigitsStand after d) where
   pub no_digits : d.length ≡ 0 → NoList after
   no_digits z = unended (λ b. z)
 
-  pub no_blank : (z : ℕ) → IsBlankAt after d.length z → z ≡ 0 → NoList after
-  no_blank z at_end e = unended (λ b. absurd (first_not_blank (drop d.length after) (sym at_end.is ∙ e) b))
+  pub no_blank : (t : Bool) → IsBlankAt after d.length (bool_byte t) → t ≡ false → NoList after
+  no_blank t at_end e = unended (λ b. absurd (first_not_blank (drop d.length after) (sym at_end.is ∙ ap bool_byte e) b))
 
-  module _ (some_there : d.length ≡ 0 → ⊥) (z : ℕ) (at_end : IsBlankAt after d.length z) (a-blank : z ≡ 0 → ⊥) where
+  module _ (some_there : d.length ≡ 0 → ⊥) (t : Bool) (at_end : IsBlankAt after d.length (bool_byte t)) (is_there : t ≡ true) where
+    a-blank : bool_byte t ≡ 0 → ⊥
+    a-blank e = let z : ◌≡◌ {A = ℕ} 1 0 = rw is_there at e in omega arith
+
     pub blank_inside : d.length + 1 ≤ length after
     blank_inside = go (drop d.length after) refl
       where
@@ -154,7 +157,11 @@ module _ (after : List ℕ) (d : LeadingDigits) (s : DigitsStand after d) where
             }
 
         pub a_good_list : get_or after (d.length + 1 + run.length) 0 ≡ 42 → (run.count ≡ 0 → ⊥)
-            → ListAt after d.value (d.length + 1) run.count run.bits (d.length + 1 + run.length)
+            → ListAt after
+            (record {
+              says = record { first = d.value; skip = d.length + 1; count = run.count; bits = run.bits };
+              length = d.length + 1 + run.length;
+            })
         unfolding until_star holds_mark states_of
         a_good_list star n =
             let field-long : length (take long after) ≡ long = length-take-le long after run_inside in

@@ -14,7 +14,6 @@ use borrow.Author.Tests.{ne_eqb}
 use Rattle.jedec.specs.Characters.{is_blank, is_mark, decimal_value, and_then, digits_read}
 use Rattle.jedec.specs.Cut.{holds_mark}
 use Rattle.jedec.specs.Judge.{with_first, states_in}
-use Rattle.jedec.specs.Judge.Judged.{bad}
 use Rattle.jedec_fields.specs.Fields.{until_star}
 
 -- A byte that is neither `*` nor STX nor ETX, and bytes that are all such.

@@ -7,9 +7,8 @@ use jedec_judge::FieldSays;
 mod lists;
 pub mod scan;
 
-// What stands next in a text: a field up to its `*`, with what it says, the ETX after the fields, or neither, where the
-// text ends early.
-#[derive(Clone, Copy)]
+// What stands next in a text: a field up to its `*`, with what it says, or the ETX after the fields.
+#[derive(Clone, Copy, Debug, PartialEq, Eq)]
 pub enum NextSays {
     Field {
         start: usize,
@@ -17,5 +16,4 @@ pub enum NextSays {
         says: FieldSays,
     },
     End(usize),
-    Early,
 }

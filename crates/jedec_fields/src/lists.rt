@@ -2,30 +2,23 @@
 // Each byte of a good one is looked at once.
 ghost use Rattle.jedec_fields.specs.Fields.{RunStands, ListStands};
 
-use jedec_judge::STATES_IN_WORD;
 use jedec_judge::digits::leading_digits;
+use jedec_judge::{FuseList, STATES_IN_WORD};
 use jedec_runs::states::{bits_at, blank_at, states_at};
 
 // Bytes from the first on that are 0, 1 and blanks, how many states they write, and these states if they are few.
-#[derive(Clone, Copy)]
+#[derive(Clone, Copy, Debug, PartialEq, Eq)]
 pub struct StatesRun {
     pub length: usize,
     pub count: usize,
     pub bits: u64,
 }
 
-// An L field by what follows the L: its first fuse, how many bytes stand before the states, how many states there are,
-// the states if they are few, and how many bytes stand before its `*`.
-#[derive(Clone, Copy)]
-pub enum ListField {
-    Good {
-        first: u32,
-        skip: usize,
-        count: usize,
-        bits: u64,
-        length: usize,
-    },
-    Other,
+// A good L field by what follows the L: what it says, and how many bytes stand before its `*`.
+#[derive(Clone, Copy, Debug, PartialEq, Eq)]
+pub struct ListField {
+    pub says: FuseList,
+    pub length: usize,
 }
 
 // How many of the first bytes are 0, 1 and blanks, and how many states they write. The first states are kept, so that
@@ -33,62 +26,46 @@ pub enum ListField {
 fn states_run(bytes: &[u8]) -> StatesRun
     ensures { RunStands bytes.now result }
 {
-    let mut n: usize = 0;
-    let mut bits: u64 = 0;
-    let mut i: usize = 0;
-    while i < bytes.len() {
-        let count = states_at(bytes, i);
-        let taken = count + blank_at(bytes, i + count);
+    let mut run = StatesRun {
+        length: 0,
+        count: 0,
+        bits: 0,
+    };
+    // This stays a `while`: each turn goes on by as many bytes as it takes, up to nine.
+    while run.length < bytes.len() {
+        let count = states_at(bytes, run.length);
+        let taken = count + blank_at(bytes, run.length + count) as usize;
         if taken == 0 {
-            return StatesRun {
-                length: i,
-                count: n,
-                bits,
-            };
+            return run;
         }
-        let from = n;
-        let at = i;
-        n += count;
-        i += taken;
-        if from <= STATES_IN_WORD {
-            bits += bits_at(bytes, at, count) << from;
+        if run.count <= STATES_IN_WORD {
+            run.bits += bits_at(bytes, run.length, count) << run.count;
         }
+        run.count += count;
+        run.length += taken;
     }
-    StatesRun {
-        length: i,
-        count: n,
-        bits,
-    }
+    run
 }
 
 // A good L field, found and judged at once by what follows the L; any other is bad.
-pub fn list_field(bytes: &[u8]) -> ListField
+pub fn list_field(bytes: &[u8]) -> Option<ListField>
     ensures { ListStands bytes.now result }
 {
     let digits = leading_digits(bytes);
-    if digits.length == 0 {
-        return ListField::Other;
-    }
-    if blank_at(bytes, digits.length) == 0 {
-        return ListField::Other;
+    if digits.length == 0 || !blank_at(bytes, digits.length) {
+        return None;
     }
     let skip = digits.length + 1;
     let run = states_run(&bytes[skip..]);
     let length = skip + run.length;
-    if length == bytes.len() {
-        return ListField::Other;
+    if length == bytes.len() || bytes[length] != b'*' || run.count == 0 {
+        return None;
     }
-    if bytes[length] != b'*' {
-        return ListField::Other;
-    }
-    if run.count == 0 {
-        return ListField::Other;
-    }
-    ListField::Good {
+    let says = FuseList {
         first: digits.value,
         skip,
         count: run.count,
         bits: run.bits,
-        length,
-    }
+    };
+    Some(ListField { says, length })
 }

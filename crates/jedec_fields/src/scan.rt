@@ -1,87 +1,66 @@
 // Positions in a text, and the next field judged: for the reader.
 // A function here may require that a position is in the text.
-ghost use Rattle.std.specs.Prelude.{◌≡◌, ◌+◌, ◌≤◌, length, drop};
+ghost use Rattle.std.specs.Prelude.{◌≡◌, ◌+◌, ◌<◌, ◌≤◌, length, drop, MatchOption};
 ghost use Rattle.jedec.specs.Cut.{blanks_before};
 ghost use Rattle.jedec_fields.specs.Fields.{until_star, Stands};
 
 use super::NextSays;
-use super::lists::{ListField, list_field};
+use super::lists::list_field;
 use jedec::{ETX, is_blank};
 use jedec_judge::FieldSays;
 use jedec_judge::letters::judge_field;
 
-// The offset of the next `*` from an offset on, or the length.
-pub fn next_star(text: &[u8], at: usize) -> usize
+// The offset of the next `*` from an offset on.
+pub fn next_star(text: &[u8], at: usize) -> Option<usize>
     requires { at ≤ length text.now }
-    ensures { (result ≡ at + until_star (drop at text.now)) × (result ≤ length text.now) }
+    ensures { MatchOption result (at + until_star (drop at text.now) ≡ length text.now)
+        (λ star. (star ≡ at + until_star (drop at text.now)) × (star < length text.now)) }
 {
-    let mut i = at;
-    while i < text.len() {
+    for i in at..text.len() {
         if text[i] == b'*' {
-            return i;
+            return Some(i);
         }
-        i += 1;
     }
-    i
+    None
 }
 
-// The offset of the next byte from an offset on that is no blank, or the length.
-fn skip_blanks(text: &[u8], at: usize) -> usize
+// The offset of the next byte from an offset on that is no blank.
+fn skip_blanks(text: &[u8], at: usize) -> Option<usize>
     requires { at ≤ length text.now }
-    ensures { (result ≡ at + blanks_before (drop at text.now)) × (result ≤ length text.now) }
+    ensures { MatchOption result (at + blanks_before (drop at text.now) ≡ length text.now)
+        (λ start. (start ≡ at + blanks_before (drop at text.now)) × (start < length text.now)) }
 {
-    let mut i = at;
-    while i < text.len() {
+    for i in at..text.len() {
         if !is_blank(text[i]) {
-            return i;
+            return Some(i);
         }
-        i += 1;
     }
-    i
+    None
 }
 
-// What stands next from an offset on, judged. Most fields of a text are good L fields, and each byte of these is looked
-// at once.
-pub fn next_judged(text: &[u8], at: usize) -> NextSays
+// What stands next from an offset on, judged, or nothing where the text ends early. Most fields of a text are good
+// L fields, and each byte of these is looked at once.
+pub fn next_judged(text: &[u8], at: usize) -> Option<NextSays>
     requires { at ≤ length text.now }
     ensures { Stands text.now at result }
 {
-    let start = skip_blanks(text, at);
-    if start == text.len() {
-        return NextSays::Early;
-    }
+    let start = skip_blanks(text, at)?;
     let b = text[start];
     if b == ETX {
-        return NextSays::End(start);
+        return Some(NextSays::End(start));
     }
     if b == b'L' {
         let after = start + 1;
-        let list = list_field(&text[after..]);
-        if let ListField::Good {
-            first,
-            skip,
-            count,
-            bits,
-            length,
-        } = list
-        {
-            let star = after + length;
-            return NextSays::Field {
+        if let Some(list) = list_field(&text[after..]) {
+            let star = after + list.length;
+            return Some(NextSays::Field {
                 start,
                 star,
-                says: FieldSays::List {
-                    first,
-                    skip,
-                    count,
-                    bits,
-                },
-            };
+                says: FieldSays::List(list.says),
+            });
         }
     }
-    let star = next_star(text, start);
-    if star == text.len() {
-        return NextSays::Early;
-    }
+    let star = next_star(text, start)?;
     let says = judge_field(&text[start..star]);
-    NextSays::Field { start, star, says }
+    Some(NextSays::Field { start, star, says })
 }

@@ -35,7 +35,8 @@ no_progress = record {
 -- Which field may stand next, by what the fields before it gave.
 abbrev pub may_stand : Progress → FieldSays → Bool
 may_stand p (says.Count n) = not (has (optional_field p.count))
-may_stand p (says.Start s) = has (optional_field p.count) && not (has (optional_number p.start)) && not (has (optional_number p.end))
+may_stand p (says.Start s) =
+    has (optional_field p.count) && not (has (optional_number p.start)) && not (has (optional_number p.end))
 may_stand p (says.List l) = has (optional_field p.count) && not (has (optional_field p.sum))
 may_stand p (says.Sum x) = has (optional_field p.count) && not (has (optional_field p.sum))
 may_stand p says.Skipped = true

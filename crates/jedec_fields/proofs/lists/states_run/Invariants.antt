@@ -5,8 +5,8 @@ use lib.ListN.{length}
 use Rattle.jedec_fields.proofs.StatesCounted.{StatesCounted}
 use Rattle.jedec_fields.proofs.lists.states_run.Given as goal
 
-abbrev pub invariant-loop-i : goal.invariant-loop-i
-invariant-loop-i l = StatesCounted l.bytes l.n l.bits l.i
+abbrev pub invariant-loop-run : goal.invariant-loop-run
+invariant-loop-run l = StatesCounted l.bytes l.run
 
-abbrev pub decreases-loop-i : goal.decreases-loop-i
-decreases-loop-i l = length l.bytes - l.i
+abbrev pub decreases-loop-run : goal.decreases-loop-run
+decreases-loop-run l = length l.bytes - l.run.length

@@ -1,16 +1,15 @@
 -- `skip_blanks` meets its contract: the bytes passed, and the count over those still to come.
 -- Assumes nothing.
-use Prim.Native.Nat.{◌-◌}
 use native.Mathlib.Omega.{arith}
-use Rattle.jedec_fields.proofs.Counts.{blanks_stop, blanks_go, blanks_end}
 use borrow.Author.Rules.{rules}
+use Rattle.jedec_fields.proofs.Counts.{blanks_stop, blanks_go, blanks_end}
 use Rattle.jedec_fields.proofs.scan.skip_blanks.Goals as goal
 
 pub returns-then-not-is_blank : goal.returns-then-not-is_blank
 returns-then-not-is_blank c = (search (rules, blanks_stop), omega arith)
 
 pub loop-i-preserved : goal.loop-i-preserved
-loop-i-preserved c = (omega arith, search (rules, blanks_go))
+loop-i-preserved c = search (rules, blanks_go)
 
 pub returns : goal.returns
-returns c = (search (rules, blanks_end), omega arith)
+returns c = search (rules, blanks_end)
