@@ -2,6 +2,7 @@
 -- Assumes nothing.
 pub mod Widths
 pub mod States
+pub mod Checked
 pub mod Conversions
 pub mod FirstAbove
 pub mod Change

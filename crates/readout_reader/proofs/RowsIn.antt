@@ -1,21 +1,20 @@
 -- The image bytes of two rows of a readout, of a block and of all blocks are the bytes of the number that the cells join to.
 -- Assumes nothing.
 use mathlib.Core.Path.{◌≡◌, refl, sym, ◌∙◌, ap, ap₂, subst}
-use mathlib.Core.Bool.{true}
 use mathlib.Core.List.{List, ◌++◌}
-use Prim.Native.Nat.{ℕ, ◌+◌, ◌*◌, ◌-◌, ◌/◌, ◌^◌, ◌≤◌, ◌<◌}
+use Prim.Native.Nat.{ℕ, ◌+◌, ◌*◌, ◌/◌, ◌^◌, ◌≤◌, ◌<◌}
 use native.Mathlib.Omega.{arith}
 use native.Mathlib.Nat.{add_comm, add-zero, div-eq_of_lt}
 use lib.ListN.{length, drop, replicate, length-replicate}
 use lib.Seq.{sets, drop-drop}
 use Rattle.cells.specs.Cells.{cut, join, total, repeat}
 use Rattle.cells.proofs.Laws.{cut_length, cut_sets, join_append, join_small, sets_append, total_append}
-use Rattle.part.specs.Device.{known, image_bytes, readout_bytes, main_columns, main_fuses, main_bytes, wire_and_columns, wire_and_row_fuses}
+use Rattle.part.specs.Device.{main_columns, main_fuses, main_bytes, wire_and_columns, wire_and_row_fuses}
 use Rattle.part.specs.declared.Area.TheVariants.{Main, WireAnd}
 use Rattle.part.specs.declared.Device.{Device}
 use Rattle.readout_rows.specs.Widths.{row_widths, pair_widths, block_widths, widths, whole_bytes, bytes_in}
-use Rattle.readout_rows.proofs.RowSizes.{main_pairs, wire_and_pairs, pairs_of_block, main_pairs_size, device_size, device_whole}
-use Rattle.readout_rows.proofs.Stores.{Remaining, begun, after_step, ended}
+use Rattle.readout_rows.proofs.RowSizes.{main_pairs, wire_and_pairs, pairs_of_block, main_pairs_size, block_whole}
+use Rattle.readout_rows.proofs.Stores.{Stored, begun, after_step, ended}
 use Rattle.readout_reader.proofs.Carried.{of_cells, bytes_in_parts, step_over, step_stored}
 
 -- A row of the main area: eight cells of 8 bits, one more, and six of 6 bits.
@@ -112,26 +111,25 @@ unfoldable pub bytes_of : (ws readout : List ℕ) (count at : ℕ) → List ℕ
 bytes_of ws readout count at = bytes_in (repeat count ws) (drop at readout)
 
 -- What holds in the loop that stores them.
-abbrev pub RemainingIn : (ws readout before out : List ℕ) (at byte count a b left : ℕ) → Type 0
-RemainingIn ws readout = Remaining (bytes_of ws readout) (length ws) (whole_bytes ws) readout
+abbrev pub StoredIn : (ws readout before out : List ℕ) (at byte count k : ℕ) → Type 0
+StoredIn ws readout = Stored (bytes_of ws readout) (length ws) (whole_bytes ws)
 
-pub begun_in : (ws readout out : List ℕ) (at byte count : ℕ) → at + count * length ws ≤ length readout
-    → byte + count * whole_bytes ws ≤ length out → RemainingIn ws readout out out at byte count at byte count
-begun_in ws readout out at byte count = begun (bytes_of ws readout) (length ws) (whole_bytes ws) readout out at byte count
+pub begun_in : (ws readout out : List ℕ) (at byte count : ℕ) → StoredIn ws readout out out at byte count 0
+begun_in ws readout = begun (bytes_of ws readout) (length ws) (whole_bytes ws)
 
-module _ (ws readout before out : List ℕ) (at byte count a b left : ℕ)
-    (now : RemainingIn ws readout before out at byte count a b left) where
-  pub after_step_in : (next : List ℕ) (bytes whole : ℕ) → 0 < left → total ws ≡ whole_bytes ws * 8 → bytes ≡ length ws
-      → whole ≡ whole_bytes ws → next ≡ sets out b (bytes_in ws (drop a readout))
-      → RemainingIn ws readout before next at byte count (a + bytes) (b + whole) (left - 1)
+module _ (ws readout before out : List ℕ) (at byte count k : ℕ) (now : StoredIn ws readout before out at byte count k) where
+  pub after_step_in : (next : List ℕ) (bytes whole : ℕ) → k < count → total ws ≡ whole_bytes ws * 8 → bytes ≡ length ws
+      → whole ≡ whole_bytes ws → next ≡ sets out (byte + k * whole) (bytes_in ws (drop (at + k * bytes) readout))
+      → StoredIn ws readout before next at byte count (k + 1)
   unfolding bytes_of repeat
   after_step_in next bytes whole h t eb ew e =
-      after_step now (bytes_in ws (drop a readout)) next bytes whole h eb ew (bytes_length ws (drop a readout))
-      (λ k. bytes_append ws (repeat k ws) (drop a readout) t
-      ∙ ap (λ (l : List ℕ). bytes_in ws (drop a readout) ++ bytes_in (repeat k ws) l) (drop-drop (length ws) a readout))
-      e
+      let cells = drop (at + k * length ws) readout in
+      after_step now (bytes_in ws cells) next h (bytes_length ws cells)
+      (λ n. bytes_append ws (repeat n ws) cells t
+      ∙ ap (λ (l : List ℕ). bytes_in ws cells ++ bytes_in (repeat n ws) l) (drop-drop (length ws) (at + k * length ws) readout))
+      (rw (eb, ew) at e)
 
-  pub ended_in : left ≤ 0 → out ≡ sets before byte (bytes_in (repeat count ws) (drop at readout))
+  pub ended_in : count ≤ k → out ≡ sets before byte (bytes_in (repeat count ws) (drop at readout))
   unfolding bytes_of repeat bytes_in whole_bytes total cut
   ended_in h = ended now h refl
 
@@ -157,13 +155,16 @@ block_of_pairs d readout out one two at byte e1 e2 =
     ∙ ap (λ (l : List ℕ). bytes_in ws cells ++ bytes_in vs l) there))
 
 -- The loop over the blocks of a device.
-pub blocks_begun : (d : Device) (readout out : List ℕ) → known d ≡ true → length readout ≡ readout_bytes d → length out ≡ image_bytes d
-    → RemainingIn (block_widths d) readout out out 0 0 d.blocks 0 0 d.blocks
-blocks_begun d readout out k e f =
-    begun_in (block_widths d) readout out 0 0 d.blocks (omega (arith, (device_size d k).1)) (omega (arith, device_whole d k))
+module _ (d : Device) (readout before out : List ℕ) (k : ℕ) (now : StoredIn (block_widths d) readout before out 0 0 d.blocks k) where
+  pub after_block_in : (next : List ℕ) (bytes whole : ℕ) → k < d.blocks → bytes ≡ length (block_widths d)
+      → whole ≡ whole_bytes (block_widths d) → next ≡ sets out (k * whole) (bytes_in (block_widths d) (drop (k * bytes) readout))
+      → StoredIn (block_widths d) readout before next 0 0 d.blocks (k + 1)
+  after_block_in next bytes whole h eb ew e =
+      let at : 0 + k * bytes ≡ k * bytes = omega arith in
+      let byte : 0 + k * whole ≡ k * whole = omega arith in
+      after_step_in (block_widths d) readout before out 0 0 d.blocks k now next bytes whole h (block_whole d).1 eb ew (rw (at, byte) e)
 
-pub blocks_ended : (d : Device) (readout before out : List ℕ) (a b left : ℕ)
-    → RemainingIn (block_widths d) readout before out 0 0 d.blocks a b left → left ≤ 0
-    → out ≡ sets before 0 (bytes_in (widths d) (drop 0 readout))
+pub blocks_ended : (d : Device) (readout before out : List ℕ) (k : ℕ) → StoredIn (block_widths d) readout before out 0 0 d.blocks k
+    → d.blocks ≤ k → out ≡ sets before 0 (bytes_in (widths d) (drop 0 readout))
 unfolding widths
-blocks_ended d readout before out a b left now h = ended_in (block_widths d) readout before out 0 0 d.blocks a b left now h
+blocks_ended d readout before out k now h = ended_in (block_widths d) readout before out 0 0 d.blocks k now h

@@ -1,15 +1,15 @@
 // Readout to image two rows at a time, by words of eight bytes.
 // Two rows are whole bytes of an image, so every pair starts at a byte.
-ghost use Rattle.std.specs.Prelude.{◌≡◌, true, ◌+◌, ◌*◌, ◌-◌, ◌/◌, ◌^◌, ◌<◌, ◌≤◌, length, drop, replicate};
+ghost use Rattle.std.specs.Prelude.{◌≡◌, ◌+◌, ◌*◌, ◌-◌, ◌/◌, ◌^◌, ◌<◌, ◌≤◌, length, drop, replicate};
 ghost use Rattle.std.proofs.lemmas.List.Edits.{sets};
 ghost use Rattle.cells.specs.Cells.{cut, join, repeat};
-ghost use Rattle.part.specs.Device.{known, image_bytes, readout_bytes, main_columns, wire_and_columns};
+ghost use Rattle.part.specs.Device.{image_bytes, readout_bytes, main_columns, wire_and_columns};
 ghost use Rattle.part.specs.declared.Area.TheVariants.{Main, WireAnd};
 ghost use Rattle.readout_rows.specs.Widths.{row_widths, pair_widths, block_widths, widths, whole_bytes, bytes_in};
 
 use cells::words::{joined, put_cells, word8};
 use part::geometry::WIRE_AND_ROW_FUSES;
-use part::{Area, Device};
+use part::{Area, KnownDevice};
 use readout_rows::sizes;
 
 // The number that some cells join to, above the bits that the cells before left over, and of that whole bytes put into
@@ -166,26 +166,20 @@ fn pairs_in(area: Area, readout: &[u8], at: usize, image: &mut [u8], byte: usize
 {
     let whole = sizes::pair_image_bytes(area);
     let bytes = sizes::pair_readout_bytes(area);
-    let mut a = at;
-    let mut b = byte;
-    let mut left = count;
-    while 0 < left {
-        pair_in(area, readout, a, image, b);
-        a += bytes;
-        b += whole;
-        left -= 1;
+    for k in 0..count {
+        pair_in(area, readout, at + k * bytes, image, byte + k * whole);
     }
 }
 
 // The image bytes of a block of a readout.
-fn block_in(d: Device, readout: &[u8], at: usize, image: &mut [u8], byte: usize)
-    requires { (known d ≡ true) × (at + length (block_widths d) ≤ length readout.now)
-        × (byte + whole_bytes (block_widths d) ≤ length image.old) }
+fn block_in(part: KnownDevice, readout: &[u8], at: usize, image: &mut [u8], byte: usize)
+    requires { (at + length (block_widths part.device) ≤ length readout.now)
+        × (byte + whole_bytes (block_widths part.device) ≤ length image.old) }
     ensures { image.new
-        ≡ sets image.old byte (bytes_in (block_widths d) (drop at readout.now)) }
+        ≡ sets image.old byte (bytes_in (block_widths part.device) (drop at readout.now)) }
 {
     pairs_in(Area::Main, readout, at, image, byte, sizes::MAIN_PAIRS);
-    let pairs = d.blocks as usize * sizes::WIRE_AND_PAIRS;
+    let pairs = part.device.blocks as usize * sizes::WIRE_AND_PAIRS;
     pairs_in(
         Area::WireAnd,
         readout,
@@ -197,19 +191,13 @@ fn block_in(d: Device, readout: &[u8], at: usize, image: &mut [u8], byte: usize)
 }
 
 // The image bytes of all blocks of a readout.
-pub fn blocks_in(d: Device, readout: &[u8], image: &mut [u8])
-    requires { (known d ≡ true) × (length readout.now ≡ readout_bytes d) × (length image.old ≡ image_bytes d) }
-    ensures { image.new ≡ sets image.old 0 (bytes_in (widths d) (drop 0 readout.now)) }
+pub fn blocks_in(part: KnownDevice, readout: &[u8], image: &mut [u8])
+    requires { (length readout.now ≡ readout_bytes part.device) × (length image.old ≡ image_bytes part.device) }
+    ensures { image.new ≡ sets image.old 0 (bytes_in (widths part.device) (drop 0 readout.now)) }
 {
-    let whole = sizes::block_image_bytes(d);
-    let bytes = sizes::block_bytes(d);
-    let mut a: usize = 0;
-    let mut b: usize = 0;
-    let mut left = d.blocks;
-    while 0 < left {
-        block_in(d, readout, a, image, b);
-        a += bytes;
-        b += whole;
-        left -= 1;
+    let whole = sizes::block_image_bytes(part);
+    let bytes = sizes::block_bytes(part);
+    for k in 0..part.device.blocks as usize {
+        block_in(part, readout, k * bytes, image, k * whole);
     }
 }

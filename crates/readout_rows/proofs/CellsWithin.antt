@@ -60,6 +60,14 @@ within_found (w ∷ ws) vs cells h = go (within_found ws vs (drop 1 cells)) (eqb
     go ih true g = ap suc (ih (le_of_suc-le-suc g))
     go ih false g = refl
 
+-- Only as many cells count as there are widths.
+pub within_front : (ws x rest : List ℕ) → length ws ≤ length x → cells_within ws (x ++ rest) ≡ cells_within ws x
+unfolding cells_within
+within_front [] x rest h = refl
+within_front (w ∷ ws) [] rest h = absurd (not-suc-le-zero h)
+within_front (w ∷ ws) (c ∷ x) rest h =
+    ap (λ (k : ℕ). cond (eqb (c / 2 ^ w) 0) (suc k) 0) (within_front ws x rest (le_of_suc-le-suc h))
+
 -- Bytes have no bit above a width of 8.
 pub bytes_within : (k : ℕ) (cells : List ℕ) → ((i : ℕ) → Fits w8 (get_or cells i 0)) → k ≤ cells_within (replicate k 8) cells
 unfolding cells_within

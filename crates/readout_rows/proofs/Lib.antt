@@ -2,6 +2,6 @@
 -- Assumes nothing.
 pub mod RowSizes
 pub mod CellsWithin
-pub mod Scan
+pub mod FirstOver
 pub mod RowsAbove
 pub mod Stores

@@ -3,7 +3,7 @@
 use mathlib.Core.Path.{◌≡◌, refl, sym, ◌∙◌, ap}
 use mathlib.Core.Bool.{true}
 use mathlib.Core.List.{List, ◌++◌, append_assoc}
-use Prim.Native.Nat.{ℕ, zero, suc, ◌+◌, ◌*◌, ◌/◌}
+use Prim.Native.Nat.{ℕ, zero, suc, ◌*◌, ◌/◌, ◌<◌}
 use native.Mathlib.Omega.{arith}
 use native.Mathlib.Nat.{zero-mul, mul_assoc}
 use lib.ListN.{length, length-append}
@@ -26,6 +26,17 @@ pub wire_and_size : (area : Area) → area ≡ WireAnd
     → (total (row_widths area) ≡ wire_and_row_fuses) × (length (row_widths area) ≡ wire_and_columns)
 unfolding total row_widths
 wire_and_size area e = rw e (refl, refl)
+
+pub main_length : (area : Area) → area ≡ Main → length (row_widths area) ≡ main_columns
+main_length area e = (main_size area e).1
+
+pub wire_and_length : (area : Area) → area ≡ WireAnd → length (row_widths area) ≡ wire_and_columns
+wire_and_length area e = (wire_and_size area e).1
+
+pub some_bytes : (area : Area) → 0 < length (row_widths area)
+unfolding row_widths
+some_bytes Main = omega arith
+some_bytes WireAnd = omega arith
 
 -- The fuses and the bytes of the main rows of a block.
 pub main_rows_size : (total (repeat main_rows (row_widths Main)) ≡ main_fuses) × (length (repeat main_rows (row_widths Main)) ≡ main_bytes)

@@ -7,48 +7,49 @@ use native.Mathlib.Omega.{arith}
 use lib.ListN.{length}
 use lib.Seq.{sets, length-sets}
 use Rattle.cells.proofs.Laws.{sets_append}
-use Rattle.part.proofs.Facts.{space}
+use Rattle.readout_rows.proofs.FirstOver.{turn_within}
 
--- What holds when `left` of `count` steps are still to come. `made` gives the bytes of so many steps from a byte of the source
--- on, and a step takes `step` bytes of the source and stores `size`. The bytes of the steps to come, stored now, give what the
--- bytes of all steps give, and both slices are long enough for them.
-pub record Remaining (made : (count from : ℕ) → List ℕ) (step size : ℕ) (source before out : List ℕ) (from at count f a left : ℕ)
-    : Type 0 where
-  pub source_left : f + left * step ≤ length source
-  pub out_left : a + left * size ≤ length out
+-- What holds after k of `count` steps. `made` gives the bytes of so many steps from a byte of the source on, and a step takes
+-- `step` bytes of the source and stores `size`. The bytes of the steps to come, stored now, give what the bytes of all steps
+-- give.
+pub record Stored (made : (count from : ℕ) → List ℕ) (step size : ℕ) (before out : List ℕ) (from at count k : ℕ) : Type 0 where
   pub same : length out ≡ length before
-  pub rest : sets out a (made left f) ≡ sets before at (made count from)
+  pub rest : sets out (at + k * size) (made (count - k) (from + k * step)) ≡ sets before at (made count from)
 
-pub begun : (made : (count from : ℕ) → List ℕ) (step size : ℕ) (source out : List ℕ) (from at count : ℕ)
-    → from + count * step ≤ length source → at + count * size ≤ length out
-    → Remaining made step size source out out from at count from at count
-begun made step size source out from at count f g = record { source_left = f; out_left = g; same = refl; rest = refl }
+pub begun : (made : (count from : ℕ) → List ℕ) (step size : ℕ) (out : List ℕ) (from at count : ℕ)
+    → Stored made step size out out from at count 0
+begun made step size out from at count =
+    let all : count - 0 ≡ count = omega arith in
+    let start : from + 0 * step ≡ from = omega arith in
+    let there : at + 0 * size ≡ at = omega arith in
+    record { same = refl; rest = rw (all, start, there) }
 
-module _ {made : (count from : ℕ) → List ℕ} {step size : ℕ} {source before out : List ℕ} {from at count f a left : ℕ}
-    (now : Remaining made step size source before out from at count f a left) where
-  pub next_source : 0 < left → f + step ≤ length source
-  next_source h = (space left step f (length source) h now.source_left).0
+-- The bytes of a step lie in what all steps take.
+pub turn_from : (k count size from long : ℕ) → k < count → from + count * size ≤ long → from + k * size + size ≤ long
+turn_from k count size from long h g = omega (arith, turn_within k count size (count * size) h (omega arith))
 
-  pub next_out : 0 < left → a + size ≤ length out
-  next_out h = (space left size a (length out) h now.out_left).0
+stored_on : (out one more : List ℕ) (a n : ℕ) → length one ≡ n → sets (sets out a one) (a + n) more ≡ sets out a (one ++ more)
+stored_on out one more a n e = rw (← e) (sym (sets_append out a one more))
 
+module _ {made : (count from : ℕ) → List ℕ} {step size : ℕ} {before out : List ℕ} {from at count k : ℕ}
+    (now : Stored made step size before out from at count k) where
   -- After one step, of which `one` are the bytes.
-  pub after_step : (one next : List ℕ) (s n : ℕ) → 0 < left → s ≡ step → n ≡ size → length one ≡ size
-      → ((k : ℕ) → made (suc k) f ≡ one ++ made k (f + step)) → next ≡ sets out a one
-      → Remaining made step size source before next from at count (f + s) (a + n) (left - 1)
-  after_step one next s n h es en size-of-one split e =
-      let more : left ≡ suc (left - 1) = omega arith in
-      let kept : length next ≡ length out = ap length e ∙ length-sets out a one in
-      let all : sets out a (one ++ made (left - 1) (f + step)) ≡ sets before at (made count from) =
-      ap (sets out a) (sym (split (left - 1)) ∙ ap (λ (k : ℕ). made k f) (sym more)) ∙ now.rest in
+  pub after_step : (one next : List ℕ) → k < count → length one ≡ size
+      → ((n : ℕ) → made (suc n) (from + k * step) ≡ one ++ made n (from + k * step + step)) → next ≡ sets out (at + k * size) one
+      → Stored made step size before next from at count (k + 1)
+  after_step one next h size-of-one split e =
+      let more : count - k ≡ suc (count - (k + 1)) = omega arith in
+      let left = count - (k + 1) in
+      let f : from + (k + 1) * step ≡ from + k * step + step = omega arith in
+      let a : at + (k + 1) * size ≡ at + k * size + size = omega arith in
+      let all : sets out (at + k * size) (one ++ made left (from + k * step + step)) ≡ sets before at (made count from) =
+      ap (sets out (at + k * size)) (sym (split left) ∙ ap (λ (n : ℕ). made n (from + k * step)) (sym more)) ∙ now.rest in
       record {
-        source_left = rw es (space left step f (length source) h now.source_left).1;
-        out_left = rw (en, kept) (space left size a (length out) h now.out_left).1;
-        same = kept ∙ now.same;
-        rest = rw (es, en, ← size-of-one, e) (sym (sets_append out a one (made (left - 1) (f + step))) ∙ all);
+        same = ap length e ∙ length-sets out (at + k * size) one ∙ now.same;
+        rest = rw (f, a, e) (stored_on out one (made left (from + k * step + step)) (at + k * size) size size-of-one ∙ all);
       }
 
-  pub ended : left ≤ 0 → made 0 f ≡ [] → out ≡ sets before at (made count from)
+  pub ended : count ≤ k → made 0 (from + k * step) ≡ [] → out ≡ sets before at (made count from)
   ended h none =
-      let last : left ≡ 0 = omega arith in
-      sym (ap (sets out a) (ap (λ (k : ℕ). made k f) last ∙ none)) ∙ now.rest
+      let last : count - k ≡ 0 = omega arith in
+      sym (ap (sets out (at + k * size)) (ap (λ (n : ℕ). made n (from + k * step)) last ∙ none)) ∙ now.rest

@@ -1,6 +1,7 @@
 -- The widths of a readout's bytes in order, as lists: what the conversions cut an image's number by.
 -- `widths_at` in readout/proofs/Widths.antt ties them to the bytes of the device.
-use Rattle.std.specs.Prelude.{ℕ, zero, suc, ◌+◌, ◌*◌, ◌-◌, ◌/◌, ◌^◌, cond, List, [], ◌∷◌, ◌++◌, eqb, get_or, drop, replicate}
+use Rattle.std.specs.Prelude.{ℕ, zero, suc, ◌+◌, ◌*◌, ◌-◌, ◌/◌, ◌^◌, cond, List, [], ◌∷◌, ◌++◌, eqb, ltb, get_or, drop}
+use Rattle.std.specs.Prelude.{length, replicate, Option, Some, None}
 use Rattle.cells.specs.Cells.{cut, join, total, repeat}
 use Rattle.part.specs.Device.{main_rows, wire_and_rows}
 use Rattle.part.specs.declared.Area.{Area}
@@ -36,6 +37,10 @@ bytes_in ws cells = cut (replicate (whole_bytes ws) 8) (join ws cells)
 unfoldable pub cells_within : List ℕ → List ℕ → ℕ
 cells_within [] cells = 0
 cells_within (w ∷ ws) cells = cond (eqb (get_or cells 0 0 / 2 ^ w) 0) (suc (cells_within ws (drop 1 cells))) 0
+
+-- The index of the first of some cells that has a bit above its width, if one has.
+unfoldable pub first_over : List ℕ → List ℕ → Option ℕ
+first_over ws cells = cond (ltb (cells_within ws cells) (length ws)) (Some (cells_within ws cells)) None
 
 -- The bits above a width in so many bytes, taken as one word.
 unfoldable pub above_mask : (count width : ℕ) → ℕ

@@ -1,10 +1,9 @@
 // The bytes of a row, of two rows and of a block, in an image and in a readout.
 // Two rows of either area are whole bytes of an image; one row is not.
-ghost use Rattle.std.specs.Prelude.{◌≡◌, true, length};
-ghost use Rattle.part.specs.Device.{known};
+ghost use Rattle.std.specs.Prelude.{◌≡◌, length};
 ghost use Rattle.readout_rows.specs.Widths.{row_widths, pair_widths, block_widths, whole_bytes};
 
-use part::{Area, Device, geometry};
+use part::{Area, KnownDevice, geometry};
 
 // The rows of the main area of a block and of a wire-AND subarea.
 pub const MAIN_ROWS: usize = geometry::MAIN_ROWS as usize;
@@ -66,17 +65,15 @@ pub fn pair_readout_bytes(area: Area) -> usize
 }
 
 // The image bytes of a block.
-pub fn block_image_bytes(d: Device) -> usize
-    requires { known d ≡ true }
-    ensures { result ≡ whole_bytes (block_widths d) }
+pub fn block_image_bytes(part: KnownDevice) -> usize
+    ensures { result ≡ whole_bytes (block_widths part.device) }
 {
-    geometry::in_block(d, geometry::MAIN_IMAGE_BYTES, geometry::SUBAREA_IMAGE_BYTES) as usize
+    part.in_block(geometry::MAIN_IMAGE_BYTES, geometry::SUBAREA_IMAGE_BYTES) as usize
 }
 
 // The bytes of a block in a readout.
-pub fn block_bytes(d: Device) -> usize
-    requires { known d ≡ true }
-    ensures { result ≡ length (block_widths d) }
+pub fn block_bytes(part: KnownDevice) -> usize
+    ensures { result ≡ length (block_widths part.device) }
 {
-    geometry::in_block(d, geometry::MAIN_BYTES, geometry::SUBAREA_BYTES) as usize
+    part.in_block(geometry::MAIN_BYTES, geometry::SUBAREA_BYTES) as usize
 }

@@ -1,9 +1,8 @@
 -- The bytes that the code makes of the words that it takes from an image are the rows cut from the image's number.
 -- Then the loops over pairs of rows and over blocks.
 use mathlib.Core.Path.{◌≡◌, refl, sym, ◌∙◌, ap}
-use mathlib.Core.Bool.{true}
 use mathlib.Core.List.{List, ◌++◌}
-use Prim.Native.Nat.{ℕ, ◌+◌, ◌*◌, ◌-◌, ◌/◌, ◌^◌, ◌≤◌, ◌<◌}
+use Prim.Native.Nat.{ℕ, ◌+◌, ◌*◌, ◌/◌, ◌^◌, ◌≤◌, ◌<◌}
 use native.Mathlib.Omega.{arith}
 use native.Mathlib.Nat.{div-one}
 use lib.ListN.{length, drop, replicate}
@@ -11,14 +10,14 @@ use lib.Pow.{shr-shr}
 use lib.Seq.{sets}
 use Rattle.cells.specs.Cells.{cut, join, total, repeat, number}
 use Rattle.cells.proofs.Laws.{cut_append, cut_length, cut_sets, piece}
-use Rattle.part.specs.Device.{known, image_bytes, readout_bytes, main_columns, main_row_fuses, main_fuses, main_bytes}
+use Rattle.part.specs.Device.{main_columns, main_row_fuses, main_fuses, main_bytes}
 use Rattle.part.specs.Device.{wire_and_columns, wire_and_row_fuses}
 use Rattle.part.specs.declared.Area.{Area}
 use Rattle.part.specs.declared.Area.TheVariants.{Main, WireAnd}
 use Rattle.part.specs.declared.Device.{Device}
 use Rattle.readout_rows.specs.Widths.{row_widths, pair_widths, block_widths, widths, whole_bytes}
-use Rattle.readout_rows.proofs.RowSizes.{main_pairs, wire_and_pairs, pairs_of_block, main_pairs_size, device_size, device_whole}
-use Rattle.readout_rows.proofs.Stores.{Remaining, begun, after_step, ended}
+use Rattle.readout_rows.proofs.RowSizes.{main_pairs, wire_and_pairs, pairs_of_block, main_pairs_size, block_whole}
+use Rattle.readout_rows.proofs.Stores.{Stored, begun, after_step, ended}
 
 -- Cells of a word of eight bytes after its first `skip` bits, where they lie `past` bits after a start.
 from_bit : (image ws : List ℕ) (start past p skip w : ℕ) → p + 8 ≤ length image → skip + total ws ≤ 64 → p * 8 + skip ≡ start + past
@@ -95,28 +94,28 @@ unfoldable pub cells_of : (ws image : List ℕ) (count byte : ℕ) → List ℕ
 cells_of ws image count byte = cut (repeat count ws) (number image / 2 ^ (byte * 8))
 
 -- What holds in the loop that stores them.
-abbrev pub RemainingOut : (ws image before out : List ℕ) (byte at count b a left : ℕ) → Type 0
-RemainingOut ws image = Remaining (cells_of ws image) (whole_bytes ws) (length ws) image
+abbrev pub StoredOut : (ws image before out : List ℕ) (byte at count k : ℕ) → Type 0
+StoredOut ws image = Stored (cells_of ws image) (whole_bytes ws) (length ws)
 
-pub begun_out : (ws image out : List ℕ) (byte at count : ℕ) → byte + count * whole_bytes ws ≤ length image
-    → at + count * length ws ≤ length out → RemainingOut ws image out out byte at count byte at count
-begun_out ws image out byte at count = begun (cells_of ws image) (whole_bytes ws) (length ws) image out byte at count
+pub begun_out : (ws image out : List ℕ) (byte at count : ℕ) → StoredOut ws image out out byte at count 0
+begun_out ws image = begun (cells_of ws image) (whole_bytes ws) (length ws)
 
-module _ (ws image before out : List ℕ) (byte at count b a left : ℕ) (now : RemainingOut ws image before out byte at count b a left) where
-  pub after_step_out : (next : List ℕ) (whole bytes : ℕ) → 0 < left → total ws ≡ whole_bytes ws * 8 → whole ≡ whole_bytes ws
-      → bytes ≡ length ws → next ≡ sets out a (cut ws (number image / 2 ^ (b * 8)))
-      → RemainingOut ws image before next byte at count (b + whole) (a + bytes) (left - 1)
+module _ (ws image before out : List ℕ) (byte at count k : ℕ) (now : StoredOut ws image before out byte at count k) where
+  pub after_step_out : (next : List ℕ) (whole bytes : ℕ) → k < count → total ws ≡ whole_bytes ws * 8 → whole ≡ whole_bytes ws
+      → bytes ≡ length ws → next ≡ sets out (at + k * bytes) (cut ws (number image / 2 ^ ((byte + k * whole) * 8)))
+      → StoredOut ws image before next byte at count (k + 1)
   unfolding cells_of repeat
   after_step_out next whole bytes h t ew eb e =
+      let b = byte + k * whole_bytes ws in
       let x = number image / 2 ^ (b * 8) in
       let bits : (b + whole_bytes ws) * 8 ≡ b * 8 + total ws = omega arith in
-      after_step now (cut ws x) next whole bytes h ew eb (cut_length ws x)
-      (λ k. cut_append ws (repeat k ws) x
-      ∙ ap (λ (y : ℕ). cut ws x ++ cut (repeat k ws) y)
+      after_step now (cut ws x) next h (cut_length ws x)
+      (λ n. cut_append ws (repeat n ws) x
+      ∙ ap (λ (y : ℕ). cut ws x ++ cut (repeat n ws) y)
       (shr-shr (number image) (b * 8) (total ws) ∙ ap (λ (j : ℕ). number image / 2 ^ j) (sym bits)))
-      e
+      (rw (ew, eb) at e)
 
-  pub ended_out : left ≤ 0 → out ≡ sets before at (cut (repeat count ws) (number image / 2 ^ (byte * 8)))
+  pub ended_out : count ≤ k → out ≡ sets before at (cut (repeat count ws) (number image / 2 ^ (byte * 8)))
   unfolding cells_of repeat cut
   ended_out h = ended now h refl
 
@@ -134,13 +133,16 @@ block_of_pairs d image out one two byte at e1 e2 =
     (number image / 2 ^ (byte * 8)) main_bytes main_fuses main_pairs_size.1 main_pairs_size.0)
 
 -- The loop over the blocks of a device.
-pub blocks_begun : (d : Device) (image out : List ℕ) → known d ≡ true → length image ≡ image_bytes d → length out ≡ readout_bytes d
-    → RemainingOut (block_widths d) image out out 0 0 d.blocks 0 0 d.blocks
-blocks_begun d image out k e f =
-    begun_out (block_widths d) image out 0 0 d.blocks (omega (arith, device_whole d k)) (omega (arith, (device_size d k).1))
+module _ (d : Device) (image before out : List ℕ) (k : ℕ) (now : StoredOut (block_widths d) image before out 0 0 d.blocks k) where
+  pub after_block_out : (next : List ℕ) (whole bytes : ℕ) → k < d.blocks → whole ≡ whole_bytes (block_widths d)
+      → bytes ≡ length (block_widths d) → next ≡ sets out (k * bytes) (cut (block_widths d) (number image / 2 ^ (k * whole * 8)))
+      → StoredOut (block_widths d) image before next 0 0 d.blocks (k + 1)
+  after_block_out next whole bytes h ew eb e =
+      let at : 0 + k * bytes ≡ k * bytes = omega arith in
+      let byte : 0 + k * whole ≡ k * whole = omega arith in
+      after_step_out (block_widths d) image before out 0 0 d.blocks k now next whole bytes h (block_whole d).1 ew eb (rw (at, byte) e)
 
-pub blocks_ended : (d : Device) (image before out : List ℕ) (b a left : ℕ)
-    → RemainingOut (block_widths d) image before out 0 0 d.blocks b a left → left ≤ 0
+pub blocks_ended : (d : Device) (image before out : List ℕ) (k : ℕ) → StoredOut (block_widths d) image before out 0 0 d.blocks k → d.blocks ≤ k
     → out ≡ sets before 0 (cut (widths d) (number image / 2 ^ (0 * 8)))
 unfolding widths
-blocks_ended d image before out b a left now h = ended_out (block_widths d) image before out 0 0 d.blocks b a left now h
+blocks_ended d image before out k now h = ended_out (block_widths d) image before out 0 0 d.blocks k now h

@@ -1,14 +1,14 @@
 // Image to readout two rows at a time, by words of eight bytes.
 // Two rows are whole bytes of an image, so every pair starts at a byte.
-ghost use Rattle.std.specs.Prelude.{◌≡◌, true, ◌+◌, ◌*◌, ◌/◌, ◌^◌, ◌≤◌, length};
+ghost use Rattle.std.specs.Prelude.{◌≡◌, ◌+◌, ◌*◌, ◌/◌, ◌^◌, ◌≤◌, length};
 ghost use Rattle.std.proofs.lemmas.List.Edits.{sets};
 ghost use Rattle.cells.specs.Cells.{cut, repeat, number};
-ghost use Rattle.part.specs.Device.{known, image_bytes, readout_bytes, main_columns, wire_and_columns};
+ghost use Rattle.part.specs.Device.{image_bytes, readout_bytes, main_columns, wire_and_columns};
 ghost use Rattle.part.specs.declared.Area.TheVariants.{Main, WireAnd};
 ghost use Rattle.readout_rows.specs.Widths.{row_widths, pair_widths, block_widths, widths, whole_bytes};
 
 use cells::words::{put_cells, word8};
-use part::{Area, Device};
+use part::{Area, KnownDevice};
 use readout_rows::sizes;
 
 // The bytes of a main row of an image that starts at a bit of a byte.
@@ -63,26 +63,20 @@ fn pairs_out(area: Area, image: &[u8], byte: usize, out: &mut [u8], at: usize, c
 {
     let whole = sizes::pair_image_bytes(area);
     let bytes = sizes::pair_readout_bytes(area);
-    let mut b = byte;
-    let mut a = at;
-    let mut left = count;
-    while 0 < left {
-        pair_out(area, image, b, out, a);
-        b += whole;
-        a += bytes;
-        left -= 1;
+    for k in 0..count {
+        pair_out(area, image, byte + k * whole, out, at + k * bytes);
     }
 }
 
 // The bytes of a block of an image.
-fn block_out(d: Device, image: &[u8], byte: usize, out: &mut [u8], at: usize)
-    requires { (known d ≡ true) × (byte + whole_bytes (block_widths d) ≤ length image.now)
-        × (at + length (block_widths d) ≤ length out.old) }
+fn block_out(part: KnownDevice, image: &[u8], byte: usize, out: &mut [u8], at: usize)
+    requires { (byte + whole_bytes (block_widths part.device) ≤ length image.now)
+        × (at + length (block_widths part.device) ≤ length out.old) }
     ensures { out.new
-        ≡ sets out.old at (cut (block_widths d) (number image.now / 2 ^ (byte * 8))) }
+        ≡ sets out.old at (cut (block_widths part.device) (number image.now / 2 ^ (byte * 8))) }
 {
     pairs_out(Area::Main, image, byte, out, at, sizes::MAIN_PAIRS);
-    let pairs = d.blocks as usize * sizes::WIRE_AND_PAIRS;
+    let pairs = part.device.blocks as usize * sizes::WIRE_AND_PAIRS;
     pairs_out(
         Area::WireAnd,
         image,
@@ -94,19 +88,13 @@ fn block_out(d: Device, image: &[u8], byte: usize, out: &mut [u8], at: usize)
 }
 
 // The bytes of all blocks of an image.
-pub fn blocks_out(d: Device, image: &[u8], out: &mut [u8])
-    requires { (known d ≡ true) × (length image.now ≡ image_bytes d) × (length out.old ≡ readout_bytes d) }
-    ensures { out.new ≡ sets out.old 0 (cut (widths d) (number image.now / 2 ^ (0 * 8))) }
+pub fn blocks_out(part: KnownDevice, image: &[u8], out: &mut [u8])
+    requires { (length image.now ≡ image_bytes part.device) × (length out.old ≡ readout_bytes part.device) }
+    ensures { out.new ≡ sets out.old 0 (cut (widths part.device) (number image.now / 2 ^ (0 * 8))) }
 {
-    let whole = sizes::block_image_bytes(d);
-    let bytes = sizes::block_bytes(d);
-    let mut b: usize = 0;
-    let mut a: usize = 0;
-    let mut left = d.blocks;
-    while 0 < left {
-        block_out(d, image, b, out, a);
-        b += whole;
-        a += bytes;
-        left -= 1;
+    let whole = sizes::block_image_bytes(part);
+    let bytes = sizes::block_bytes(part);
+    for k in 0..part.device.blocks as usize {
+        block_out(part, image, k * whole, out, k * bytes);
     }
 }

@@ -1,106 +1,85 @@
--- `readout_to_image` meets its contract: the tests, 1 before 2 before 6, and the conversion.
+-- `readout_to_image` meets its contract: the tests of `part_of`, a bit above a width, and the conversion.
 -- Assumes nothing.
-use mathlib.Core.Path.{◌≡◌, refl, sym, ◌∙◌}
-use mathlib.Core.Bool.{true, false, cond}
-use mathlib.Core.List.{List}
-use Prim.Native.Nat.{ℕ, ◌+◌, ◌<◌, ◌≤◌}
-use native.Mathlib.Nat.{zero-add}
-use native.Mathlib.Omega.{arith}
-use lib.Dec.{ltb}
-use lib.ListN.{length, drop}
+use Rattle.std.proofs.Common.{◌≡◌, refl, sym, ◌∙◌, ap, true, cond, ℕ, ◌^◌, ◌<◌, ◌≤◌, List, length, drop, ltb, Fits, w32, arith, rules}
+use Rattle.std.specs.Prelude.{Some, None}
 use lib.Seq.{sets}
 use borrow.Author.Tests.{lt-ltb, le-ltb}
 use Rattle.part.specs.Outcome.{Outcome, written, Written}
-use Rattle.part.specs.Outcome.Outcome.{accepted, refused}
-use Rattle.part.specs.Device.{known, image_bytes, readout_bytes}
+use Rattle.part.specs.Outcome.Outcome.{refused}
+use Rattle.part.specs.Device.{known, image_bytes, readout_bytes, main_bytes, subarea_bytes}
 use Rattle.part.specs.declared.Device.{Device}
-use Rattle.part.proofs.Devices.{is_known, is_unknown}
+use Rattle.part.proofs.Devices.{in_device_small}
+use Rattle.part.proofs.Targets.{tested}
 use Rattle.readout.specs.Readout.{to_image, image_of, first_above}
-use Rattle.readout_rows.specs.Widths.{widths, bytes_in, cells_within}
+use Rattle.readout_rows.specs.Widths.{widths, bytes_in, first_over}
+use Rattle.readout_rows.proofs.FirstOver.{over_found, over_none}
+use Rattle.readout.proofs.Checked.{done, other_first, refused_other, passed_on, exact_image}
 use Rattle.readout.proofs.Conversions.{image_bytes_in_lem, image_length, sets_whole}
 use Rattle.readout.proofs.FirstAbove.{first_above_lem}
-use Rattle.part.proofs.Targets.{unknown, wrong_first, wrong_second, right}
-use borrow.Author.Rules.{rules}
+use Rattle.readout.proofs.Widths.{widths_length}
 use Rattle.readout.proofs.readout_to_image.Goals as goal
 
--- What follows the tests of lengths.
+-- What follows the tests.
 abbrev after_scan : Device → List ℕ → Outcome (Unit {0})
-after_scan d readout = cond (ltb (first_above d readout) (readout_bytes d)) (refused 6 (first_above d readout)) (accepted tt)
+after_scan d readout = cond (ltb (first_above d readout) (readout_bytes d)) (refused 6 (first_above d readout)) done
+
+readout_small : (d : Device) → known d ≡ true → readout_bytes d < 2 ^ 32
+unfolding readout_bytes
+readout_small d k = omega (arith, in_device_small d main_bytes subarea_bytes k)
 
 -- What the scan found, and what the definition says of it.
-module _ (d : Device) (readout : List ℕ) (above : ℕ) (k : known d ≡ true) (l : length readout ≡ readout_bytes d)
-    (e : above ≡ 0 + cells_within (widths d) (drop 0 readout)) where
-  the_above : above ≡ first_above d readout
-  the_above = e ∙ zero-add _ ∙ sym (first_above_lem d readout k)
+module _ (d : Device) (readout : List ℕ) (k : known d ≡ true) where
+  one_above : (i : ℕ) → Some i ≡ first_over (widths d) readout → (refused 6 i ≡ after_scan d readout) × (i < readout_bytes d)
+  one_above i e =
+      let found = over_found (widths d) readout i e in
+      let the : i ≡ first_above d readout = found.0 ∙ sym (first_above_lem d readout k) in
+      let below : i < readout_bytes d = rw (widths_length d k) at found.1 in
+      (rw (← the, lt-ltb i (readout_bytes d) below), below)
 
-  one_above : above < length readout → refused 6 above ≡ after_scan d readout
-  one_above h = rw (← the_above, lt-ltb above (readout_bytes d) (omega arith))
+  no_above : None ≡ first_over (widths d) readout → done ≡ after_scan d readout
+  no_above e =
+      let none : readout_bytes d ≤ first_above d readout =
+      rw (first_above_lem d readout k, ← widths_length d k) (over_none (widths d) readout e) in
+      rw (le-ltb (first_above d readout) (readout_bytes d) none)
 
-  no_above : length readout ≤ above → accepted tt ≡ after_scan d readout
-  no_above h = rw (← the_above, le-ltb above (readout_bytes d) (omega arith))
+-- What the device gives that passed the tests.
+module _ (p d : Device) (readout before : List ℕ) (k : known p ≡ true) (same : p ≡ d)
+    (h : done ≡ tested d (length before) (image_bytes d) (length readout) (readout_bytes d) done) where
+  image_size : length before ≡ image_bytes p
+  image_size = rw same (exact_image d (length before) (image_bytes d) (length readout) (readout_bytes d) h)
 
--- The case of each test, for the definition of this function.
-module _ (d : Device) (readout before : List ℕ) where
-  abbrev At : Outcome (Unit {0}) → List ℕ → Type 0
-  At answer after = Written (to_image d readout before) answer (image_of d readout) before after
-
-  no_device : known d ≡ false → At (refused 1 0) before
+  scanned : (answer : Outcome (Unit {0})) (after : List ℕ) → answer ≡ after_scan p readout
+      → after ≡ written answer (image_of p readout) before → Written (to_image d readout before) answer (image_of d readout) before after
   unfolding to_image
-  no_device = unknown d (length readout) (readout_bytes d) (length before) (image_bytes d) (after_scan d readout) (image_of d readout)
-      before
+  scanned answer after e f =
+      let order = other_first d (length before) (image_bytes d) (length readout) (readout_bytes d) (after_scan d readout) in
+      let all = passed_on d (length before) (image_bytes d) (length readout) (readout_bytes d) h (after_scan d readout) answer
+      (image_of d readout) before after (e ∙ ap (λ (q : Device). after_scan q readout) same)
+      (f ∙ ap (λ (q : Device). written answer (image_of q readout) before) same) in
+      rw order at all
 
-  module _ (k : known d ≡ true) (x : ℕ) (ex : x ≡ readout_bytes d) where
-    first_length : (length readout ≡ x → ⊥) → At (refused 2 0) before
-    unfolding to_image
-    first_length =
-        wrong_first d (length readout) (readout_bytes d) (length before) (image_bytes d) (after_scan d readout)
-        (image_of d readout) before k x ex
+  above_refused : (i : ℕ) → Some i ≡ first_over (widths p) readout
+      → Written (to_image d readout before) (refused 6 i) (image_of d readout) before before
+  above_refused i e = scanned (refused 6 i) before (one_above p readout k i e).0 refl
 
-    module _ (hx : length readout ≡ x) (y : ℕ) (ey : y ≡ image_bytes d) where
-      second_length : (length before ≡ y → ⊥) → At (refused 2 0) before
-      unfolding to_image
-      second_length =
-          wrong_second d (length readout) (readout_bytes d) (length before) (image_bytes d) (after_scan d readout)
-          (image_of d readout) before k x ex hx y ey
+  converted : (after : List ℕ) → None ≡ first_over (widths p) readout → after ≡ sets before 0 (bytes_in (widths p) (drop 0 readout))
+      → Written (to_image d readout before) done (image_of d readout) before after
+  converted after e f =
+      scanned done after (no_above p readout k e)
+      (f ∙ rw (image_bytes_in_lem p readout k) (sets_whole before (image_of p readout) (image_size ∙ sym (image_length p readout))))
 
-      passed : length before ≡ y → (answer : Outcome (Unit {0})) → answer ≡ (after_scan d readout) → (after : List ℕ)
-          → after ≡ written answer (image_of d readout) before → At answer after
-      unfolding to_image
-      passed =
-          right d (length readout) (readout_bytes d) (length before) (image_bytes d) (after_scan d readout)
-          (image_of d readout) before k x ex hx y ey
+few : (p : Device) (readout : List ℕ) (i : ℕ) → known p ≡ true → Some i ≡ first_over (widths p) readout → Fits w32 i
+few p readout i k e = omega (arith, (one_above p readout k i e).1, readout_small p k)
 
-whole : (d : Device) (readout before after : List ℕ) → known d ≡ true → length before ≡ image_bytes d
-    → after ≡ sets before 0 (bytes_in (widths d) (drop 0 readout)) → after ≡ image_of d readout
-whole d readout before after k e f =
-    f ∙ rw (image_bytes_in_lem d readout k) (sets_whole before (image_of d readout) (e ∙ sym (image_length d readout)))
+pub returns-in_err-part : goal.returns-in_err-part
+unfolding to_image
+returns-in_err-part c = search (rules, refused_other)
 
-one_above_refused : (d : Device) (readout before : List ℕ) (x y above : ℕ) → known d ≡ true → x ≡ readout_bytes d → length readout ≡ x
-    → y ≡ image_bytes d → length before ≡ y
-    → above ≡ 0 + cells_within (widths d) (drop 0 readout) → above < length readout → At d readout before (refused 6 above) before
-one_above_refused d readout before x y above k ex hx ey hy e h =
-    passed d readout before k x ex hx y ey hy (refused 6 above) (one_above d readout above k (hx ∙ ex) e h) before refl
+pub overflow_cast-result : goal.overflow_cast-result
+overflow_cast-result c = search (rules, few)
 
-all_passed : (d : Device) (readout before after : List ℕ) (x y above : ℕ) → known d ≡ true → x ≡ readout_bytes d → length readout ≡ x
-    → y ≡ image_bytes d → length before ≡ y
-    → above ≡ 0 + cells_within (widths d) (drop 0 readout) → length readout ≤ above
-    → after ≡ sets before 0 (bytes_in (widths d) (drop 0 readout))
-    → At d readout before (accepted tt) after
-all_passed d readout before after x y above k ex hx ey hy e h f =
-    passed d readout before k x ex hx y ey hy (accepted tt) (no_above d readout above k (hx ∙ ex) e h) after
-    (whole d readout before after k (hy ∙ ey) f)
-
-pub returns-then-not-is_known : goal.returns-then-not-is_known
-returns-then-not-is_known c = search (rules, is_unknown, no_device)
-
-pub returns-then-readout-readout_bytes : goal.returns-then-readout-readout_bytes
-returns-then-readout-readout_bytes c = search (rules, is_known, first_length)
-
-pub returns-then-image-image_bytes : goal.returns-then-image-image_bytes
-returns-then-image-image_bytes c = search (rules, is_known, second_length)
-
-pub returns-then-above-readout : goal.returns-then-above-readout
-returns-then-above-readout c = search (rules, is_known, one_above_refused)
+pub returns-in-Some : goal.returns-in-Some
+returns-in-Some c = search (rules, above_refused)
 
 pub returns : goal.returns
-returns c = search (rules, is_known, all_passed)
+returns c = search (rules, converted)

@@ -11,14 +11,14 @@ use Rattle.readout_reader.proofs.rows_in.block_in.Goals as goal
 pub pairs_in-requires : goal.pairs_in-requires
 pairs_in-requires c =
     let start = c in
-    omega (arith, block_size start.args.d, block_whole start.args.d, main_pair Main refl, start.requires)
+    omega (arith, block_size start.args.part.device, block_whole start.args.part.device, main_pair Main refl, start.requires)
 
 pub pairs_in-requires-2 : goal.pairs_in-requires-2
 pairs_in-requires-2 c =
     let main = c in
     let start = main in
     rw ((wire_and_pair WireAnd refl).0, (wire_and_pair WireAnd refl).1)
-    (omega (arith, block_size start.args.d, block_whole start.args.d, start.requires, main.pairs_in.auto))
+    (omega (arith, block_size start.args.part.device, block_whole start.args.part.device, start.requires, main.pairs_in.auto))
 
 pub returns : goal.returns
 returns c = search (rules, block_of_pairs)

@@ -1,12 +1,13 @@
 -- `blocks_in` meets its contract: the loop of `pairs_in`, over blocks.
 -- Assumes nothing.
-use Rattle.readout_rows.specs.Widths.{block_widths}
-use Rattle.readout_reader.proofs.RowsIn.{RemainingIn}
+use Rattle.std.proofs.Common.{◌≡◌, ◌*◌, length}
+use Rattle.readout_rows.specs.Widths.{block_widths, whole_bytes}
+use Rattle.readout_reader.proofs.RowsIn.{StoredIn}
 use Rattle.readout_reader.proofs.rows_in.blocks_in.Given as goal
 
-abbrev pub invariant-loop-left : goal.invariant-loop-left
-invariant-loop-left l =
-    RemainingIn (block_widths l.d) l.readout l.initial.image l.image 0 0 l.d.blocks l.a l.b l.left
-
-abbrev pub decreases-loop-left : goal.decreases-loop-left
-decreases-loop-left l = l.left
+abbrev pub invariant-loop-k : goal.invariant-loop-k
+invariant-loop-k l = record {
+  image_whole : l.part.device.blocks * whole_bytes (block_widths l.part.device) ≡ length l.image;
+  readout_whole : l.part.device.blocks * length (block_widths l.part.device) ≡ length l.readout;
+  stored : StoredIn (block_widths l.part.device) l.readout l.initial.image l.image 0 0 l.part.device.blocks l.k;
+}

@@ -1,20 +1,15 @@
--- `pairs_in` meets its contract: a loop whose invariant is `RemainingIn`.
+-- `pairs_in` meets its contract: a loop whose invariant is `StoredIn`.
 -- Assumes nothing.
-use mathlib.Core.Path.{◌≡◌}
-use Prim.Native.Nat.{◌*◌}
 use borrow.Author.Rules.{rules}
-use Rattle.cells.specs.Cells.{total}
-use Rattle.part.specs.declared.Area.{Area}
-use Rattle.readout_rows.specs.Widths.{pair_widths, whole_bytes}
 use Rattle.readout_rows.proofs.RowSizes.{pair_whole}
-use Rattle.readout_reader.proofs.RowsIn.{after_step_in, ended_in}
+use Rattle.readout_reader.proofs.RowsIn.{begun_in, after_step_in, ended_in}
 use Rattle.readout_reader.proofs.rows_in.pairs_in.Goals as goal
 
-whole : (area : Area) → total (pair_widths area) ≡ whole_bytes (pair_widths area) * 8
-whole area = pair_whole area
+pub loop-k-init : goal.loop-k-init
+loop-k-init c = begun_in _ _ _ _ _ _
 
-pub loop-left-preserved : goal.loop-left-preserved
-loop-left-preserved c = search (rules, after_step_in, whole)
+pub loop-k-preserved : goal.loop-k-preserved
+loop-k-preserved c = search (rules, after_step_in, pair_whole)
 
 pub returns : goal.returns
 returns c = search (rules, ended_in)

@@ -1,18 +1,27 @@
--- `first_above_lem` meets its contract: the scan of blocks.
+-- `first_above` meets its contract: the blocks are looked at one after another.
 -- Assumes nothing.
-use borrow.Author.Rules.{rules}
-use Rattle.readout_rows.proofs.Scan.{scan_step}
-use Rattle.readout_rows.proofs.RowsAbove.{blocks_scan, blocks_found, blocks_none}
+use Rattle.std.proofs.Common.{sym, ◌∙◌, rules}
+use Rattle.readout_rows.specs.Widths.{widths}
+use Rattle.readout_rows.proofs.RowSizes.{device_size}
+use Rattle.readout_rows.proofs.FirstOver.{looked_none_yet, looked_found, looked_on, looked_at_all, looked_fits}
 use Rattle.readout_rows.proofs.above_width.first_above.Goals as goal
 
-pub loop-left-init : goal.loop-left-init
-loop-left-init c = search (rules, blocks_scan)
+pub loop-k-init : goal.loop-k-init
+loop-k-init c = record {
+  whole = (device_size c.args.part.device c.args.part.is_known).1 ∙ sym c.requires;
+  looked = looked_none_yet _ _ _;
+}
 
-pub returns-then-found-a : goal.returns-then-found-a
-returns-then-found-a c = search (rules, blocks_found)
+pub overflow_add-result : goal.overflow_add-result
+overflow_add-result c = search (rules, looked_fits)
 
-pub loop-left-preserved : goal.loop-left-preserved
-loop-left-preserved c = search (rules, scan_step)
+pub returns-in-Some : goal.returns-in-Some
+unfolding widths
+returns-in-Some c = search (rules, looked_found)
+
+pub loop-k-preserved : goal.loop-k-preserved
+loop-k-preserved c = record { whole = c.loop-k.invariant.whole; looked = search (rules, looked_on) }
 
 pub returns : goal.returns
-returns c = search (rules, blocks_none)
+unfolding widths
+returns c = search (rules, looked_at_all)

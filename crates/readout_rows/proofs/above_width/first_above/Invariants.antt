@@ -1,11 +1,12 @@
--- `first_above_lem` meets its contract: the scan of blocks.
+-- `first_above` meets its contract: the blocks are looked at one after another.
 -- Assumes nothing.
+use Rattle.std.proofs.Common.{◌≡◌, ◌*◌, length}
 use Rattle.readout_rows.specs.Widths.{block_widths}
-use Rattle.readout_rows.proofs.Scan.{Scan}
+use Rattle.readout_rows.proofs.FirstOver.{Looked}
 use Rattle.readout_rows.proofs.above_width.first_above.Given as goal
 
-abbrev pub invariant-loop-left : goal.invariant-loop-left
-invariant-loop-left l = Scan (block_widths l.d) l.readout 0 l.d.blocks l.a l.left
-
-abbrev pub decreases-loop-left : goal.decreases-loop-left
-decreases-loop-left l = l.left
+abbrev pub invariant-loop-k : goal.invariant-loop-k
+invariant-loop-k l = record {
+  whole : l.part.device.blocks * length (block_widths l.part.device) ≡ length l.readout;
+  looked : Looked (block_widths l.part.device) l.readout l.part.device.blocks l.k;
+}

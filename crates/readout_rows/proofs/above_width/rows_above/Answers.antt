@@ -1,14 +1,17 @@
--- `rows_above` meets its contract: the scan of rows.
+-- `rows_above` meets its contract: the rows are looked at one after another.
 -- Assumes nothing.
-use borrow.Author.Rules.{rules}
-use Rattle.readout_rows.proofs.Scan.{scan_found, scan_step, scan_ended}
+use Rattle.std.proofs.Common.{rules}
+use Rattle.readout_rows.proofs.FirstOver.{looked_found, looked_on, looked_at_all, looked_fits}
 use Rattle.readout_rows.proofs.above_width.rows_above.Goals as goal
 
-pub returns-then-found-a : goal.returns-then-found-a
-returns-then-found-a c = search (rules, scan_found)
+pub overflow_add-result : goal.overflow_add-result
+overflow_add-result c = search (rules, looked_fits)
 
-pub loop-left-preserved : goal.loop-left-preserved
-loop-left-preserved c = search (rules, scan_step)
+pub returns-in-Some : goal.returns-in-Some
+returns-in-Some c = search (rules, looked_found)
+
+pub loop-k-preserved : goal.loop-k-preserved
+loop-k-preserved c = search (rules, looked_on)
 
 pub returns : goal.returns
-returns c = search (rules, scan_ended)
+returns c = search (rules, looked_at_all)

@@ -1,14 +1,12 @@
--- `run_above` meets its contract: the scan of single bytes.
+-- `run_above` meets its contract: what `position` finds.
 -- Assumes nothing.
-use borrow.Author.Rules.{rules}
-use Rattle.readout_rows.proofs.Scan.{run_found, run_step, run_ended}
+use Rattle.std.proofs.Common.{◌≡◌, ◌/◌, ◌^◌, rules, tests}
+use Rattle.std.proofs.lemmas.Iterator.{IsFirst-from_position, YieldsList-from_slice}
+use Rattle.readout_rows.proofs.RowsAbove.{run_found}
 use Rattle.readout_rows.proofs.above_width.run_above.Goals as goal
 
-pub returns-then-readout-a-ne0 : goal.returns-then-readout-a-ne0
-returns-then-readout-a-ne0 c = search (rules, run_found)
-
-pub loop-left-preserved : goal.loop-left-preserved
-loop-left-preserved c = search (rules, run_step)
-
 pub returns : goal.returns
-returns c = search (rules, run_ended)
+returns c =
+    run_found c.args.width c.args.bytes.now _
+    (IsFirst-from_position _ _ _ (λ x. x / 2 ^ c.args.width ≡ 0 → ⊥) (λ x. x / 2 ^ c.args.width ≡ 0) c.position.ensures.ran
+    (YieldsList-from_slice c.args.bytes.now cc) (λ x q k. search (rules, tests)) (λ x q k. search (rules, tests)))

@@ -5,4 +5,4 @@ use Rattle.readout_rows.proofs.RowSizes.{block_size}
 use Rattle.readout_rows.proofs.sizes.block_bytes.Goals as goal
 
 pub returns : goal.returns
-returns c = omega (arith, block_size c.args.d)
+returns c = omega (arith, block_size c.args.part.device)

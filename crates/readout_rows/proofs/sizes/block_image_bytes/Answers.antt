@@ -5,4 +5,4 @@ use Rattle.readout_rows.proofs.RowSizes.{block_whole}
 use Rattle.readout_rows.proofs.sizes.block_image_bytes.Goals as goal
 
 pub returns : goal.returns
-returns c = omega (arith, block_whole c.args.d)
+returns c = omega (arith, block_whole c.args.part.device)

@@ -1,23 +1,23 @@
 -- `blocks_out` meets its contract: the loop of `pairs_out`, over blocks.
 -- Assumes nothing.
-use mathlib.Core.Path.{◌≡◌}
-use Prim.Native.Nat.{◌*◌}
-use borrow.Author.Rules.{rules}
-use Rattle.cells.specs.Cells.{total}
-use Rattle.part.specs.declared.Device.{Device}
-use Rattle.readout_rows.specs.Widths.{block_widths, whole_bytes}
-use Rattle.readout_rows.proofs.RowSizes.{block_whole}
-use Rattle.readout_writer.proofs.RowsOut.{after_step_out, blocks_begun, blocks_ended}
+use Rattle.std.proofs.Common.{sym, ◌∙◌, arith, rules}
+use Rattle.readout_rows.proofs.RowSizes.{device_size, device_whole}
+use Rattle.readout_writer.proofs.RowsOut.{begun_out, after_block_out, blocks_ended}
 use Rattle.readout_writer.proofs.rows_out.blocks_out.Goals as goal
 
-whole : (d : Device) → total (block_widths d) ≡ whole_bytes (block_widths d) * 8
-whole d = (block_whole d).1
+pub loop-k-init : goal.loop-k-init
+loop-k-init c = record {
+  image_whole = device_whole c.args.part.device c.args.part.is_known ∙ sym c.requires.0;
+  readout_whole = (device_size c.args.part.device c.args.part.is_known).1 ∙ sym c.requires.1;
+  stored = begun_out _ _ _ _ _ _;
+}
 
-pub loop-left-init : goal.loop-left-init
-loop-left-init c = search (rules, blocks_begun)
-
-pub loop-left-preserved : goal.loop-left-preserved
-loop-left-preserved c = search (rules, after_step_out, whole)
+pub loop-k-preserved : goal.loop-k-preserved
+loop-k-preserved c = record {
+  image_whole = c.loop-k.invariant.image_whole;
+  readout_whole = omega (arith, c.block_out.auto);
+  stored = search (rules, after_block_out);
+}
 
 pub returns : goal.returns
 returns c = search (rules, blocks_ended)

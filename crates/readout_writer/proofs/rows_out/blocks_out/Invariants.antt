@@ -1,12 +1,13 @@
 -- `blocks_out` meets its contract: the loop of `pairs_out`, over blocks.
 -- Assumes nothing.
-use Rattle.readout_rows.specs.Widths.{block_widths}
-use Rattle.readout_writer.proofs.RowsOut.{RemainingOut}
+use Rattle.std.proofs.Common.{◌≡◌, ◌*◌, length}
+use Rattle.readout_rows.specs.Widths.{block_widths, whole_bytes}
+use Rattle.readout_writer.proofs.RowsOut.{StoredOut}
 use Rattle.readout_writer.proofs.rows_out.blocks_out.Given as goal
 
-abbrev pub invariant-loop-left : goal.invariant-loop-left
-invariant-loop-left l =
-    RemainingOut (block_widths l.d) l.image l.initial.out l.out 0 0 l.d.blocks l.b l.a l.left
-
-abbrev pub decreases-loop-left : goal.decreases-loop-left
-decreases-loop-left l = l.left
+abbrev pub invariant-loop-k : goal.invariant-loop-k
+invariant-loop-k l = record {
+  image_whole : l.part.device.blocks * whole_bytes (block_widths l.part.device) ≡ length l.image;
+  readout_whole : l.part.device.blocks * length (block_widths l.part.device) ≡ length l.out;
+  stored : StoredOut (block_widths l.part.device) l.image l.initial.out l.out 0 0 l.part.device.blocks l.k;
+}

@@ -1,20 +1,15 @@
--- `pairs_out` meets its contract: a loop whose invariant is `RemainingOut`.
+-- `pairs_out` meets its contract: a loop whose invariant is `StoredOut`.
 -- Assumes nothing.
-use mathlib.Core.Path.{◌≡◌}
-use Prim.Native.Nat.{◌*◌}
 use borrow.Author.Rules.{rules}
-use Rattle.cells.specs.Cells.{total}
-use Rattle.part.specs.declared.Area.{Area}
-use Rattle.readout_rows.specs.Widths.{pair_widths, whole_bytes}
 use Rattle.readout_rows.proofs.RowSizes.{pair_whole}
-use Rattle.readout_writer.proofs.RowsOut.{after_step_out, ended_out}
+use Rattle.readout_writer.proofs.RowsOut.{begun_out, after_step_out, ended_out}
 use Rattle.readout_writer.proofs.rows_out.pairs_out.Goals as goal
 
-whole : (area : Area) → total (pair_widths area) ≡ whole_bytes (pair_widths area) * 8
-whole area = pair_whole area
+pub loop-k-init : goal.loop-k-init
+loop-k-init c = begun_out _ _ _ _ _ _
 
-pub loop-left-preserved : goal.loop-left-preserved
-loop-left-preserved c = search (rules, after_step_out, whole)
+pub loop-k-preserved : goal.loop-k-preserved
+loop-k-preserved c = search (rules, after_step_out, pair_whole)
 
 pub returns : goal.returns
 returns c = search (rules, ended_out)
