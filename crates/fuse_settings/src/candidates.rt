@@ -9,13 +9,13 @@ ghost use Rattle.fuse_settings.specs.Back.{global_bit_near, candidate_in_main, c
 
 use super::SettingBit;
 use part::{BytePlace, Device, Place};
-use setting_places::places::first_row;
+use setting_places::places::field_rows;
 use settings::{BlockField, GlobalField, MacrocellField, Polarity, Setting};
 
 const FIRST_MACROCELL_ROW: u32 = 12;
 
 // The index of the last macrocell field that starts at or before a row, from row 12 on.
-const FIELD_INDEX_AT_ROW: [u32; 43] = [
+static FIELD_INDEX_AT_ROW: [u32; 43] = [
     0, 0, 1, 1, 2, 2, 3, 3, 4, 4, 5, 6, 7, 8, 9, 10, 10, 11, 11, 11, 11, 11, 11, 12, 13, 13, 13,
     13, 14, 15, 16, 17, 18, 18, 19, 19, 20, 21, 22, 23, 24, 25, 26,
 ];
@@ -129,7 +129,7 @@ fn candidate_in_main(block: u32, row: u32, column: u32, bit: u32) -> SettingBit
     if row < 55 {
         let index = field_index_at_row(row);
         let field = MacrocellField::from_index(index);
-        let first = first_row(index);
+        let first = field_rows(index).first;
         return SettingBit {
             setting: Setting::Macrocell {
                 block,

@@ -1,11 +1,13 @@
 -- The answer for a bit of a setting that the device has: none past its width, else the fuse, the address and the bit of its place.
 -- Assumes nothing.
-use mathlib.Core.Path.{◌≡◌, refl, ◌∙◌, ap}
+use mathlib.Core.Path.{◌≡◌, refl, ap}
 use mathlib.Core.Bool.{true}
+use mathlib.Core.Option.{Option}
 use mathlib.Core.Option.Option.{none, some}
 use Prim.Native.Nat.{ℕ, ◌<◌, ◌≤◌}
 use native.Mathlib.Omega.{arith}
 use borrow.Author.Tests.{lt-ltb, le-ltb}
+use Rattle.part.specs.Outcome.{Outcome}
 use Rattle.part.specs.Outcome.Outcome.{accepted}
 use Rattle.part.specs.Device.{known}
 use Rattle.part.specs.Place.{has_place, fuse_of_place}
@@ -13,13 +15,14 @@ use Rattle.part.specs.declared.Device.{Device}
 use Rattle.part.specs.declared.Place.{Place}
 use Rattle.addresses.specs.Address.{address_of_place}
 use Rattle.settings.specs.Settings.{has_setting}
-use Rattle.settings.specs.Order.{start, in_group, setting_of}
+use Rattle.settings.specs.Order.{start, count_of, in_group, setting_of}
 use Rattle.settings.specs.Order.Group.{literals, wire_ands}
 use Rattle.settings.specs.declared.Setting.{Setting}
 use Rattle.settings.proofs.Numbering.{ends, number_inverse}
 use Rattle.settings.proofs.Among.{among_literals}
 use Rattle.setting_places.specs.Places.{LocatedFuse, place_of, bits_of, fuse_of, address_of}
-use Rattle.setting_places.specs.Operations.{located_bit}
+use Rattle.settings.specs.Operations.{setting_of_number}
+use Rattle.setting_places.specs.Operations.{located_bit, located_by_number}
 use Rattle.setting_places.proofs.OnePlaceEach.{place_there}
 
 -- What `located` finds at a place.
@@ -48,9 +51,8 @@ module _ (d : Device) (s : Setting) (k : known d ≡ true) (h : has_setting d s 
     pub there_once : has_place d p ≡ true
     there_once = there d s 0 1 k h e (omega arith) p at
 
-    pub at_one_place : (bit : ℕ) (x : LocatedFuse) → bit ≤ 0 → x ≡ at_place d p → accepted (some x) ≡ located_bit d s bit
-    at_one_place bit x g f =
-        let same : 0 ≡ bit = omega arith in at_place_lem d s 0 1 k h e (omega arith) p at x f ∙ ap (located_bit d s) same
+    pub at_one_place : (x : LocatedFuse) → x ≡ at_place d p → accepted (some x) ≡ located_bit d s 0
+    at_one_place x f = at_place_lem d s 0 1 k h e (omega arith) p at x f
 
 -- A literal by its number: the device has it, and it has one bit.
 module _ (d : Device) (x : ℕ) (l : x < start d wire_ands) where
@@ -60,3 +62,14 @@ module _ (d : Device) (x : ℕ) (l : x < start d wire_ands) where
   pub literal_bits : 1 ≡ bits_of (setting_of d x)
   unfolding bits_of
   literal_bits = ap bits_of (among_literals d x (start d wire_ands) 0 (in_group d literals x) refl l refl)
+
+-- A wire-AND has one bit.
+pub wire_and_bits : (d : Device) (x : ℕ) → 1 ≡ bits_of (in_group d wire_ands x)
+unfolding bits_of
+wire_and_bits d x = refl
+
+-- What is answered for the setting of a number is what is answered for the number.
+pub for_setting : (d : Device) (x bit : ℕ) (o : Outcome (Option LocatedFuse)) → known d ≡ true → (s : Setting) → x < count_of d
+    → s ≡ setting_of d x → o ≡ located_bit d s bit → o ≡ located_by_number d x bit
+unfolding located_by_number setting_of_number
+for_setting d x bit o k s l e f = rw (k, lt-ltb x (count_of d) l, ← e) f

@@ -40,14 +40,6 @@ rows_few i h = le (below_all (λ i. ltb (rows (macrocell_field_at i)) 4) macroce
     le : ltb (rows (macrocell_field_at i)) 4 ≡ true → rows (macrocell_field_at i) ≤ 3
     le e = let l : rows (macrocell_field_at i) < 4 = ltb-true _ 4 e in omega arith
 
--- The first row of a field and how many there are, of a number that has both.
-module _ (i byte : ℕ) (h : i < macrocell_fields) (e : byte ≡ first_row (macrocell_field_at i) * 4 + rows (macrocell_field_at i)) where
-  pub first_in_byte : byte / 4 ≡ first_row (macrocell_field_at i)
-  first_in_byte = omega (arith, rows_few i h)
-
-  pub rows_in_byte : byte % 4 ≡ rows (macrocell_field_at i)
-  rows_in_byte = omega (arith, rows_few i h)
-
 -- What holds of a row of a field.
 pub record OnRow (f : MacrocellField) (bit : ℕ) : Type 0 where
   pub from : 12 ≤ first_row f

@@ -5,9 +5,10 @@
 ghost use Rattle.std.specs.Prelude.{◌≡◌, true};
 ghost use Rattle.part.specs.Answer.{number_outcome};
 ghost use Rattle.part.specs.Device.{device};
+ghost use Rattle.part.specs.Outcome.Outcome.{accepted};
 ghost use Rattle.part.specs.Place.{has_place, fuse_of_place};
 ghost use Rattle.addresses.specs.Address.{address_of_place};
-ghost use Rattle.setting_places.specs.Answer.{bit_outcome, located_fuse};
+ghost use Rattle.setting_places.specs.Answer.{option_of, bit_outcome, located_fuse};
 ghost use Rattle.setting_places.specs.Operations.{bits_of_setting, located_bit, located_by_number};
 
 use addresses::AddressBit;
@@ -15,7 +16,7 @@ use addresses::bytes::address_of_byte;
 use part::places::fuse_of_place;
 use part::{Device, FuseNumber, KnownDevice, Place, Refusal};
 use settings::numbers::{start_of_blocks, start_of_macrocells, start_of_wire_ands};
-use settings::{DeviceSetting, Setting, SettingNumber, setting_of_number};
+use settings::{DeviceSetting, Setting, SettingNumber};
 
 mod numbered;
 pub mod places;
@@ -52,18 +53,25 @@ fn located(d: KnownDevice, place: Place) -> FuseAt
     }
 }
 
-// The fuse of a bit of a setting, lowest bit first, with its address and its bit; `None` where the bit is at or over the
-// setting's width. Refused: 1, 4.
+// The fuse of a bit of a setting that the device has, with its address and its bit; `None` where the bit is at or over the
+// setting's width.
+fn bit_at(there: DeviceSetting, bit: u32) -> Option<FuseAt>
+    ensures { accepted (option_of located_fuse result) ≡ located_bit there.device.device there.setting bit }
+{
+    if places::bits_of(there) <= bit {
+        return None;
+    }
+    let place = places::place_of(there, bit);
+    Some(located(there.device, place))
+}
+
+// The fuse of a bit of a setting, lowest bit first, with its address and its bit. Refused: 1, 4.
 pub fn fuse_of_bit(d: Device, s: Setting, bit: u32) -> Result<Option<FuseAt>, Refusal>
     ensures { bit_outcome result ≡ located_bit d s bit }
 {
     let part = KnownDevice::try_from(d)?;
     let there = DeviceSetting::new(part, s)?;
-    if places::bits_of(there) <= bit {
-        return Ok(None);
-    }
-    let place = places::place_of(there, bit);
-    Ok(Some(located(part, place)))
+    Ok(bit_at(there, bit))
 }
 
 // The same by setting number, through the setting. It takes two numbers for the device: a caller has them in two
@@ -76,9 +84,9 @@ fn through_setting(
 ) -> Result<Option<FuseAt>, Refusal>
     ensures { bit_outcome result ≡ located_by_number (device blocks class) number.0 bit }
 {
-    let d = Device { blocks, class };
-    let s = setting_of_number(d, number)?;
-    fuse_of_bit(d, s, bit)
+    let part = KnownDevice::try_from(Device { blocks, class })?;
+    let there = DeviceSetting::of_number(part, number)?;
+    Ok(bit_at(there, bit))
 }
 
 // The same by setting number. The settings that are many, literals, wire-ANDs and the fields of macrocells, are found
@@ -97,11 +105,17 @@ pub fn fuse_of_numbered_bit(
     let x = number.0;
     let wire_ands = start_of_wire_ands(part);
     if x < wire_ands {
-        return Ok(numbered::literal_bit(part, number, bit));
+        if 0 < bit {
+            return Ok(None);
+        }
+        return Ok(Some(numbered::literal(part, number)));
     }
     let macrocells = start_of_macrocells(part);
     if x < macrocells {
-        return Ok(numbered::wire_and_bit(part, x - wire_ands, bit));
+        if 0 < bit {
+            return Ok(None);
+        }
+        return Ok(Some(numbered::wire_and(part, x - wire_ands)));
     }
     let blocks = start_of_blocks(part);
     if x < blocks {

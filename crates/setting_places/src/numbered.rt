@@ -1,13 +1,14 @@
 // The fuse of a bit of a setting with its address, by the position of the setting in its group.
 // A function here requires that the device has the setting.
 ghost use Rattle.std.specs.Prelude.{◌≡◌, ◌<◌};
+ghost use Rattle.std.proofs.Math.Option.Option.{some};
 ghost use Rattle.part.specs.Outcome.Outcome.{accepted};
 ghost use Rattle.settings.specs.Order.{start, size, in_group, setting_of};
 ghost use Rattle.settings.specs.Order.Group.{wire_ands, macrocell_settings};
 ghost use Rattle.setting_places.specs.Answer.{option_of, located_fuse};
 ghost use Rattle.setting_places.specs.Operations.{located_bit};
 
-use super::places::{macrocell_place, place_of_literal, rows_byte, wire_and_place};
+use super::places::{field_rows, macrocell_place, place_of_literal, wire_and_place};
 use super::{FuseAt, located};
 use part::KnownDevice;
 use part::quotients::divided;
@@ -20,29 +21,23 @@ const FIELD_SHIFT: u32 = 18;
 
 const FIELD_FACTOR: u64 = (1 << FIELD_SHIFT) / MACROCELL_FIELDS as u64 + 1;
 
-// A bit of a literal, by its number.
-pub fn literal_bit(d: KnownDevice, number: SettingNumber, bit: u32) -> Option<FuseAt>
+// The fuse of a literal, which has one bit, by its number.
+pub fn literal(d: KnownDevice, number: SettingNumber) -> FuseAt
     requires { number.0 < start d.device wire_ands }
-    ensures { accepted (option_of located_fuse result) ≡ located_bit d.device (setting_of d.device number.0) bit }
+    ensures { accepted (some (located_fuse result)) ≡ located_bit d.device (setting_of d.device number.0) 0 }
 {
-    if 0 < bit {
-        return None;
-    }
     let place = place_of_literal(d, number);
-    Some(located(d, place))
+    located(d, place)
 }
 
-// A bit of the wire-AND at a position.
-pub fn wire_and_bit(d: KnownDevice, x: u32, bit: u32) -> Option<FuseAt>
+// The fuse of the wire-AND at a position, which has one bit.
+pub fn wire_and(d: KnownDevice, x: u32) -> FuseAt
     requires { x < size d.device wire_ands }
-    ensures { accepted (option_of located_fuse result) ≡ located_bit d.device (in_group d.device wire_ands x) bit }
+    ensures { accepted (some (located_fuse result)) ≡ located_bit d.device (in_group d.device wire_ands x) 0 }
 {
-    if 0 < bit {
-        return None;
-    }
     let at = wire_and_indices(d, x);
     let place = wire_and_place(at);
-    Some(located(d, place))
+    located(d, place)
 }
 
 // A bit of the macrocell field at a position.
@@ -51,11 +46,11 @@ pub fn field_bit(d: KnownDevice, x: u32, bit: u32) -> Option<FuseAt>
     ensures { accepted (option_of located_fuse result) ≡ located_bit d.device (in_group d.device macrocell_settings x) bit }
 {
     let fields = divided(x, MACROCELL_FIELDS, FIELD_FACTOR, FIELD_SHIFT);
-    let rows = rows_byte(fields.rest);
-    if rows % 4 <= bit {
+    let rows = field_rows(fields.rest);
+    if rows.count <= bit {
         return None;
     }
-    let row = rows / 4 + bit;
+    let row = rows.first + bit;
     let macrocells = fields.quotient;
     let place = macrocell_place(macrocells / MACROCELLS, row, macrocells % MACROCELLS);
     Some(located(d, place))

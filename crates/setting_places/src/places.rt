@@ -12,7 +12,7 @@ use part::geometry::MAIN_COLUMNS;
 use part::places::fuse_of_place;
 use part::quotients::{MAIN_COLUMN_FACTOR, divided};
 use part::{BytePlace, Device, FuseNumber, KnownDevice, Place};
-use settings::numbers::{LiteralIndices, TERM_LITERALS, WireAndIndices};
+use settings::numbers::{TERM_LITERALS, WireAndIndices};
 use settings::{BlockField, DeviceSetting, GlobalField, Polarity, Setting, SettingNumber};
 
 // The factors that divide the number of a literal by the literals of a term, and that of a term by the columns, with
@@ -25,87 +25,52 @@ const COLUMN_SHIFT: u32 = 16;
 
 const COLUMN_FACTOR: u64 = (1 << COLUMN_SHIFT) / MAIN_COLUMNS as u64 + 1;
 
-// The rows of the macrocell fields, a byte for each: the first row in its upper six bits, how many in its lower two.
-const ROWS_0: u64 = (12 << 2 | 2)
-    | (14 << 2 | 2) << 8
-    | (16 << 2 | 2) << 16
-    | (18 << 2 | 2) << 24
-    | (20 << 2 | 2) << 32
-    | (22 << 2 | 1) << 40
-    | (23 << 2 | 1) << 48
-    | (24 << 2 | 1) << 56;
-
-const ROWS_1: u64 = (25 << 2 | 1)
-    | (26 << 2 | 1) << 8
-    | (27 << 2 | 2) << 16
-    | (29 << 2 | 3) << 24
-    | (35 << 2 | 1) << 32
-    | (36 << 2 | 2) << 40
-    | (40 << 2 | 1) << 48
-    | (41 << 2 | 1) << 56;
-
-const ROWS_2: u64 = (42 << 2 | 1)
-    | (43 << 2 | 1) << 8
-    | (44 << 2 | 2) << 16
-    | (46 << 2 | 1) << 24
-    | (48 << 2 | 1) << 32
-    | (49 << 2 | 1) << 40
-    | (50 << 2 | 1) << 48
-    | (51 << 2 | 1) << 56;
-
-const ROWS_3: u64 = (52 << 2 | 1) | (53 << 2 | 1) << 8 | (54 << 2 | 1) << 16;
-
-// The row and the column of each block field, in the order listed; its bit is 6.
-const BLOCK_ROW: [u32; 6] = [67, 67, 68, 11, 68, 68];
-
-const BLOCK_COLUMN: [u32; 6] = [0, 1, 6, 3, 3, 0];
-
-// The word with the byte of a field: an array would be built anew at each call. By the remainder the compiler knows
-// that there are four words.
-fn rows_word(index: u32) -> u64
-    requires { index < macrocell_fields }
-    ensures { result / 2 ^ (8 * (index % 8)) % 2 ^ 8
-        ≡ first_row (macrocell_field_at index) * 4 + rows (macrocell_field_at index) }
-{
-    match index / 8 % 4 {
-        0 => ROWS_0,
-        1 => ROWS_1,
-        2 => ROWS_2,
-        _ => ROWS_3,
-    }
+// The rows of a macrocell field: the first, which holds its bit 0, and how many.
+#[derive(Clone, Copy, Debug, PartialEq, Eq)]
+pub struct FieldRows {
+    pub first: u32,
+    pub count: u32,
 }
 
-// The byte of a field.
-pub fn rows_byte(index: u32) -> u32
-    requires { index < macrocell_fields }
-    ensures { result ≡ first_row (macrocell_field_at index) * 4 + rows (macrocell_field_at index) }
-{
-    let word = rows_word(index);
-    ((word >> (8 * (index % 8))) % 256) as u32
-}
+// The first row and the row count of each macrocell field, by its index.
+static FIELD_ROWS: [(u32, u32); 27] = [
+    (12, 2),
+    (14, 2),
+    (16, 2),
+    (18, 2),
+    (20, 2),
+    (22, 1),
+    (23, 1),
+    (24, 1),
+    (25, 1),
+    (26, 1),
+    (27, 2),
+    (29, 3),
+    (35, 1),
+    (36, 2),
+    (40, 1),
+    (41, 1),
+    (42, 1),
+    (43, 1),
+    (44, 2),
+    (46, 1),
+    (48, 1),
+    (49, 1),
+    (50, 1),
+    (51, 1),
+    (52, 1),
+    (53, 1),
+    (54, 1),
+];
 
-// The first row of a macrocell field, which holds its bit 0.
-pub fn first_row(index: u32) -> u32
+// The rows of a macrocell field.
+pub fn field_rows(index: u32) -> FieldRows
     requires { index < macrocell_fields }
-    ensures { result ≡ first_row (macrocell_field_at index) }
+    ensures first { result.first ≡ first_row (macrocell_field_at index) }
+    ensures count { result.count ≡ rows (macrocell_field_at index) }
 {
-    rows_byte(index) / 4
-}
-
-// The row of a bit of a macrocell field.
-fn row_of(index: u32, bit: u32) -> u32
-    requires { (index < macrocell_fields) × (bit < rows (macrocell_field_at index)) }
-    ensures { result ≡ first_row (macrocell_field_at index) + bit }
-{
-    first_row(index) + bit
-}
-
-// How many rows a macrocell field has.
-fn rows_of(index: u32) -> u32
-    requires { index < macrocell_fields }
-    ensures { result ≡ rows (macrocell_field_at index) }
-{
-    rows_byte(index) % 4
+    let (first, count) = FIELD_ROWS[index as usize];
+    FieldRows { first, count }
 }
 
 // The bits of a global field.
@@ -129,7 +94,7 @@ pub fn bits_of(there: DeviceSetting) -> u32
     match there.setting {
         Setting::Literal { .. } => 1,
         Setting::WireAnd { .. } => 1,
-        Setting::Macrocell { field, .. } => rows_of(field.index()),
+        Setting::Macrocell { field, .. } => field_rows(field.index()).count,
         Setting::Block { .. } => 1,
         Setting::Global(field) => global_bits(field),
     }
@@ -184,20 +149,6 @@ fn literal_row(input: u32, polarity: Polarity) -> u32
     2 * input + row_in_pair(polarity)
 }
 
-// The place of a literal.
-fn literal_place(at: LiteralIndices) -> Place
-    requires { (at.term < terms) × (at.input < inputs) }
-    ensures { result ≡ place_of (Literal at.block at.macrocell at.term at.input at.polarity) 0 }
-{
-    let row = literal_row(at.input, at.polarity);
-    main_place(
-        at.block,
-        row,
-        at.term + 5 * (at.macrocell % 3),
-        at.macrocell / 3,
-    )
-}
-
 // The place of a literal, by its number: 72 literals to a term, and the terms of a block run through the 15 columns,
 // bit after bit.
 pub fn place_of_literal(d: KnownDevice, number: SettingNumber) -> Place
@@ -214,8 +165,15 @@ pub fn place_of_literal(d: KnownDevice, number: SettingNumber) -> Place
 fn block_place(block: u32, field: BlockField) -> Place
     ensures { result ≡ block_place block field }
 {
-    let index = field.index() as usize;
-    main_place(block, BLOCK_ROW[index], BLOCK_COLUMN[index], 6)
+    let (row, column) = match field {
+        BlockField::Enable => (67, 0),
+        BlockField::ExportEnable => (67, 1),
+        BlockField::PullupDisable => (68, 6),
+        BlockField::ReadProtA => (11, 3),
+        BlockField::ReadProtB => (68, 3),
+        BlockField::WriteProt => (68, 0),
+    };
+    main_place(block, row, column, 6)
 }
 
 fn global_place(d: Device, field: GlobalField, bit: u32) -> Place
@@ -244,13 +202,10 @@ pub fn place_of(there: DeviceSetting, bit: u32) -> Place
             term,
             input,
             polarity,
-        } => literal_place(LiteralIndices {
-            block,
-            macrocell,
-            term,
-            input,
-            polarity,
-        }),
+        } => {
+            let row = literal_row(input, polarity);
+            main_place(block, row, term + 5 * (macrocell % 3), macrocell / 3)
+        }
         Setting::WireAnd {
             block,
             input,
@@ -267,7 +222,7 @@ pub fn place_of(there: DeviceSetting, bit: u32) -> Place
             macrocell,
             field,
         } => {
-            let row = row_of(field.index(), bit);
+            let row = field_rows(field.index()).first + bit;
             macrocell_place(block, row, macrocell)
         }
         Setting::Block { block, field } => block_place(block, field),

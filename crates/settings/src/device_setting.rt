@@ -1,11 +1,13 @@
 // A setting that its device has.
 // What needs one takes this type, so that refusal 4 is decided once, where the value is made.
-ghost use Rattle.std.specs.Prelude.{◌≡◌, true, false, MatchResult};
+ghost use Rattle.std.specs.Prelude.{◌≡◌, true, false, ◌<◌, ◌≤◌, MatchResult};
 ghost use Rattle.settings.specs.Settings.{has_setting};
+ghost use Rattle.settings.specs.Order.{count_of, setting_of};
 ghost use Rattle.part.specs.declared.Refusal.TheVariants.{NoSuchSetting};
 
-use super::Setting;
 use super::fields::has_setting;
+use super::numbers::{count_of, setting_of};
+use super::{Setting, SettingNumber};
 use part::{KnownDevice, Refusal};
 
 // A setting, and a device that has it.
@@ -17,7 +19,9 @@ pub struct DeviceSetting {
 }
 
 impl DeviceSetting {
-    // The setting of the device, if the device has it. Refused: 4.
+    // The setting, if the device has it. Refused: 4.
+    // Without the hint the compiler leaves this a function of its own, which returns in memory.
+    #[inline]
     pub fn new(device: KnownDevice, setting: Setting) -> Result<DeviceSetting, Refusal>
         ensures { MatchResult result
             (λ x. (x.device ≡ device) × (x.setting ≡ setting))
@@ -25,6 +29,20 @@ impl DeviceSetting {
     {
         if has_setting(device.device, setting) {
             Ok(DeviceSetting { device, setting })
+        } else {
+            Err(Refusal::NoSuchSetting)
+        }
+    }
+
+    // The setting of a number, if the device has so many. Refused: 4.
+    pub fn of_number(device: KnownDevice, number: SettingNumber) -> Result<DeviceSetting, Refusal>
+        ensures { MatchResult result
+            (λ x. (x.device ≡ device) × (x.setting ≡ setting_of device.device number.0)
+            × (number.0 < count_of device.device))
+            (λ e. (e ≡ NoSuchSetting) × (count_of device.device ≤ number.0)) }
+    {
+        if number.0 < count_of(device) {
+            Ok(setting_of(device, number))
         } else {
             Err(Refusal::NoSuchSetting)
         }

@@ -114,10 +114,8 @@ pub fn setting_of_number(d: Device, number: SettingNumber) -> Result<Setting, Re
     ensures { setting_outcome result ≡ setting_of_number d number.0 }
 {
     let part = KnownDevice::try_from(d)?;
-    if numbers::count_of(part) <= number.0 {
-        return Err(Refusal::NoSuchSetting);
-    }
-    Ok(numbers::setting_of(part, number).setting)
+    let there = DeviceSetting::of_number(part, number)?;
+    Ok(there.setting)
 }
 
 // The number of a setting. Refused: 1, 4.

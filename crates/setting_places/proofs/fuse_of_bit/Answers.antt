@@ -10,7 +10,6 @@ use Rattle.part.proofs.Refused.{refused_with}
 use Rattle.settings.specs.Settings.{has_setting}
 use Rattle.settings.specs.declared.Setting.{Setting}
 use Rattle.setting_places.specs.Operations.{located_bit}
-use Rattle.setting_places.proofs.AtPlace.{no_bit_lem, there, at_place_lem}
 use borrow.Author.Rules.{rules}
 use Rattle.setting_places.proofs.fuse_of_bit.Goals as goal
 
@@ -28,13 +27,5 @@ returns-in_err-part c = search (rules, refused_with, no_device)
 pub returns-in_err-there : goal.returns-in_err-there
 returns-in_err-there c = rw (← c.in_ok-part.ensures) (search (rules, refused_with, no_setting_lem))
 
-pub returns-then-bits_of-bit : goal.returns-then-bits_of-bit
-returns-then-bits_of-bit c =
-    rw (← c.in_ok-part.ensures, ← c.in_ok-there.ensures.0, ← c.in_ok-there.ensures.1) (search (rules, no_bit_lem))
-
-pub located-requires : goal.located-requires
-located-requires c = rw (← c.in_ok-there.ensures.0) (search (rules, there))
-
 pub returns : goal.returns
-returns c =
-    rw (← c.in_ok-part.ensures, ← c.in_ok-there.ensures.0, ← c.in_ok-there.ensures.1) (search (rules, at_place_lem))
+returns c = rw (← c.in_ok-part.ensures, ← c.in_ok-there.ensures.0, ← c.in_ok-there.ensures.1) (search rules)

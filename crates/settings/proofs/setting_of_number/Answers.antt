@@ -3,7 +3,6 @@
 use mathlib.Core.Path.{◌≡◌}
 use mathlib.Core.Bool.{true, false}
 use Prim.Native.Nat.{ℕ, ◌<◌, ◌≤◌}
-use native.Mathlib.Omega.{arith}
 use borrow.Author.Tests.{lt-ltb, le-ltb}
 use Rattle.part.specs.Outcome.Outcome.{accepted, refused}
 use Rattle.part.specs.Device.{known}
@@ -19,23 +18,20 @@ no_device : (d : Device) (x : ℕ) → known d ≡ false → refused 1 0 ≡ set
 unfolding setting_of_number
 no_device d x k = rw k
 
-module _ (d : Device) (x count : ℕ) (k : known d ≡ true) (e : count ≡ count_of d) where
-  no_setting_lem : count ≤ x → refused 4 0 ≡ setting_of_number d x
+module _ (d : Device) (x : ℕ) (k : known d ≡ true) where
+  no_setting_lem : count_of d ≤ x → refused 4 0 ≡ setting_of_number d x
   unfolding setting_of_number
-  no_setting_lem h = rw (k, le-ltb x (count_of d) (omega arith))
+  no_setting_lem h = rw (k, le-ltb x (count_of d) h)
 
-  below : x < count → x < count_of d
-  below h = omega arith
-
-  the_setting : (s : Setting) → x < count → s ≡ setting_of d x → accepted s ≡ setting_of_number d x
+  the_setting : (s : Setting) → x < count_of d → s ≡ setting_of d x → accepted s ≡ setting_of_number d x
   unfolding setting_of_number
-  the_setting s h g = rw (k, lt-ltb x (count_of d) (omega arith), g)
+  the_setting s h g = rw (k, lt-ltb x (count_of d) h, g)
 
 pub returns-in_err-part : goal.returns-in_err-part
 returns-in_err-part c = search (rules, refused_with, no_device)
 
-pub returns-then-count_of-number : goal.returns-then-count_of-number
-returns-then-count_of-number c = rw (← c.in_ok-part.ensures) (search (rules, no_setting_lem))
+pub returns-in_err-there : goal.returns-in_err-there
+returns-in_err-there c = rw (← c.in_ok-part.ensures) (search (rules, refused_with, no_setting_lem))
 
 pub returns : goal.returns
 returns c = rw (← c.in_ok-part.ensures) (search (rules, the_setting))

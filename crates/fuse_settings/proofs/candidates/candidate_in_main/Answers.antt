@@ -27,12 +27,12 @@ from_index-field-requires c = omega (
   at_row c.args.row c.if-row-lt12.false c.if-row-lt55.true,
 )
 
-pub first_row-first-requires : goal.first_row-first-requires
-first_row-first-requires c =
+pub field_rows-first-requires : goal.field_rows-first-requires
+field_rows-first-requires c =
     starts c.args.row _ c.field_index_at_row-index.ensures c.if-row-lt12.false
     c.if-row-lt55.true
 
 pub overflow_sub-result-then-row-lt55 : goal.overflow_sub-result-then-row-lt55
 overflow_sub-result-then-row-lt55 c =
     not_before c.args.row _ c.field_index_at_row-index.ensures _
-    c.first_row-first.ensures c.if-row-lt12.false c.if-row-lt55.true
+    c.field_rows-first.ensures.first c.if-row-lt12.false c.if-row-lt55.true

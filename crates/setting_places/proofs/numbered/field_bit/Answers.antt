@@ -12,7 +12,6 @@ use Rattle.settings.specs.Order.{size, macrocell_field_at, in_group}
 use Rattle.settings.specs.Order.Group.{macrocell_settings}
 use Rattle.settings.proofs.Among.{has_in_group}
 use Rattle.setting_places.specs.Places.{main, first_row, rows, place_of, bits_of}
-use Rattle.setting_places.proofs.OnePlaceEach.{first_in_byte, rows_in_byte}
 use Rattle.setting_places.proofs.AtPlace.{no_bit_lem, there, at_place_lem}
 use borrow.Author.Rules.{rules}
 use Rattle.setting_places.proofs.numbered.field_bit.Goals as goal
@@ -25,21 +24,21 @@ module _ (d : Device) (x : ℕ) (k : known d ≡ true) (l : x < size d macrocell
   field_quotient : x * 9710 / 2 ^ 18 ≡ x / 27
   field_quotient = omega (arith, few)
 
-module _ (d : Device) (x i byte : ℕ) (ei : i ≡ x % 27) (e : byte ≡ first_row (macrocell_field_at i) * 4 + rows (macrocell_field_at i)) where
+module _ (d : Device) (x i : ℕ) (ei : i ≡ x % 27) where
   index : x % 486 % 27 / 1 ≡ i
   index = omega arith
 
-  width : byte % 4 ≡ bits_of (in_group d macrocell_settings x)
+  width : (count : ℕ) → count ≡ rows (macrocell_field_at i) → count ≡ bits_of (in_group d macrocell_settings x)
   unfolding bits_of
-  width = rw index (rows_in_byte i byte (omega arith) e)
+  width count e = rw index e
 
-  its_place : (m bit : ℕ) (p : Place) → m ≡ x / 27 → p ≡ main (m / 18) (byte / 4 + bit) (m % 18 % 9) (6 + m % 18 / 9)
-      → p ≡ place_of (in_group d macrocell_settings x) bit
+  its_place : (first m bit : ℕ) (p : Place) → first ≡ first_row (macrocell_field_at i) → m ≡ x / 27
+      → p ≡ main (m / 18) (first + bit) (m % 18 % 9) (6 + m % 18 / 9) → p ≡ place_of (in_group d macrocell_settings x) bit
   unfolding place_of
-  its_place m bit p em g =
+  its_place first m bit p e em g =
       let block : x / 486 ≡ m / 18 = omega arith in
       let macrocell : x % 486 / 27 ≡ m % 18 = omega arith in
-      rw (index, block, macrocell, ← first_in_byte i byte (omega arith) e) g
+      rw (index, block, macrocell, ← e) g
 
 pub divided-fields-requires : goal.divided-fields-requires
 divided-fields-requires c = search (rules, field_quotient)

@@ -26,8 +26,8 @@ module _ (d : Device) (s : Setting) (block m : ℕ) (f : MacrocellField) (i : �
   unfolding bits_of
   bits_are_rows r g = rw e (g ∙ ap rows (ap macrocell_field_at q ∙ macrocell_at f (has_macrocell d s h block m f e).2))
 
-pub rows_of-requires : goal.rows_of-requires
-rows_of-requires c = search (rules, there)
+pub field_rows-requires : goal.field_rows-requires
+field_rows-requires c = search (rules, there)
 
 pub returns-in-Literal : goal.returns-in-Literal
 unfolding bits_of
