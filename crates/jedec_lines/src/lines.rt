@@ -71,16 +71,19 @@ fn put_columns(word: u64, widths: [usize; 5], out: &mut [u8], at: usize) -> usiz
     next
 }
 
-// A line of five columns. Where it is called its widths are known: so it is compiled there, and tests none of them.
+// A line of five columns; how many fuses it has. Where it is called its widths are known: so it is compiled there, and
+// tests none of them.
 #[inline(always)]
-pub fn put_line(image: &[u8], fuse: usize, widths: [usize; 5], out: &mut [u8], at: usize)
+pub fn put_line(image: &[u8], fuse: usize, widths: [usize; 5], out: &mut [u8], at: usize) -> usize
     requires { (8 ≤ length image.now) × (length image.now ≤ 125000)
         × (fuse + total widths ≤ length image.now * 8) × (at + 15 + total widths ≤ length out.old)
         × (AllWide widths) }
-    ensures { out.new ≡ sets out.old at (line_text image.now fuse widths) }
+    ensures stored { out.new ≡ sets out.old at (line_text image.now fuse widths) }
+    ensures fuses { result ≡ total widths }
 {
     let word = bits_from(image, fuse);
     put_eight(line_start(fuse as u32), out, at);
     let behind = put_columns(word, widths, out, at + 8);
     put_cells(LINE_END, 8, 2, out, behind);
+    behind - (at + 13)
 }

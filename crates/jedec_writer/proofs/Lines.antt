@@ -1,18 +1,19 @@
 -- Lines one after another: the fuses and bytes of lines, lines stored part by part, and the loops over rows and blocks.
 -- Assumes nothing.
 use mathlib.Core.Path.{◌≡◌, refl, sym, ◌∙◌, ap, ap₂}
-use mathlib.Core.List.{List, [], ◌∷◌, ◌++◌, append_assoc}
-use Prim.Native.Nat.{ℕ, zero, suc, ◌+◌, ◌*◌, ◌-◌, ◌≤◌, ◌<◌}
+use mathlib.Core.List.{List, [], ◌∷◌, ◌++◌, append_assoc, append-nil}
+use Prim.Native.Nat.{ℕ, zero, suc, ◌+◌, ◌*◌, ◌-◌, ◌<◌}
 use native.Mathlib.Omega.{arith}
-use native.Mathlib.Nat.{add-zero, zero-add, add_assoc, add_comm, zero-mul, suc-mul}
+use native.Mathlib.Nat.{suc-add, add-zero, zero-add, add_assoc, add_comm, zero-mul, suc-mul}
 use lib.ListN.{length, length-append}
 use lib.Seq.{sets, length-sets}
 use Rattle.cells.specs.Cells.{total, repeat}
 use Rattle.cells.proofs.Laws.{sets_append}
 use Rattle.part.specs.Device.{line_bytes}
-use Rattle.part.proofs.Facts.{space}
 use Rattle.jedec.specs.WrittenText.{line_text, lines_text, pattern_fuses}
 use Rattle.jedec_writer.specs.Pattern.{lines_bytes}
+use Rattle.jedec_writer.specs.Spots.{Room, Lined}
+use Rattle.jedec_writer.specs.declared.text.Spot.{Spot}
 use Rattle.jedec_lines.proofs.LineText.{line_length}
 
 -- Lines after lines: their text, bytes and fuses are those of both.
@@ -72,41 +73,90 @@ lines_sets image out lines more fuse at n t e f =
       f,
     ))
 
--- A loop that stores lines `count` times, from a fuse on: what holds when `left` times are still to come. The lines that are left, stored
--- now, give what all give; and there are fuses and space for them.
-pub record LinesLeft (lines : List (List ℕ)) (image before out : List ℕ) (fuse at count f a left : ℕ) : Type 0 where
-  pub fuses_left : f + left * pattern_fuses lines ≤ length image * 8
-  pub bytes_left : a + left * lines_bytes lines ≤ length out
-  pub same : length out ≡ length before
-  pub rest : sets out a (lines_text image f (repeat left lines)) ≡ sets before at (lines_text image fuse (repeat count lines))
+-- What is known of lines put from a spot on: what was promised for lines and for those behind them holds of all.
+pub lined_append : {lines more : List (List ℕ)} {image before middle after : List ℕ} {from here next : Spot}
+    → Lined lines image before middle from here → Lined more image middle after here next
+    → Lined (lines ++ more) image before after from next
+lined_append {lines} {more} {image} {before} {middle} {after} {from} {here} {next} p q =
+    record {
+      stored =
+          q.stored ∙ rw (p.stored, p.byte_on, p.fuse_on)
+          (lines_sets image before lines more from.fuse from.at (lines_bytes lines) (pattern_fuses lines) refl refl);
+      fuse_on = q.fuse_on ∙ rw (p.fuse_on, fuses_append lines more) (omega arith);
+      byte_on = q.byte_on ∙ rw (p.byte_on, bytes_append lines more) (omega arith);
+    }
 
-pub loop_start : (lines : List (List ℕ)) (image out : List ℕ) (fuse at count : ℕ) → fuse + count * pattern_fuses lines ≤ length image * 8
-    → at + count * lines_bytes lines ≤ length out → LinesLeft lines image out out fuse at count fuse at count
-loop_start lines image out fuse at count f g = record { fuses_left = f; bytes_left = g; same = refl; rest = refl }
+pub room_first : {lines : List (List ℕ)} (more : List (List ℕ)) {image out : List ℕ} {from : Spot} → Room (lines ++ more) image from out
+    → Room lines image from out
+room_first {lines} more r =
+    let fuses = fuses_append lines more in
+    let bytes = bytes_append lines more in
+    record { word = r.word; few = r.few; fuses = omega (arith, r.fuses, fuses); bytes = omega (arith, r.bytes, bytes) }
 
-module _ {lines : List (List ℕ)} {image before out : List ℕ} {fuse at count f a left : ℕ}
-    (now : LinesLeft lines image before out fuse at count f a left) where
-  pub fuses_fit : 0 < left → f + pattern_fuses lines ≤ length image * 8
-  fuses_fit h = (space left (pattern_fuses lines) f (length image * 8) h now.fuses_left).0
+pub room_behind : {lines more : List (List ℕ)} {image before middle : List ℕ} {from here : Spot} → Room (lines ++ more) image from before
+    → Lined lines image before middle from here → Room more image here middle
+room_behind {lines} {more} {image} {before} {middle} {from} {here} r p =
+    let fuses = fuses_append lines more in
+    let bytes = bytes_append lines more in
+    let kept : length middle ≡ length before = ap length p.stored ∙ length-sets before from.at (lines_text image from.fuse lines) in
+    record {
+      word = r.word;
+      few = r.few;
+      fuses = omega (arith, r.fuses, fuses, p.fuse_on);
+      bytes = omega (arith, r.bytes, bytes, p.byte_on, kept);
+    }
 
-  pub bytes_fit : 0 < left → a + lines_bytes lines ≤ length out
-  bytes_fit h = (space left (lines_bytes lines) a (length out) h now.bytes_left).0
+-- A line and the lines behind it.
+pub line_room : (line : List ℕ) (more : List (List ℕ)) (image out : List ℕ) (from : Spot) → Room (line ∷ more) image from out
+    → Room (line ∷ []) image from out
+line_room line more image out from r = room_first {lines = line ∷ []} more r
 
-  pub loop_step : (next : List ℕ) (fuses bytes : ℕ) → 0 < left → fuses ≡ pattern_fuses lines → bytes ≡ lines_bytes lines
-      → next ≡ sets out a (lines_text image f lines) → LinesLeft lines image before next fuse at count (f + fuses) (a + bytes) (left - 1)
-  unfolding repeat
-  loop_step next fuses bytes h e1 e2 e3 =
-      let more : left ≡ suc (left - 1) = omega arith in
-      let kept : length next ≡ length out = ap length e3 ∙ length-sets out a (lines_text image f lines) in
-      let all : sets out a (lines_text image f (lines ++ repeat (left - 1) lines))
-      ≡ sets before at (lines_text image fuse (repeat count lines)) = rw more at now.rest in
-      record {
-        fuses_left = rw e1 (space left (pattern_fuses lines) f (length image * 8) h now.fuses_left).1;
-        bytes_left = rw (e2, kept) (space left (lines_bytes lines) a (length out) h now.bytes_left).1;
-        same = kept ∙ now.same;
-        rest = rw e3 (lines_sets image out lines (repeat (left - 1) lines) f a bytes fuses (sym e2) (sym e1) ∙ all);
-      }
+pub rest_room : (line : List ℕ) (more : List (List ℕ)) (image before middle : List ℕ) (from here : Spot)
+    → Room (line ∷ more) image from before → Lined (line ∷ []) image before middle from here → Room more image here middle
+rest_room line more image before middle from here r p = room_behind {lines = line ∷ []} {more = more} r p
 
-  pub loop_end : left ≤ 0 → out ≡ sets before at (lines_text image fuse (repeat count lines))
-  unfolding repeat lines_text
-  loop_end h = let none : left ≡ 0 = omega arith in rw none at now.rest
+pub line_lined : (line : List ℕ) (more : List (List ℕ)) (image before middle after : List ℕ) (from here next : Spot)
+    → Lined (line ∷ []) image before middle from here → Lined more image middle after here next
+    → Lined (line ∷ more) image before after from next
+line_lined line more image before middle after from here next p q = lined_append {lines = line ∷ []} {more = more} p q
+
+pub one_lined : (line : List ℕ) (image before after : List ℕ) (from next : Spot)
+    → after ≡ sets before from.at (line_text image from.fuse line) → next.fuse ≡ from.fuse + total line → next.at ≡ from.at + line_bytes (length line) (total line)
+    → Lined (line ∷ []) image before after from next
+unfolding lines_text pattern_fuses lines_bytes
+one_lined line image before after from next e f g =
+    record {
+      stored = e ∙ ap (sets before from.at) (sym (append-nil (line_text image from.fuse line)));
+      fuse_on = f ∙ omega arith;
+      byte_on = g ∙ omega arith;
+    }
+
+-- A loop that puts lines `count` times: those so far, and once more.
+repeat_add : (i k : ℕ) (lines : List (List ℕ)) → repeat (i + k) lines ≡ repeat i lines ++ repeat k lines
+unfolding repeat
+repeat_add zero k lines = rw (zero-add k)
+repeat_add (suc i) k lines =
+    rw (suc-add i k)
+    (ap (λ (l : List (List ℕ)). lines ++ l) (repeat_add i k lines) ∙ sym (append_assoc lines (repeat i lines) (repeat k lines)))
+
+repeat_once : (lines : List (List ℕ)) → repeat 1 lines ≡ lines
+unfolding repeat
+repeat_once lines = append-nil lines
+
+pub none_lined : (lines : List (List ℕ)) (image out : List ℕ) (from : Spot) → Lined (repeat 0 lines) image out out from from
+unfolding repeat lines_text pattern_fuses lines_bytes
+none_lined lines image out from = record { stored = refl; fuse_on = omega arith; byte_on = omega arith }
+
+pub next_lined : (lines : List (List ℕ)) (image before middle after : List ℕ) (from here next : Spot) (i : ℕ)
+    → Lined (repeat i lines) image before middle from here → Lined lines image middle after here next
+    → Lined (repeat (i + 1) lines) image before after from next
+next_lined lines image before middle after from here next i p q = rw (repeat_add i 1 lines, repeat_once lines) (lined_append p q)
+
+-- There is room for the next, since there is for all that are still to come.
+pub next_room : (lines : List (List ℕ)) (image before middle : List ℕ) (from here : Spot) (i count : ℕ)
+    → Room (repeat count lines) image from before → Lined (repeat i lines) image before middle from here → i < count
+    → Room lines image here middle
+unfolding repeat
+next_room lines image before middle from here i count r p h =
+    let left : count ≡ i + suc (count - (i + 1)) = omega arith in
+    room_first _ (room_behind (rw (left, repeat_add i (suc (count - (i + 1))) lines) at r) p)

@@ -21,7 +21,7 @@ use Rattle.part.proofs.Checks as checks
 use Rattle.part.proofs.Targets.{says}
 use Rattle.jedec.specs.Characters.{stx, etx, letter_c, letter_f, letter_l, letter_q, decimal_digit, hex_digit, seven_digits, count_digits, four_hex}
 use Rattle.jedec.specs.WrittenText.{line_end, lines_text, head_text, foot_text, up_to_etx, text_with}
-use Rattle.jedec_writer.specs.Pattern.{pattern, text_of, to_text, with_text}
+use Rattle.jedec_writer.specs.Pattern.{lines_bytes, pattern, text_of, to_text, with_text}
 use Rattle.jedec_lines.proofs.Stored.{three_parts, stored_first}
 use Rattle.jedec_lines.proofs.HexDigits.{hex_cut}
 use Rattle.jedec.proofs.Numbers.{digits_length}
@@ -51,17 +51,17 @@ count_length x = digits_length 10 decimal_digit (decimal_digits x) x
 hex_length : (x : ℕ) → length (four_hex x) ≡ 4
 hex_length x = digits_length 16 hex_digit 4 x
 
-pub head_of : (d : Device) (out one two three : List ℕ) (digits count seven : ℕ) → known d ≡ true
-    → digits ≡ decimal_digits (fuse_count d) → count ≡ fuse_count d
+pub head_of : (d : Device) (out one two three : List ℕ) (digits count seven : ℕ) → known d ≡ true → count ≡ fuse_count d
+    → digits ≡ decimal_digits count
     → one ≡ sets out 0 (cut (replicate 5 8) 0x46510A2A02) → seven ≡ number (letter_l ∷ seven_digits count)
     → two ≡ sets one 5 (cut (replicate digits 8) (seven / 2 ^ (64 - digits * 8)))
     → three ≡ sets two (5 + digits) (cut (replicate 6 8) 0x0A2A30460A2A) → three ≡ sets out 0 (head_text (fuse_count d))
-head_of d out one two three digits count seven k ed ec e1 es e2 e3 =
+head_of d out one two three digits count seven k ec ed e1 es e2 e3 =
     let x = fuse_count d in
-    let middle : cut (replicate digits 8) (seven / 2 ^ (64 - digits * 8)) ≡ count_digits x = rw (es, ec, ed) (count_cut d k) in
+    let middle : cut (replicate digits 8) (seven / 2 ^ (64 - digits * 8)) ≡ count_digits x = rw (es, ed, ec) (count_cut d k) in
     three_parts out one two three (stx ∷ line_end ++ letter_q ∷ letter_f ∷ []) (count_digits x)
     (line_end ++ letter_f ∷ decimal_digit 0 ∷ line_end)
-    0 5 (5 + digits) (rw before_count at e1) (rw middle at e2) (rw after_count at e3) refl (rw (count_length x) (omega arith))
+    0 5 (5 + digits) (rw before_count at e1) (rw middle at e2) (rw after_count at e3) refl (rw (count_length x, ed, ec) (omega arith))
     ∙ ap (sets out 0)
     (sym (append_assoc (stx ∷ line_end ++ letter_q ∷ letter_f ∷ count_digits x) line_end (letter_f ∷ decimal_digit 0 ∷ line_end)))
 
@@ -80,6 +80,10 @@ head_length x =
     let a = stx ∷ line_end ++ letter_q ∷ letter_f ∷ count_digits x in
     let inner : length (a ++ line_end) ≡ length (count_digits x) + 5 + 2 = length-append a line_end ∙ omega arith in
     length-append (a ++ line_end) (letter_f ∷ decimal_digit 0 ∷ line_end) ∙ rw (inner, count_length x) (omega arith)
+
+pub head_end : (d : Device) (count digits : ℕ) → count ≡ fuse_count d → digits ≡ decimal_digits count
+    → 11 + digits ≡ length (head_text (fuse_count d))
+head_end d count digits e f = rw (f, e) (sym (head_length (fuse_count d)))
 
 foot_length : (sum : ℕ) → length (foot_text sum) ≡ 8
 foot_length sum =
@@ -101,25 +105,29 @@ text_length d image =
     length-append up (four_hex (sum16 up)) ∙ rw (up_to_length d image, hex_length (sum16 up)) (omega (arith, text_size d))
 
 -- What the functions store one after another is the whole text.
-pub text_of_lem : (d : Device) (image out one two three four : List ℕ) (digits end fuses last hex : ℕ) → text_bytes d ≤ length out
-    → digits ≡ decimal_digits (fuse_count d)
-    → end ≡ text_bytes d - 4 → fuses ≡ sum16 image → one ≡ sets out 0 (head_text (fuse_count d))
-    → two ≡ sets one (11 + digits) (lines_text image 0 (pattern d))
-    → three ≡ sets two (end - 8) (foot_text fuses) → last ≡ sum16 (take end three) → hex ≡ number (four_hex last)
-    → four ≡ sets three end (cut (replicate 4 8) hex) → four ≡ sets out 0 (text_of d image)
+pub text_parts : (d : Device) → text_bytes d ≡ length (head_text (fuse_count d)) + lines_bytes (pattern d) + 12
+text_parts d = text_size d ∙ rw (head_length (fuse_count d))
+
+pub text_of_lem : (d : Device) (image out one two three four : List ℕ) (lines foot end fuses last hex : ℕ) → text_bytes d ≤ length out
+    → one ≡ sets out 0 (head_text (fuse_count d)) → lines ≡ length (head_text (fuse_count d))
+    → two ≡ sets one lines (lines_text image 0 (pattern d)) → foot ≡ lines + lines_bytes (pattern d)
+    → fuses ≡ sum16 image → three ≡ sets two foot (foot_text fuses) → end ≡ foot + 8
+    → last ≡ sum16 (take end three) → hex ≡ number (four_hex last) → four ≡ sets three end (cut (replicate 4 8) hex)
+    → four ≡ sets out 0 (text_of d image)
 unfolding up_to_etx text_of text_with
-text_of_lem d image out one two three four digits end fuses last hex buffer ed ee ef e1 e2 e3 el eh e4 =
+text_of_lem d image out one two three four lines foot end fuses last hex buffer e1 p e2 q ef e3 r el eh e4 =
     let head = head_text (fuse_count d) in
-    let lines = lines_text image 0 (pattern d) in
+    let text = lines_text image 0 (pattern d) in
     let up = up_to_etx (fuse_count d) (pattern d) image in
     let whole : three ≡ sets out 0 up =
-    three_parts out one two three head lines (foot_text (sum16 image)) 0 (11 + digits) (end - 8) e1 e2 (rw ef at e3)
-    (rw (head_length (fuse_count d), ed) (sym (zero-add _))) (rw (lines_length image (pattern d) 0) (omega (arith, text_size d))) in
-    let long : length up ≡ end = up_to_length d image ∙ sym ee in
-    let first : take end three ≡ up = rw (whole, stored_first out up end long (omega arith)) (take_at up (drop end out) end long) in
-    let digits_of_lem : cut (replicate 4 8) hex ≡ four_hex (sum16 up) = rw (eh, hex_cut last, el, first) in
+    three_parts out one two three head text (foot_text (sum16 image)) 0 lines foot e1 e2 (rw ef at e3)
+    (p ∙ sym (zero-add _)) (rw (lines_length image (pattern d) 0) q) in
+    let long : length up ≡ end = up_to_length d image ∙ omega (arith, text_parts d) in
+    let first : take end three ≡ up =
+    rw (whole, stored_first out up end long (omega (arith, text_parts d))) (take_at up (drop end out) end long) in
+    let digits : cut (replicate 4 8) hex ≡ four_hex (sum16 up) = rw (eh, hex_cut last, el, first) in
     let place : end ≡ 0 + length up = sym long ∙ sym (zero-add (length up)) in
-    e4 ∙ rw (digits_of_lem, whole, place) (sym (sets_append out 0 up (four_hex (sum16 up))))
+    e4 ∙ rw (digits, whole, place) (sym (sets_append out 0 up (four_hex (sum16 up))))
 
 -- The code's tests, 1 before 2 before 12, are those of the definition.
 module _ (d : Device) (image buffer : List ℕ) where

@@ -7,25 +7,23 @@ ghost use Rattle.part.specs.Answer.{number_outcome};
 ghost use Rattle.part.specs.Outcome.{Written};
 ghost use Rattle.jedec_writer.specs.Pattern.{to_text, with_text};
 
-use part::{Device, NumberAnswer, Refusal};
+use part::{Device, KnownDevice, Refusal};
 
 mod text;
 
 // The text of an image, put at the start of `text`: how many bytes it has. Refused: 1, 2, 12.
-pub fn image_to_text(d: Device, image: &[u8], text: &mut [u8]) -> NumberAnswer
+pub fn image_to_text(d: Device, image: &[u8], text: &mut [u8]) -> Result<u32, Refusal>
     ensures { Written (to_text d image.now (length text.old)) (number_outcome result)
         (with_text d image.now text.old) text.old text.new }
 {
-    if !part::is_known(d) {
-        return NumberAnswer::Refused(Refusal::UnknownDevice);
+    let part = KnownDevice::try_from(d)?;
+    if image.len() != part.image_bytes() as usize {
+        return Err(Refusal::WrongLength);
     }
-    if image.len() != part::geometry::image_bytes(d) as usize {
-        return NumberAnswer::Refused(Refusal::WrongLength);
-    }
-    let needed = part::geometry::text_bytes(d);
+    let needed = part.text_bytes();
     if text.len() < needed as usize {
-        return NumberAnswer::Refused(Refusal::BufferTooShort(needed));
+        return Err(Refusal::BufferTooShort(needed));
     }
-    text::text_out(d, image, text);
-    NumberAnswer::Number(needed)
+    text::text_out(part, image, text);
+    Ok(needed)
 }

@@ -1,17 +1,19 @@
 // The text of an image: its rows, its blocks, and the frame around the lines.
-// A function here may require that the device is known and the slices have their lengths.
-ghost use Rattle.std.specs.Prelude.{◌≡◌, true, ◌+◌, ◌*◌, ◌≤◌, length};
+// A function here may require that an image has the length of the device, and that what it puts fits the slice.
+ghost use Rattle.std.specs.Prelude.{◌≡◌, [], ◌∷◌, ◌+◌, ◌≤◌, length};
 ghost use Rattle.std.proofs.lemmas.List.Edits.{sets};
 ghost use Rattle.cells.specs.Cells.{repeat};
-ghost use Rattle.part.specs.Device.{known, fuse_count, image_bytes, text_bytes, decimal_digits};
-ghost use Rattle.part.specs.Device.{main_row_fuses, main_row_text};
-ghost use Rattle.jedec.specs.WrittenText.{lines_text, head_text, foot_text, pattern_fuses};
+ghost use Rattle.part.specs.Device.{fuse_count, image_bytes, text_bytes};
+ghost use Rattle.jedec.specs.WrittenText.{lines_text, head_text, foot_text};
+ghost use Rattle.jedec_lines.specs.Columns.{AllWide};
 ghost use Rattle.jedec_writer.specs.Pattern.{row_lines, block_lines, lines_bytes, pattern, text_of};
+ghost use Rattle.jedec_writer.specs.Spots.{Room, Lined};
 
 use cells::words::put_cells;
 use jedec_lines::characters::{four_hex, line_start};
 use jedec_lines::lines::{LINE_FRAME, put_line};
-use part::{Area, Device, geometry};
+use part::geometry::{MAIN_ROWS, WIRE_AND_ROWS, decimal_digits};
+use part::{Area, KnownDevice};
 
 // What stands around the count and around the sum, each as one word with its first byte lowest: STX, `*`, LF, `QF`;
 // `*`, LF, `F0*`, LF; `C`; `*`, LF, ETX.
@@ -23,166 +25,113 @@ const BEFORE_SUM: u64 = b'C' as u64;
 
 const AFTER_SUM: u64 = 0x03_0A2A;
 
-// What stands before the second and before the third line of a main row: fuses and bytes.
-const FUSES_1: usize = 5 * 8;
+// Where a line begins: its first fuse, and its first byte in the text.
+#[derive(Clone, Copy)]
+pub struct Spot {
+    pub fuse: usize,
+    pub at: usize,
+}
 
-const FUSES_2: usize = FUSES_1 + 4 * 8 + 6;
-
-const BYTES_1: usize = LINE_FRAME + FUSES_1;
-
-const BYTES_2: usize = 2 * LINE_FRAME + FUSES_2;
-
-// What a block has before its wire-AND rows, and the rows of its areas.
-const MAIN_FUSES: usize = geometry::MAIN_FUSES as usize;
-
-const MAIN_TEXT: usize = geometry::MAIN_TEXT as usize;
-
-const MAIN_ROWS: usize = geometry::MAIN_ROWS as usize;
-
-const WIRE_AND_ROWS: usize = geometry::WIRE_AND_ROWS as usize;
+// A line of five columns; where the next one begins.
+#[inline(always)]
+fn line_out(image: &[u8], widths: [usize; 5], from: Spot, out: &mut [u8]) -> Spot
+    requires wide { AllWide widths }
+    requires room { Room (widths ∷ []) image.now from out.old }
+    ensures { Lined (widths ∷ []) image.now out.old out.new from result }
+{
+    let fuses = put_line(image, from.fuse, widths, out, from.at);
+    Spot {
+        fuse: from.fuse + fuses,
+        at: from.at + LINE_FRAME + fuses,
+    }
+}
 
 // The lines of a row.
-fn row_out(area: Area, image: &[u8], fuse: usize, out: &mut [u8], at: usize)
-    requires { (8 ≤ length image.now) × (length image.now ≤ 125000)
-        × (fuse + pattern_fuses (row_lines area) ≤ length image.now * 8)
-        × (at + lines_bytes (row_lines area) ≤ length out.old) }
-    ensures { out.new ≡ sets out.old at (lines_text image.now fuse (row_lines area)) }
+fn row_out(area: Area, image: &[u8], from: Spot, out: &mut [u8]) -> Spot
+    requires { Room (row_lines area) image.now from out.old }
+    ensures { Lined (row_lines area) image.now out.old out.new from result }
 {
     match area {
         Area::Main => {
-            put_line(image, fuse, 8, 8, 8, 8, 8, out, at);
-            put_line(image, fuse + FUSES_1, 8, 8, 8, 8, 6, out, at + BYTES_1);
-            put_line(image, fuse + FUSES_2, 6, 6, 6, 6, 6, out, at + BYTES_2);
+            let second = line_out(image, [8, 8, 8, 8, 8], from, out);
+            let third = line_out(image, [8, 8, 8, 8, 6], second, out);
+            line_out(image, [6, 6, 6, 6, 6], third, out)
         }
-        Area::WireAnd => put_line(image, fuse, 8, 7, 7, 7, 7, out, at),
-    }
-}
-
-// The fuses of a row, and the bytes of its lines.
-fn row_fuses(area: Area) -> usize
-    ensures { (result ≡ pattern_fuses (row_lines area)) × (result ≤ main_row_fuses) }
-{
-    match area {
-        Area::Main => geometry::MAIN_ROW_FUSES as usize,
-        Area::WireAnd => geometry::WIRE_AND_ROW_FUSES as usize,
-    }
-}
-
-fn row_bytes(area: Area) -> usize
-    ensures { (result ≡ lines_bytes (row_lines area)) × (result ≤ main_row_text) }
-{
-    match area {
-        Area::Main => geometry::MAIN_ROW_TEXT as usize,
-        Area::WireAnd => geometry::WIRE_AND_ROW_TEXT as usize,
+        Area::WireAnd => line_out(image, [8, 7, 7, 7, 7], from, out),
     }
 }
 
 // The lines of some rows, one after another.
-fn rows_out(area: Area, image: &[u8], fuse: usize, out: &mut [u8], at: usize, count: usize)
-    requires { (8 ≤ length image.now) × (length image.now ≤ 125000)
-        × (fuse + count * pattern_fuses (row_lines area) ≤ length image.now * 8)
-        × (at + count * lines_bytes (row_lines area) ≤ length out.old) }
-    ensures { out.new
-        ≡ sets out.old at (lines_text image.now fuse (repeat count (row_lines area))) }
+fn rows_out(area: Area, count: u32, image: &[u8], from: Spot, out: &mut [u8]) -> Spot
+    requires { Room (repeat count (row_lines area)) image.now from out.old }
+    ensures { Lined (repeat count (row_lines area)) image.now out.old out.new from result }
 {
-    let fuses = row_fuses(area);
-    let bytes = row_bytes(area);
-    let mut f = fuse;
-    let mut a = at;
-    let mut left = count;
-    while 0 < left {
-        row_out(area, image, f, out, a);
-        f += fuses;
-        a += bytes;
-        left -= 1;
+    let mut next = from;
+    for row in 0..count {
+        next = row_out(area, image, next, out);
     }
-}
-
-// The fuses of a block, and the bytes of its lines.
-fn block_fuses(d: Device) -> usize
-    requires { known d ≡ true }
-    ensures { (result ≡ pattern_fuses (block_lines d)) × (result ≤ 65535) }
-{
-    geometry::in_block(d, geometry::MAIN_FUSES, geometry::SUBAREA_FUSES) as usize
-}
-
-fn block_bytes(d: Device) -> usize
-    requires { known d ≡ true }
-    ensures { (result ≡ lines_bytes (block_lines d)) × (result ≤ 65535) }
-{
-    geometry::in_block(d, geometry::MAIN_TEXT, geometry::SUBAREA_TEXT) as usize
+    next
 }
 
 // The lines of a block.
-fn block_out(d: Device, image: &[u8], fuse: usize, out: &mut [u8], at: usize)
-    requires { (known d ≡ true) × (8 ≤ length image.now) × (length image.now ≤ 125000)
-        × (fuse + pattern_fuses (block_lines d) ≤ length image.now * 8)
-        × (at + lines_bytes (block_lines d) ≤ length out.old) }
-    ensures { out.new ≡ sets out.old at (lines_text image.now fuse (block_lines d)) }
+fn block_out(part: KnownDevice, image: &[u8], from: Spot, out: &mut [u8]) -> Spot
+    requires { Room (block_lines part.device) image.now from out.old }
+    ensures { Lined (block_lines part.device) image.now out.old out.new from result }
 {
-    rows_out(Area::Main, image, fuse, out, at, MAIN_ROWS);
-    let rows = d.blocks as usize * WIRE_AND_ROWS;
-    rows_out(
-        Area::WireAnd,
-        image,
-        fuse + MAIN_FUSES,
-        out,
-        at + MAIN_TEXT,
-        rows,
-    );
+    let behind_main = rows_out(Area::Main, MAIN_ROWS, image, from, out);
+    let rows = part.blocks() * WIRE_AND_ROWS;
+    rows_out(Area::WireAnd, rows, image, behind_main, out)
 }
 
-// The lines of all blocks.
-fn blocks_out(d: Device, image: &[u8], out: &mut [u8], at: usize)
-    requires { (known d ≡ true) × (length image.now ≡ image_bytes d)
-        × (at + lines_bytes (pattern d) ≤ length out.old) }
-    ensures { out.new ≡ sets out.old at (lines_text image.now 0 (pattern d)) }
+// The lines of all blocks; the index behind them.
+fn blocks_out(part: KnownDevice, image: &[u8], out: &mut [u8], at: usize) -> usize
+    requires image { length image.now ≡ image_bytes part.device }
+    requires fits { at + lines_bytes (pattern part.device) ≤ length out.old }
+    ensures stored { out.new ≡ sets out.old at (lines_text image.now 0 (pattern part.device)) }
+    ensures behind { result ≡ at + lines_bytes (pattern part.device) }
 {
-    let fuses = block_fuses(d);
-    let bytes = block_bytes(d);
-    let mut f: usize = 0;
-    let mut a = at;
-    let mut left = d.blocks;
-    while 0 < left {
-        block_out(d, image, f, out, a);
-        f += fuses;
-        a += bytes;
-        left -= 1;
+    let mut next = Spot { fuse: 0, at };
+    for block in 0..part.blocks() {
+        next = block_out(part, image, next, out);
     }
+    next.at
 }
 
-// From STX to the line before the first L. The count's digits are the last of the seven.
-fn head_out(d: Device, digits: usize, out: &mut [u8])
-    requires { (known d ≡ true) × (digits ≡ decimal_digits (fuse_count d)) × (11 + digits ≤ length out.old) }
-    ensures { out.new ≡ sets out.old 0 (head_text (fuse_count d)) }
+// From STX to the line before the first L; the index behind them. The count's digits are the last of the seven.
+fn head_out(part: KnownDevice, out: &mut [u8]) -> usize
+    requires { length (head_text (fuse_count part.device)) ≤ length out.old }
+    ensures stored { out.new ≡ sets out.old 0 (head_text (fuse_count part.device)) }
+    ensures behind { result ≡ length (head_text (fuse_count part.device)) }
 {
+    let fuses = part.fuse_count();
+    let digits = decimal_digits(fuses) as usize;
     put_cells(BEFORE_COUNT, 8, 5, out, 0);
-    let seven = line_start(geometry::fuse_count(d));
-    put_cells(seven >> (64 - digits * 8), 8, digits, out, 5);
+    put_cells(line_start(fuses) >> (64 - digits * 8), 8, digits, out, 5);
     put_cells(AFTER_COUNT, 8, 6, out, 5 + digits);
+    11 + digits
 }
 
-// The line of the fuse sum, and ETX.
-fn foot_out(sum: u16, out: &mut [u8], at: usize)
+// The line of the fuse sum, and ETX; the index behind them.
+fn foot_out(sum: u16, out: &mut [u8], at: usize) -> usize
     requires { at + 8 ≤ length out.old }
-    ensures { out.new ≡ sets out.old at (foot_text sum) }
+    ensures stored { out.new ≡ sets out.old at (foot_text sum) }
+    ensures behind { result ≡ at + 8 }
 {
     put_cells(BEFORE_SUM, 8, 1, out, at);
     put_cells(four_hex(sum), 8, 4, out, at + 1);
     put_cells(AFTER_SUM, 8, 3, out, at + 5);
+    at + 8
 }
 
 // The text of an image, and nothing behind it.
-pub fn text_out(d: Device, image: &[u8], text: &mut [u8])
-    requires { (known d ≡ true) × (length image.now ≡ image_bytes d) × (text_bytes d ≤ length text.old) }
-    ensures { text.new ≡ sets text.old 0 (text_of d image.now) }
+pub fn text_out(part: KnownDevice, image: &[u8], text: &mut [u8])
+    requires image { length image.now ≡ image_bytes part.device }
+    requires fits { text_bytes part.device ≤ length text.old }
+    ensures { text.new ≡ sets text.old 0 (text_of part.device image.now) }
 {
-    let digits = geometry::decimal_digits(geometry::fuse_count(d)) as usize;
-    head_out(d, digits, text);
-    blocks_out(d, image, text, 11 + digits);
-    let end = geometry::text_bytes(d) as usize - 4;
-    let foot = end - 8;
-    foot_out(image::bytes::sum_of(image), text, foot);
+    let lines = head_out(part, text);
+    let foot = blocks_out(part, image, text, lines);
+    let end = foot_out(image::bytes::sum_of(image), text, foot);
     let sum = image::bytes::sum_of(&text[..end]);
     put_cells(four_hex(sum), 8, 4, text, end);
 }

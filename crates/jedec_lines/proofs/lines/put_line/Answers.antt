@@ -10,7 +10,7 @@ bits_from-word-requires c = omega (arith, line_bits c.args.widths c.requires.4 (
 pub line_start-requires : goal.line_start-requires
 line_start-requires c = omega (arith, line_bits c.args.widths c.requires.4 (omega arith))
 
-pub returns : goal.returns
-returns c =
+pub returns-clause-stored : goal.returns-clause-stored
+returns-clause-stored c =
     line_of _ _ _ _ _ _ _ _ _ _ _ c.bits_from-word.ensures c.requires.2 c.requires.4 (omega arith)
     c.line_start.ensures c.put_eight.ensures c.put_columns-behind.ensures.stored c.put_columns-behind.ensures.behind c.put_cells.ensures

@@ -1,20 +1,22 @@
 -- `block_out` meets its contract: the main rows, and the wire-AND rows behind them.
 -- Assumes nothing.
-use Rattle.jedec_writer.proofs.Sizes.{block_size, main_size, wire_and_size}
-use Rattle.part.specs.declared.Area.TheVariants.{Main, WireAnd}
-use mathlib.Core.Path.{refl}
 use native.Mathlib.Omega.{arith}
-use Rattle.jedec_writer.proofs.Sizes.{block_of_rows}
-use borrow.Author.Rules.{rules}
+use Rattle.part.proofs.Devices.{blocks_small}
+use Rattle.jedec_writer.specs.Pattern.{block_lines}
+use Rattle.jedec_writer.proofs.Lines.{room_first, room_behind, lined_append}
 use Rattle.jedec_writer.proofs.text.block_out.Goals as goal
 
-pub rows_out-requires : goal.rows_out-requires
-rows_out-requires c = omega (arith, block_size c.args.d, main_size Main refl, c.requires)
+pub rows_out-behind_main-requires : goal.rows_out-behind_main-requires
+unfolding block_lines
+rows_out-behind_main-requires c = room_first _ c.requires
 
-pub rows_out-requires-2 : goal.rows_out-requires-2
-rows_out-requires-2 c =
-    rw ((wire_and_size WireAnd refl).0, (wire_and_size WireAnd refl).1)
-    (omega (arith, block_size c.args.d, c.requires, c.rows_out.auto))
+pub overflow_mul-rows : goal.overflow_mul-rows
+overflow_mul-rows c = omega (arith, blocks_small c.args.part.device c.args.part.is_known)
+
+pub rows_out-requires : goal.rows_out-requires
+unfolding block_lines
+rows_out-requires c = rw c.blocks-rows.ensures (room_behind c.requires c.rows_out-behind_main.ensures)
 
 pub returns : goal.returns
-returns c = search (rules, block_of_rows)
+unfolding block_lines
+returns c = lined_append c.rows_out-behind_main.ensures (rw c.blocks-rows.ensures at c.rows_out.ensures)

@@ -4,5 +4,5 @@ use Rattle.jedec_writer.proofs.TextParts.{foot_of}
 use borrow.Author.Rules.{rules}
 use Rattle.jedec_writer.proofs.text.foot_out.Goals as goal
 
-pub returns : goal.returns
-returns c = search (rules, foot_of)
+pub returns-clause-stored : goal.returns-clause-stored
+returns-clause-stored c = search (rules, foot_of)

@@ -1,36 +1,30 @@
 -- `row_out` meets its contract: the lines of a main row, or the line of a wire-AND row.
 -- Assumes nothing.
-use native.Mathlib.Omega.{arith}
-use Rattle.jedec_writer.proofs.Sizes.{main_size, wire_and_size, main_row_of, wire_and_row_of}
-use borrow.Author.Rules.{rules}
+use Rattle.jedec_writer.proofs.Lines.{line_room, rest_room, line_lined}
+use Rattle.jedec_writer.proofs.Sizes.{main_lines, wire_and_lines}
 use Rattle.jedec_writer.proofs.text.row_out.Goals as goal
 
-pub put_line-requires : goal.put_line-requires
-put_line-requires c =
-    omega (arith, main_size c.args.area c.in-Main.is, c.requires)
+pub line_out-second-requires-clause-room : goal.line_out-second-requires-clause-room
+line_out-second-requires-clause-room c =
+    let room = rw (c.in-Main.is, main_lines) at c.requires in line_room _ _ _ _ _ room
 
-pub put_line-requires-in-Main : goal.put_line-requires-in-Main
-put_line-requires-in-Main c =
-    omega (arith, main_size c.args.area c.in-Main.is, c.requires, c.put_line.auto)
+pub line_out-third-requires-clause-room : goal.line_out-third-requires-clause-room
+line_out-third-requires-clause-room c =
+    let room = rw (c.in-Main.is, main_lines) at c.requires in
+    line_room _ _ _ _ _ (rest_room _ _ _ _ _ _ _ room c.line_out-second.ensures)
 
-pub put_line-requires-in-Main-2 : goal.put_line-requires-in-Main-2
-put_line-requires-in-Main-2 c =
-    omega (
-      arith,
-      main_size c.args.area c.in-Main.is,
-      c.requires,
-      c.put_line.auto,
-      c.put_line-in-Main.auto,
-    )
+pub line_out-requires-clause-room : goal.line_out-requires-clause-room
+line_out-requires-clause-room c =
+    let room = rw (c.in-Main.is, main_lines) at c.requires in
+    rest_room _ _ _ _ _ _ _ (rest_room _ _ _ _ _ _ _ room c.line_out-second.ensures) c.line_out-third.ensures
 
-pub put_line-requires-in-WireAnd : goal.put_line-requires-in-WireAnd
-put_line-requires-in-WireAnd c =
-    omega (arith, wire_and_size c.args.area c.in-WireAnd.is, c.requires)
+pub line_out-requires-in-WireAnd-clause-room : goal.line_out-requires-in-WireAnd-clause-room
+line_out-requires-in-WireAnd-clause-room c = rw (c.in-WireAnd.is, wire_and_lines) at c.requires
 
 pub returns-in-Main : goal.returns-in-Main
 returns-in-Main c =
-    main_row_of c.args.area _ _ _ _ _ _ _ c.in-Main.is c.put_line.ensures c.put_line-in-Main.ensures
-    c.put_line-in-Main-2.ensures
+    rw (c.in-Main.is, main_lines)
+    (line_lined _ _ _ _ _ _ _ _ _ c.line_out-second.ensures (line_lined _ _ _ _ _ _ _ _ _ c.line_out-third.ensures c.line_out.ensures))
 
 pub returns-in-WireAnd : goal.returns-in-WireAnd
-returns-in-WireAnd c = search (rules, wire_and_row_of)
+returns-in-WireAnd c = rw (c.in-WireAnd.is, wire_and_lines) c.line_out-in-WireAnd.ensures

@@ -1,11 +1,14 @@
--- `rows_out` meets its contract: a loop whose invariant is `LinesLeft`.
+-- `rows_out` meets its contract: the rows so far are put.
 -- Assumes nothing.
 use borrow.Author.Rules.{rules}
-use Rattle.jedec_writer.proofs.Lines.{loop_step, loop_end}
+use Rattle.jedec_writer.proofs.Lines.{none_lined, next_room, next_lined}
 use Rattle.jedec_writer.proofs.text.rows_out.Goals as goal
 
-pub loop-left-preserved : goal.loop-left-preserved
-loop-left-preserved c = search (rules, loop_step)
+pub loop-row-init : goal.loop-row-init
+loop-row-init c = search (rules, none_lined)
 
-pub returns : goal.returns
-returns c = search (rules, loop_end)
+pub row_out-next-requires : goal.row_out-next-requires
+row_out-next-requires c = search (rules, next_room)
+
+pub loop-row-preserved : goal.loop-row-preserved
+loop-row-preserved c = search (rules, next_lined)
