@@ -14,7 +14,7 @@ use Rattle.jedec_runs.proofs.BitsJoined.{bits_under, bits_joined}
 use Rattle.jedec_judge.specs.Judged.{states_in_word}
 use Rattle.jedec_image.specs.States.{with_states}
 use Rattle.jedec_image.proofs.Pending.{pending, pending_none, pending_own, last_exact, last_fits, put_few, put_stored}
-use Rattle.jedec_image.proofs.StatesPut.{byte_wide, set_octets}
+use Rattle.jedec_image.proofs.StatesPut.{set_octets}
 
 -- Bits from the first bit of a byte on are its new low bits.
 bits_low : (k : ℕ) (image : List ℕ) (index x : ℕ) (rest : List ℕ) → k ≤ 8 → index * 8 + k ≤ length image * 8 → x < 2 ^ k
@@ -28,7 +28,9 @@ bits_low k image index x rest few fits small =
     rw (pending_none image index, at, here, zero-add k) at more
 
 -- What is stored, and the bits still to come.
-pub record PutsBits (image₀ : List ℕ) (fuse : ℕ) (bits count : ℕ) (image : List ℕ) (index rest left : ℕ) : Type 0 where
+pub record PutsBits (image₀ : List ℕ) (fuse : ℕ) (bits count : ℕ) (image : List ℕ) (index rest : ℕ) : Type 0 where
+  pub left : ℕ
+  pub ends : index * 8 + left ≡ fuse + count
   pub under : rest < 2 ^ left
   pub fits : index * 8 + left ≤ length image * 8
   pub same : length image ≡ length image₀
@@ -51,10 +53,12 @@ module _ (image : List ℕ) (fuse bits count : ℕ) (few : count ≤ states_in_w
     all_fit = let m : fuse % 8 + count ≤ 64 = omega arith in omega (arith, all_under, pow_mono m)
 
     pub bits_start : ((k : ℕ) → Fits w8 (get_or image k 0))
-        → PutsBits image fuse bits count image (fuse / 8) (own + bits * 2 ^ (fuse % 8) % 2 ^ 64) (fuse % 8 + count)
+        → PutsBits image fuse bits count image (fuse / 8) (own + bits * 2 ^ (fuse % 8) % 2 ^ 64)
     bits_start o =
         let whole : fuse / 8 * 8 + fuse % 8 ≡ fuse = div-add-mod' fuse 8 in
         record {
+          left = fuse % 8 + count;
+          ends = omega arith;
           under = all_under;
           fits = omega arith;
           same = refl;
@@ -66,30 +70,24 @@ module _ (image : List ℕ) (fuse bits count : ℕ) (few : count ≤ states_in_w
               (ap (pending image (fuse / 8) (fuse % 8)) e ∙ pending_own image (fuse / 8) (fuse % 8)) whole);
         }
 
-module _ (image₀ : List ℕ) (fuse bits count : ℕ) (image : List ℕ) (index rest left : ℕ)
-    (r : PutsBits image₀ fuse bits count image index rest left) where
-  pub bits_kept : length image ≡ length image₀
-  bits_kept = r.same
+module _ (image₀ : List ℕ) (fuse bits count : ℕ) (image : List ℕ) (index rest : ℕ)
+    (r : PutsBits image₀ fuse bits count image index rest) where
+  abbrev left : ℕ
+  left = r.left
 
-  pub bits_kept_set : (x : ℕ) → length (set image index x) ≡ length image₀
-  bits_kept_set x = length-set image index x ∙ r.same
+  module _ (m : index < fuse / 8 + (fuse % 8 + count) / 8) where
+    whole_left : 8 ≤ left
+    whole_left = omega (arith, r.ends)
 
-  pub bits_wide : get_or image index 0 < 2 ^ 64
-  bits_wide = byte_wide image index r.octets
-
-  pub bits_there : 0 < left → index < length image
-  bits_there m = omega (arith, r.fits)
-
-  module _ (m : 8 ≤ left) where
     pub bits_there_whole : index < length image
-    bits_there_whole = omega (arith, r.fits)
+    bits_there_whole = omega (arith, r.fits, whole_left)
 
     pub bits_stored : (octet : ℕ) → octet ≡ rest % 2 ^ 8
-        → PutsBits image₀ fuse bits count (set image index octet) (index + 1) (rest / 2 ^ 8) (left - 8)
+        → PutsBits image₀ fuse bits count (set image index octet) (index + 1) (rest / 2 ^ 8)
     bits_stored octet f =
         let size : length (set image index octet) ≡ length image = length-set image index octet in
-        let wide : left - 8 + 8 ≡ left = omega arith in
-        let wide' : 8 + (left - 8) ≡ left = omega arith in
+        let wide : left - 8 + 8 ≡ left = omega (arith, whole_left) in
+        let wide' : 8 + (left - 8) ≡ left = omega (arith, whole_left) in
         let low_small : rest % 2 ^ 8 < 2 ^ 8 = mod-lt rest (pow_pos 8) in
         let whole : rest % 2 ^ 8 + rest / 2 ^ 8 * 2 ^ 8 ≡ rest = add_comm (rest % 2 ^ 8) (rest / 2 ^ 8 * 2 ^ 8) ∙ split rest 8 in
         let next : index * 8 + 8 ≡ (index + 1) * 8 = omega arith in
@@ -97,39 +95,58 @@ module _ (image₀ : List ℕ) (fuse bits count : ℕ) (image : List ℕ) (index
         bits_joined 8 (left - 8) (rest % 2 ^ 8) (rest / 2 ^ 8) low_small
         ∙ ap₂ (λ (n x : ℕ). cut (replicate n 1) x) wide' whole in
         record {
+          left = left - 8;
+          ends = omega (arith, r.ends, whole_left);
           under = shr_lt (left - 8) 8 (rw wide r.under);
-          fits = omega (arith, r.fits);
+          fits = omega (arith, r.fits, whole_left);
           same = size ∙ r.same;
           octets = set_octets image index octet r.octets (rw f low_small);
           so_far =
               rw f (sym (ap (with_states image (index * 8)) (sym parts)
               ∙ bits_low 8 image index (rest % 2 ^ 8) (cut (replicate (left - 8) 1) (rest / 2 ^ 8)) (omega arith)
-              (omega (arith, r.fits)) low_small
+              (omega (arith, r.fits, whole_left)) low_small
               ∙ ap₂ (λ (p : List ℕ) (n : ℕ). with_states p n (cut (replicate (left - 8) 1) (rest / 2 ^ 8)))
               (put_stored image index (rest % 2 ^ 8) (r.octets index).fits) next) ∙ r.so_far);
         }
 
-  module _ (l : left < 8) where
-    pub bits_last_byte : get_or image index 0 / 2 ^ left * 2 ^ left % 2 ^ 64 + rest < 2 ^ 8
-    bits_last_byte = last_fits (get_or image index 0) left rest l r.under (r.octets index).fits
+  -- Behind the last whole byte.
+  module _ (last : ℕ) (e : last ≡ fuse / 8 + (fuse % 8 + count) / 8) (from : last ≤ index) (upto : index ≤ last) (over : ℕ)
+      (f : over ≡ (fuse % 8 + count) % 8) where
+    here : index ≡ last
+    here = omega arith
 
-    pub bits_last_space : get_or image index 0 / 2 ^ left * 2 ^ left % 2 ^ 64 + rest < 2 ^ 64
+    few : left ≡ over
+    few = omega (arith, r.ends)
+
+    small : over < 8
+    small = omega arith
+
+    under_last : rest < 2 ^ over
+    under_last = rw few at r.under
+
+    pub bits_last_byte : get_or image last 0 / 2 ^ over * 2 ^ over % 2 ^ 64 + rest < 2 ^ 8
+    bits_last_byte = last_fits (get_or image last 0) over rest small under_last (r.octets last).fits
+
+    pub bits_last_space : get_or image last 0 / 2 ^ over * 2 ^ over % 2 ^ 64 + rest < 2 ^ 64
     bits_last_space = omega (arith, bits_last_byte)
 
-    all_bits : pending image index left rest ≡ with_states image₀ fuse (cut (replicate count 1) bits)
+    pub bits_there : 0 < over → last < length image
+    bits_there m = omega (arith, r.fits, few)
+
+    all_bits : pending image last over rest ≡ with_states image₀ fuse (cut (replicate count 1) bits)
     unfolding with_states
     all_bits =
-        sym (bits_low left image index rest [] (omega arith) r.fits r.under)
-        ∙ ap (with_states image (index * 8)) (append-nil (cut (replicate left 1) rest)) ∙ r.so_far
+        rw (← here, ← few) (sym (bits_low left image index rest [] (omega (arith, few)) r.fits r.under)
+        ∙ ap (with_states image (index * 8)) (append-nil (cut (replicate left 1) rest)) ∙ r.so_far)
 
-    pub bits_last : set image index (get_or image index 0 / 2 ^ left * 2 ^ left % 2 ^ 64 + rest)
+    pub bits_last : set image last (get_or image last 0 / 2 ^ over * 2 ^ over % 2 ^ 64 + rest)
         ≡ with_states image₀ fuse (cut (replicate count 1) bits)
     unfolding pending
-    bits_last = rw (last_exact (get_or image index 0) left rest l r.under (r.octets index).fits) all_bits
+    bits_last = rw (last_exact (get_or image last 0) over rest small under_last (r.octets last).fits) all_bits
 
-    pub bits_done : left ≤ 0 → image ≡ with_states image₀ fuse (cut (replicate count 1) bits)
+    pub bits_done : over ≤ 0 → image ≡ with_states image₀ fuse (cut (replicate count 1) bits)
     bits_done m =
-        let z : left ≡ 0 = omega arith in
-        let none-low : rest < 2 ^ 0 = rw z at r.under in
+        let z : over ≡ 0 = omega arith in
+        let none-low : rest < 2 ^ 0 = rw z at under_last in
         let y : rest ≡ 0 = omega arith in
-        sym (pending_none image index) ∙ (rw (z, y) at all_bits)
+        sym (pending_none image last) ∙ (rw (z, y) at all_bits)

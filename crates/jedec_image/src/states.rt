@@ -10,7 +10,6 @@ ghost use Rattle.jedec_image.specs.States.{with_states, put_field, PutFits};
 
 use cells::words::low_bits;
 use jedec_judge::{FieldSays, STATES_IN_WORD};
-use jedec_progress::progress::OptionalNumber;
 use jedec_runs::states::{bits_at, blank_at, states_at};
 
 // A byte of which the lowest bits have a state, and the others are 0.
@@ -27,12 +26,7 @@ pub fn fill(image: &mut [u8], fuses: u32, state: u32)
     ensures { image.new ≡ image_with fuses (state_given state []) }
 {
     let whole = (fuses / 8) as usize;
-    let byte = byte_of(state, 8);
-    let mut i: usize = 0;
-    while i < whole {
-        image[i] = byte;
-        i += 1;
-    }
+    image[..whole].fill(byte_of(state, 8));
     if whole < image.len() {
         image[whole] = byte_of(state, fuses % 8);
     }
@@ -49,11 +43,12 @@ fn put_states(bytes: &[u8], image: &mut [u8], fuse: usize)
     let mut bit: u32 = (fuse % 8) as u32;
     let mut low = low_bits(image[index] as u64, bit);
     let mut i: usize = 0;
+    // This stays a `while`: each turn goes on by as many bytes as it takes, up to nine.
     while i < bytes.len() {
         let count = states_at(bytes, i);
         low += bits_at(bytes, i, count) << bit;
         bit += count as u32;
-        i += count + blank_at(bytes, i + count);
+        i += count + blank_at(bytes, i + count) as usize;
         if 8 <= bit {
             image[index] = low_bits(low, 8) as u8;
             low = low >> 8;
@@ -74,19 +69,19 @@ fn put_bits(bits: u64, count: u32, image: &mut [u8], fuse: usize)
         × (fuse + count ≤ length image.old * 8) }
     ensures { image.new ≡ with_states image.old fuse (cut (replicate count 1) bits) }
 {
-    let mut index = fuse / 8;
+    let first = fuse / 8;
     let bit: u32 = (fuse % 8) as u32;
-    let mut rest = low_bits(image[index] as u64, bit) + (bits << bit);
-    let mut left = bit + count;
-    while 8 <= left {
+    let mut rest = low_bits(image[first] as u64, bit) + (bits << bit);
+    let end = bit + count;
+    let last = first + (end / 8) as usize;
+    for index in first..last {
         image[index] = low_bits(rest, 8) as u8;
         rest = rest >> 8;
-        index += 1;
-        left -= 8;
     }
+    let left = end % 8;
     if 0 < left {
-        let above = image[index] as u64 >> left;
-        image[index] = ((above << left) + rest) as u8;
+        let above = image[last] as u64 >> left;
+        image[last] = ((above << left) + rest) as u8;
     }
 }
 
@@ -95,33 +90,23 @@ pub fn put_field(
     fuses: u32,
     field: &[u8],
     says: FieldSays,
-    misplaced: OptionalNumber,
+    misplaced: Option<u32>,
     image: &mut [u8],
 )
     requires { (length image.old ≡ (fuses + 7) / 8) × PutFits fuses (drop 1 field.now) says misplaced }
     ensures { image.new ≡ put_field fuses (drop 1 field.now) says misplaced image.old }
 {
     match says {
-        FieldSays::Start(s) => fill(image, fuses, s),
-        FieldSays::List {
-            first,
-            skip,
-            count,
-            bits,
-        } => match misplaced {
-            OptionalNumber::None => {
-                if count <= STATES_IN_WORD {
-                    put_bits(bits, count as u32, image, first as usize);
-                    return;
-                }
-                let from = skip + 1;
-                put_states(&field[from..], image, first as usize);
+        FieldSays::Start(state) => fill(image, fuses, state),
+        FieldSays::List(list) if misplaced.is_none() => {
+            let first = list.first as usize;
+            if list.count <= STATES_IN_WORD {
+                put_bits(list.bits, list.count as u32, image, first);
+            } else {
+                let from = list.skip + 1;
+                put_states(&field[from..], image, first);
             }
-            OptionalNumber::Some(_) => {}
-        },
-        FieldSays::Count(_) => {}
-        FieldSays::Sum(_) => {}
-        FieldSays::Skipped => {}
-        FieldSays::Bad => {}
+        }
+        _ => {}
     }
 }

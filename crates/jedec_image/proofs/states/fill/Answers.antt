@@ -1,77 +1,64 @@
--- `fill` meets its contract: the bytes so far are those of the image of the start state.
+-- `fill` meets its contract: the whole bytes are those of the image of the start state, and so is the last.
 -- Assumes nothing.
-use mathlib.Core.Path.{◌≡◌, refl, sym, ◌∙◌, ap₂}
-use mathlib.Core.List.{List, [], ◌∷◌, ◌++◌}
-use Prim.Native.Nat.{ℕ, ◌+◌, ◌*◌, ◌-◌, ◌%◌, ◌^◌, ◌≤◌, ◌<◌}
+use mathlib.Core.Path.{◌≡◌, refl, sym, ◌∙◌, ap, ap₂}
+use mathlib.Core.List.{List, [], ◌∷◌, ◌++◌, append-nil}
+use Prim.Native.Nat.{ℕ, zero, suc, ◌+◌, ◌*◌, ◌-◌, ◌/◌, ◌%◌, ◌^◌, ◌≤◌, ◌<◌}
 use native.Mathlib.Omega.{arith}
 use native.Mathlib.Numerals.{add-one}
-use lib.ListN.{length, get_or, set, take, length-set}
-use lib.Seq.{take_all, take-suc, take-suc-set}
+use lib.ListN.{length, get_or, set, take, drop, replicate, drop_of_length-le}
+use lib.Seq.{take_all, take-suc, length-take-le, drop-cons}
+use borrow.Author.Rules.{rules}
+use Rattle.std.proofs.lemmas.List.{replicate_more, set_at}
 use Rattle.jedec.specs.Rules.{state_given, image_with}
 use Rattle.jedec.proofs.States.{image_length}
 use Rattle.jedec_image.proofs.Images.{start_byte}
-use borrow.Author.Rules.{rules}
-use Rattle.jedec_image.proofs.states.fill.Invariants.{Filled}
 use Rattle.jedec_image.proofs.states.fill.Goals as goal
 
--- One byte more is as it is meant to be.
-more : (image meant : List ℕ) (i byte : ℕ) → i < length image → i < length meant → take i image ≡ take i meant → byte ≡ get_or meant i 0
-    → take (i + 1) (set image i byte) ≡ take (i + 1) meant
-more image meant i byte l m e f =
-    rw (add-one i) (take-suc-set image i byte l ∙ ap₂ (λ (x : List ℕ) (y : ℕ). x ++ (y ∷ [])) e f ∙ sym (take-suc meant i 0 m))
+module _ (fuses state byte : ℕ) (e : byte ≡ state * (2 ^ 8 - 1)) where
+  abbrev meant : List ℕ
+  meant = image_with fuses (state_given state [])
 
-module _ (image₀ : List ℕ) (fuses state whole : ℕ) (image : List ℕ) (i : ℕ) (r : Filled image₀ fuses state whole image i) where
-  there : i < whole → i < length image
-  there l = omega (arith, r.all, r.same, r.size)
+  long : length meant ≡ (fuses + 7) / 8
+  long = image_length fuses (state_given state [])
 
-  one_more : (byte : ℕ) → i < whole → byte ≡ state * (2 ^ 8 - 1) → Filled image₀ fuses state whole (set image i byte) (i + 1)
-  one_more byte l e =
-      let meant : i < length (image_with fuses (state_given state [])) =
-      rw (image_length fuses (state_given state [])) (omega (arith, r.all)) in
-      let full : i * 8 + 8 ≤ fuses = omega (arith, r.all) in
-      record {
-        upto = omega arith;
-        all = r.all;
-        same = length-set image i byte ∙ r.same;
-        size = r.size;
-        so_far = more image (image_with fuses (state_given state [])) i byte (there l) meant r.so_far
-            (e ∙ start_byte fuses state i 8 (omega (arith, r.all)) (omega arith) (λ h. refl) (λ h. absurd (omega arith)));
-      }
+  first : (k : ℕ) → k ≤ fuses / 8 → take k meant ≡ replicate k byte
+  first zero l = refl
+  first (suc k) l =
+      let there : k < length meant = rw long (omega arith) in
+      let here : byte ≡ get_or meant k 0 =
+      e ∙ start_byte fuses state k 8 (omega arith) (omega arith) (λ h. refl) (λ h. absurd (omega arith)) in
+      take-suc meant k 0 there ∙ ap₂ (λ (xs : List ℕ) (x : ℕ). xs ++ (x ∷ [])) (first k (omega arith)) (sym here)
+      ∙ replicate_more k byte ∙ ap (λ (n : ℕ). replicate n byte) (add-one k)
 
-  kept : length image ≡ length image₀
-  kept = r.same
+  module _ (image : List ℕ) (size : length image ≡ (fuses + 7) / 8) (filled : List ℕ)
+      (f : filled ≡ replicate (length (take (fuses / 8) image)) byte) where
+    count : length (take (fuses / 8) image) ≡ fuses / 8
+    count = length-take-le (fuses / 8) image (omega arith)
 
-  kept_set : (byte : ℕ) → length (set image whole byte) ≡ length image₀
-  kept_set byte = length-set image whole byte ∙ r.same
+    so_far : filled ≡ take (fuses / 8) meant
+    so_far = f ∙ ap (λ (n : ℕ). replicate n byte) count ∙ sym (first (fuses / 8) (omega arith))
 
-  no_last : whole ≤ i → length image ≤ whole → image ≡ image_with fuses (state_given state [])
-  no_last l m =
-      let long : length image ≤ i = omega arith in
-      let meant : length (image_with fuses (state_given state [])) ≤ i =
-      rw (image_length fuses (state_given state [])) (omega (arith, r.same, r.size)) in
-      sym (take_all i image long) ∙ r.so_far ∙ take_all i _ meant
+    no_last : length image ≤ fuses / 8 → filled ++ drop (fuses / 8) image ≡ meant
+    no_last l =
+        let all : length meant ≤ fuses / 8 = rw long (omega arith) in
+        rw (drop_of_length-le image l) (append-nil filled ∙ so_far ∙ take_all (fuses / 8) meant all)
 
-  last : (byte : ℕ) → whole ≤ i → whole < length image → byte ≡ state * (2 ^ (fuses % 8) - 1)
-      → set image whole byte ≡ image_with fuses (state_given state [])
-  last byte l m e =
-      let here : i ≡ whole = omega (arith, r.upto) in
-      let meant-there : whole < length (image_with fuses (state_given state [])) =
-      rw (image_length fuses (state_given state [])) (omega (arith, r.same, r.size)) in
-      let long : length (set image whole byte) ≤ whole + 1 = rw (length-set image whole byte) (omega (arith, r.all, r.same, r.size)) in
-      let meant : length (image_with fuses (state_given state [])) ≤ whole + 1 =
-      rw (image_length fuses (state_given state [])) (omega (arith, r.all)) in
-      let so_far : take whole image ≡ take whole (image_with fuses (state_given state [])) = rw here at r.so_far in
-      sym (take_all (whole + 1) (set image whole byte) long)
-      ∙ more image (image_with fuses (state_given state [])) whole byte m meant-there so_far
-      (e ∙ start_byte fuses state whole (fuses % 8) (omega (arith, r.same, r.size)) (omega arith) (λ h. absurd (omega (arith, r.all)))
-      (λ h. omega (arith, r.all)))
-      ∙ take_all (whole + 1) _ meant
-
-pub loop-i-preserved : goal.loop-i-preserved
-loop-i-preserved c = search (rules, one_more)
+    last : (x : ℕ) → fuses / 8 < length image → x ≡ state * (2 ^ (fuses % 8) - 1)
+        → set (filled ++ drop (fuses / 8) image) (fuses / 8) x ≡ meant
+    last x l g =
+        let w = fuses / 8 in
+        let there : w < length meant = rw long (omega arith) in
+        let none_behind : length image ≤ suc w = omega arith in
+        let all : length meant ≤ suc w = rw long (omega arith) in
+        let here : x ≡ get_or meant w 0 =
+        g ∙ start_byte fuses state w (fuses % 8) (omega arith) (omega arith) (λ h. absurd (omega arith)) (λ h. omega arith) in
+        let before : length filled ≡ w = ap length so_far ∙ length-take-le w meant (omega arith) in
+        rw (drop-cons image w 0 l, drop_of_length-le image none_behind) (set_at filled (get_or image w 0) [] x w before
+        ∙ ap₂ (λ (xs : List ℕ) (y : ℕ). xs ++ (y ∷ [])) so_far here
+        ∙ sym (take-suc meant w 0 there) ∙ take_all (suc w) meant all)
 
 pub returns-then-whole-image : goal.returns-then-whole-image
-returns-then-whole-image c = search (rules, last)
+returns-then-whole-image c = search (rules, last, c.fill.ensures.after (λ y h. h))
 
 pub returns-else-whole-image : goal.returns-else-whole-image
-returns-else-whole-image c = search (rules, no_last)
+returns-else-whole-image c = search (rules, no_last, c.fill.ensures.after (λ y h. h))

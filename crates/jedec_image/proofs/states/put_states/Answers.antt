@@ -1,6 +1,5 @@
 -- `put_states` meets its contract: what is stored, with the new low bits of one byte, and the states still to come.
 -- Assumes nothing.
-use Prim.Native.Nat.{◌-◌}
 use borrow.Author.Rules.{rules}
 use Rattle.jedec_image.proofs.StatesPut.{starts, no_overflow, falls, bits_added}
 use Rattle.jedec_image.proofs.StatesPut.{index_there, byte_stored, last_byte, last_stored, all_stored}
