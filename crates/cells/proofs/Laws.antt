@@ -168,8 +168,3 @@ piece bytes ws p s k h g =
     ∙ ap (λ (t : ℕ). cut ws (x / 2 ^ s % 2 ^ t)) f
     ∙ cut_low ws (x / 2 ^ s) (j - total ws)
     ∙ ap (cut ws) (shr-shr (number bytes) (p * 8) s))
-
--- No cells.
-pub join_none : (cells : List ℕ) (at : ℕ) → 0 ≡ join (replicate 0 8) (drop at cells)
-unfolding join
-join_none cells at = refl

@@ -39,10 +39,10 @@ fits cells at width count i word low h0 hi hc hw e1 e2 =
     rw e (omega arith)
 
 pub loop-i-init : goal.loop-i-init
-loop-i-init c = (omega arith, search (rules, start))
+loop-i-init c = search (rules, start)
 
 pub overflow_add-word : goal.overflow_add-word
 overflow_add-word c = search (rules, fits)
 
 pub loop-i-preserved : goal.loop-i-preserved
-loop-i-preserved c = (omega arith, search (rules, step))
+loop-i-preserved c = search (rules, step)

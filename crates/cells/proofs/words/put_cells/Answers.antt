@@ -30,7 +30,7 @@ unfolding cut
 end out all at width count i rest h e = let none : count - i ≡ 0 = omega arith in rw none at e
 
 pub loop-i-preserved : goal.loop-i-preserved
-loop-i-preserved c = (omega arith, simp length-set (omega arith), search (rules, next_step))
+loop-i-preserved c = (simp length-set (omega arith), search (rules, next_step))
 
 pub returns : goal.returns
 returns c = search (rules, end)
