@@ -137,13 +137,8 @@ impl MacrocellField {
         requires { x < macrocell_fields }
         ensures { result ≡ macrocell_field_at x }
     {
-        if x < 5 {
-            return MacrocellField::Alloc(x);
-        }
-        if 21 < x {
-            return MacrocellField::Hp(x - 22);
-        }
         match x {
+            0..5 => MacrocellField::Alloc(x),
             5 => MacrocellField::Inv,
             6 => MacrocellField::ImportUpAlloc,
             7 => MacrocellField::ImportDownAlloc,
@@ -160,7 +155,8 @@ impl MacrocellField {
             18 => MacrocellField::UimOeMux,
             19 => MacrocellField::UimOutInv,
             20 => MacrocellField::IobGnd,
-            _ => MacrocellField::IobSlew,
+            21 => MacrocellField::IobSlew,
+            _ => MacrocellField::Hp(x - 22),
         }
     }
 }

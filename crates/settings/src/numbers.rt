@@ -7,7 +7,7 @@ ghost use Rattle.settings.specs.Order.{size, start, count_of, number_of};
 ghost use Rattle.settings.specs.Order.{in_group, setting_of};
 ghost use Rattle.settings.specs.Order.Group.{literals, wire_ands, macrocell_settings, block_settings, globals};
 ghost use Rattle.settings.specs.declared.GlobalField.TheVariants.{Usercode};
-ghost use Rattle.settings.specs.declared.Setting.TheVariants.{Literal, WireAnd, Macrocell, Block, Global};
+ghost use Rattle.settings.specs.declared.Setting.TheVariants.{WireAnd, Global};
 
 use super::fields::{BLOCK_FIELDS, INPUTS, MACROCELL_FIELDS, MACROCELLS, TERMS, global_fields};
 use super::{
@@ -113,31 +113,6 @@ pub fn number_of(there: DeviceSetting) -> SettingNumber
     }
 }
 
-// The indices of a literal.
-#[derive(Clone, Copy, Debug, PartialEq, Eq)]
-pub struct LiteralIndices {
-    pub block: u32,
-    pub macrocell: u32,
-    pub term: u32,
-    pub input: u32,
-    pub polarity: Polarity,
-}
-
-// The indices of the literal at a position.
-fn literal_indices(d: KnownDevice, x: u32) -> LiteralIndices
-    ensures { Literal result.block result.macrocell result.term result.input result.polarity ≡ in_group d.device literals x }
-{
-    let in_term = x % TERM_LITERALS;
-    let polarity = Polarity::from_index(in_term % 2);
-    LiteralIndices {
-        block: x / BLOCK_LITERALS,
-        macrocell: x % BLOCK_LITERALS / MACROCELL_LITERALS,
-        term: x % MACROCELL_LITERALS / TERM_LITERALS,
-        input: in_term / 2,
-        polarity,
-    }
-}
-
 // The indices of a wire-AND.
 #[derive(Clone, Copy, Debug, PartialEq, Eq)]
 pub struct WireAndIndices {
@@ -196,13 +171,13 @@ pub fn wire_and_indices(d: KnownDevice, x: u32) -> WireAndIndices
 fn literal_at(d: KnownDevice, x: u32) -> Setting
     ensures { result ≡ in_group d.device literals x }
 {
-    let at = literal_indices(d, x);
-    let polarity = at.polarity;
+    let in_term = x % TERM_LITERALS;
+    let polarity = Polarity::from_index(in_term % 2);
     Setting::Literal {
-        block: at.block,
-        macrocell: at.macrocell,
-        term: at.term,
-        input: at.input,
+        block: x / BLOCK_LITERALS,
+        macrocell: x % BLOCK_LITERALS / MACROCELL_LITERALS,
+        term: x % MACROCELL_LITERALS / TERM_LITERALS,
+        input: in_term / 2,
         polarity,
     }
 }
