@@ -121,7 +121,8 @@ pub line_lined : (line : List ℕ) (more : List (List ℕ)) (image before middle
 line_lined line more image before middle after from here next p q = lined_append {lines = line ∷ []} {more = more} p q
 
 pub one_lined : (line : List ℕ) (image before after : List ℕ) (from next : Spot)
-    → after ≡ sets before from.at (line_text image from.fuse line) → next.fuse ≡ from.fuse + total line → next.at ≡ from.at + line_bytes (length line) (total line)
+    → after ≡ sets before from.at (line_text image from.fuse line)
+    → next.fuse ≡ from.fuse + total line → next.at ≡ from.at + line_bytes (length line) (total line)
     → Lined (line ∷ []) image before after from next
 unfolding lines_text pattern_fuses lines_bytes
 one_lined line image before after from next e f g =
