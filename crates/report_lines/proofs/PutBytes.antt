@@ -1,13 +1,13 @@
--- Laws of bytes put into a slice: a byte at a time, a digit at a time, and one part after another.
+-- Laws of bytes put into a slice: copied, a digit at a time, and one part after another.
 -- Assumes nothing.
 use mathlib.Core.Path.{◌≡◌, refl, sym, ◌∙◌, ap}
-use mathlib.Core.List.{List, [], ◌∷◌, ◌++◌}
+use mathlib.Core.List.{List, [], ◌∷◌, ◌++◌, append_assoc}
 use Prim.Native.Nat.{ℕ, zero, suc, ◌+◌, ◌-◌, ◌/◌, ◌%◌, ◌≤◌, ◌<◌}
 use native.Mathlib.Omega.{arith}
-use native.Mathlib.Nat.{add-zero, add_assoc}
-use native.Mathlib.Numerals.{add-one}
-use lib.ListN.{length, get_or, drop, replicate, set, drop_of_length-le, length-append}
-use lib.Seq.{sets, length-sets, set_comm, drop-cons}
+use native.Mathlib.Nat.{add_assoc}
+use lib.ListN.{length, take, replicate, set, length-append}
+use lib.Seq.{sets, sets-eq, length-sets, set_comm, drop-drop}
+use borrow.Rule.Slice.PartMut.{put_mid}
 use Rattle.cells.specs.Cells.{cut, number}
 use Rattle.cells.proofs.Laws.{sets_append}
 use Rattle.part.specs.Device.{blocks_of, fuse_count, decimal_digits}
@@ -20,18 +20,16 @@ use Rattle.jedec.proofs.Numbers.{digits_length}
 use Rattle.report_lines.specs.ReportLines.{word_blocks, word_fuses, word_zero, word_sum, line, count_lines}
 use Rattle.report_lines.specs.Put.{Put}
 
--- The loop over bytes: the bytes still to come, put now, give what all give.
-pub none_yet : (bytes out : List ℕ) (at : ℕ) → sets out (at + 0) (drop 0 bytes) ≡ sets out at bytes
-none_yet bytes out at = rw (add-zero at)
-
-pub one_more : (bytes out all : List ℕ) (at i : ℕ) → i < length bytes → sets out (at + i) (drop i bytes) ≡ all
-    → sets (set out (at + i) (get_or bytes i 0)) (at + (i + 1)) (drop (i + 1) bytes) ≡ all
-one_more bytes out all at i l e =
-    let next : at + (i + 1) ≡ suc (at + i) = omega arith in
-    rw (next, add-one i) (rw (drop-cons bytes i 0 l) at e)
-
-pub none_left : (bytes out all : List ℕ) (at i : ℕ) → length bytes ≤ i → sets out (at + i) (drop i bytes) ≡ all → out ≡ all
-none_left bytes out all at i l e = rw (drop_of_length-le bytes l) at e
+-- Bytes copied over a part of a slice are put there.
+pub copied : (out part bytes : List ℕ) (at : ℕ) → part ≡ bytes → at + length bytes ≤ length out
+    → Put out (put_mid at (at + length bytes - at) out part) at bytes (at + length bytes)
+copied out part bytes at e h =
+    let long : at + length bytes - at ≡ length bytes = omega arith in
+    record {
+      holds =
+          rw (e, long, drop-drop (length bytes) at out) (sym (sets-eq bytes out at h ∙ append_assoc (take at out) bytes _));
+      ends = refl;
+    }
 
 -- A store behind others may as well come first.
 set_behind : (l bytes : List ℕ) (at j b : ℕ) → at + length bytes ≤ j → set (sets l at bytes) j b ≡ sets (set l j b) at bytes

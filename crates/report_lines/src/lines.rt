@@ -1,26 +1,27 @@
 // The lines of a report, put into a slice: the counts of an image, and a refusal.
-// A function here may require that the lines fit the slice, and that the device is known and its image of its length.
-ghost use Rattle.std.specs.Prelude.{◌≡◌, true, ◌++◌, ◌+◌, ◌≤◌, length};
+// A function here may require that the lines fit the slice, and that an image has the length of its device.
+ghost use Rattle.std.specs.Prelude.{◌≡◌, ◌++◌, ◌+◌, ◌≤◌, length};
 ghost use Rattle.std.proofs.lemmas.List.Edits.{sets};
-ghost use Rattle.part.specs.Device.{known, fuse_count, image_bytes};
+ghost use Rattle.part.specs.Device.{fuse_count, image_bytes};
 ghost use Rattle.image.specs.Image.{zeros_below};
 ghost use Rattle.jedec.specs.Characters.{decimal_digit, digits_of, count_digits, four_hex};
 ghost use Rattle.report_lines.specs.ReportLines.{word_sum, line, count_lines, refusal_line};
 ghost use Rattle.report_lines.specs.Put.{Put};
 
-use part::{Device, NumberAnswer, geometry};
+use cells::words::put_cells;
+use image::bytes::sum_of;
+use jedec_lines::characters::four_hex;
+use part::KnownDevice;
+use part::geometry::decimal_digits;
 
 // Some bytes put into a slice from an index on; the index behind them.
 pub fn put(bytes: &[u8], out: &mut [u8], at: usize) -> usize
     requires { at + length bytes.now ≤ length out.old }
     ensures { Put out.old out.new at bytes.now result }
 {
-    let mut i: usize = 0;
-    while i < bytes.len() {
-        out[at + i] = bytes[i];
-        i += 1;
-    }
-    at + i
+    let end = at + bytes.len();
+    out[at..end].copy_from_slice(bytes);
+    end
 }
 
 // The last `count` decimal digits of a number.
@@ -29,9 +30,7 @@ fn put_digits(x: u32, count: usize, out: &mut [u8], at: usize)
     ensures { out.new ≡ sets out.old at (digits_of 10 decimal_digit count x) }
 {
     let mut rest = x;
-    let mut i = count;
-    while 0 < i {
-        i -= 1;
+    for i in (0..count).rev() {
         out[at + i] = b'0' + (rest % 10) as u8;
         rest = rest / 10;
     }
@@ -44,7 +43,7 @@ fn put_number(word: &[u8], x: u32, out: &mut [u8], at: usize) -> usize
         × (result ≤ at + length word.now + 7) }
 {
     let behind = put(word, out, at);
-    let digits = geometry::decimal_digits(x) as usize;
+    let digits = decimal_digits(x) as usize;
     put_digits(x, digits, out, behind);
     behind + digits
 }
@@ -68,16 +67,12 @@ pub fn put_refusal(number: u32, value: u32, out: &mut [u8]) -> usize
     put_line(b" at ", value, out, behind)
 }
 
-// The fuses at 0 of an image. The device is known and the image has its length, so the count is not refused.
-fn zeros_in(d: Device, image: &[u8]) -> u32
-    requires { (known d ≡ true) × (length image.now ≡ image_bytes d) }
-    ensures { result ≡ zeros_below image.now (fuse_count d) }
+// The fuses at 0 of an image. It has the length of the device, so the count is not refused.
+fn zeros_in(part: KnownDevice, image: &[u8]) -> u32
+    requires { length image.now ≡ image_bytes part.device }
+    ensures { result ≡ zeros_below image.now (fuse_count part.device) }
 {
-    let answer = image::zero_count(d, image);
-    match answer {
-        NumberAnswer::Number(zeros) => zeros,
-        NumberAnswer::Refused(_) => 0,
-    }
+    image::zero_count(part.device, image).unwrap()
 }
 
 // The line of a fuse sum.
@@ -86,18 +81,17 @@ fn put_sum(sum: u16, out: &mut [u8], at: usize) -> usize
     ensures { Put out.old out.new at (line word_sum (four_hex sum)) result }
 {
     let behind = put(b"sum ", out, at);
-    cells::words::put_cells(jedec_lines::characters::four_hex(sum), 8, 4, out, behind);
+    put_cells(four_hex(sum), 8, 4, out, behind);
     put(b"\n", out, behind + 4)
 }
 
 // The four lines of an image.
-pub fn put_counts(d: Device, image: &[u8], out: &mut [u8]) -> usize
-    requires { (known d ≡ true) × (length image.now ≡ image_bytes d) × (64 ≤ length out.old) }
-    ensures { Put out.old out.new 0 (count_lines d image.now) result }
+pub fn put_counts(part: KnownDevice, image: &[u8], out: &mut [u8]) -> usize
+    requires { (length image.now ≡ image_bytes part.device) × (64 ≤ length out.old) }
+    ensures { Put out.old out.new 0 (count_lines part.device image.now) result }
 {
-    let zeros = zeros_in(d, image);
-    let one = put_line(b"blocks ", geometry::blocks_of(d), out, 0);
-    let two = put_line(b"fuses ", geometry::fuse_count(d), out, one);
-    let three = put_line(b"zero ", zeros, out, two);
-    put_sum(image::bytes::sum_of(image), out, three)
+    let one = put_line(b"blocks ", part.blocks(), out, 0);
+    let two = put_line(b"fuses ", part.fuse_count(), out, one);
+    let three = put_line(b"zero ", zeros_in(part, image), out, two);
+    put_sum(sum_of(image), out, three)
 }
