@@ -1,8 +1,9 @@
 -- What the code knows of a setting of the device by its group, and the number of a setting as the code adds it up, which therefore fits.
 -- Stated once for every device.
-use mathlib.Core.Path.{◌≡◌}
+use mathlib.Core.Path.{◌≡◌, refl, ap}
 use mathlib.Core.Bool.{true}
-use Prim.Native.Nat.{ℕ, ◌+◌, ◌*◌, ◌/◌, ◌<◌, ◌≤◌}
+use mathlib.Core.List.{List, [], ◌∷◌}
+use Prim.Native.Nat.{ℕ, ◌+◌, ◌*◌, ◌/◌, ◌^◌, ◌<◌, ◌≤◌}
 use native.Mathlib.Omega.{arith}
 use borrow.Author.Tests.{ltb-true}
 use Rattle.part.specs.Device.{known, blocks_of}
@@ -12,8 +13,8 @@ use Rattle.part.proofs.Devices.{by_count, known_count}
 use Rattle.settings.specs.Fields.{foes, polarity_index, macrocell_fields, macrocell_index, block_index, global_fields}
 use Rattle.settings.specs.Fields.{global_index}
 use Rattle.settings.specs.Settings.{has_setting}
-use Rattle.settings.specs.Order.{start, count_of, number_of}
-use Rattle.settings.specs.Order.Group.{wire_ands, macrocell_settings, block_settings, globals}
+use Rattle.settings.specs.Order.{Group, group, indices, bounds, product, position, start, count_of, number_of}
+use Rattle.settings.specs.Order.Group.{literals, wire_ands, macrocell_settings, block_settings, globals}
 use Rattle.settings.specs.declared.Polarity.{Polarity}
 use Rattle.settings.specs.declared.MacrocellField.{MacrocellField}
 use Rattle.settings.specs.declared.BlockField.{BlockField}
@@ -21,7 +22,8 @@ use Rattle.settings.specs.declared.GlobalField.{GlobalField}
 use Rattle.settings.specs.declared.Setting.{Setting}
 use Rattle.settings.specs.declared.Setting.TheVariants.{Literal, WireAnd, Macrocell, Block, Global}
 use Rattle.settings.proofs.FieldIndices.{few}
-use Rattle.settings.proofs.Numbering.{number_below}
+use Rattle.settings.proofs.Order.{position_below}
+use Rattle.settings.proofs.Numbering.{within, number_below}
 
 -- What a setting of the device has, for the code, which knows its group by an equation.
 module _ (d : Device) (s : Setting) (h : has_setting d s ≡ true) where
@@ -54,37 +56,48 @@ count_small d k =
 pub whole : (x : ℕ) → x / 1 ≡ x
 whole x = omega arith
 
--- The number of a setting as the code adds it up, which therefore fits: with the first number of its group and its index as the code has
--- them.
-module _ (d : Device) (k : known d ≡ true) where
-  abbrev pub Numbered : ℕ → Setting → Type 0
-  Numbered r s = (r ≡ number_of d s) × (r ≤ 277456)
+-- The number of a setting as the code adds it up, which therefore fits: with the first number of its group and its position there.
+module _ (d : Device) (k : known d ≡ true) (s : Setting) (h : has_setting d s ≡ true) where
+  abbrev pub Numbered : ℕ → Type 0
+  Numbered r = (r ≡ number_of d s) × (r ≤ 277456)
 
-  numbered_small : (s : Setting) (r : ℕ) → has_setting d s ≡ true → r ≡ number_of d s → Numbered r s
-  numbered_small s r h e = (e, omega (arith, number_below d s h, count_small d k))
+  numbered_small : (r : ℕ) → r ≡ number_of d s → Numbered r
+  numbered_small r e = (e, omega (arith, number_below d s h, count_small d k))
 
-  module _ (s : Setting) (h : has_setting d s ≡ true) where
-    pub literal_number : (block j t l : ℕ) (p : Polarity) (i : ℕ) → s ≡ Literal block j t l p → i ≡ polarity_index p
-        → Numbered (block * 6480 + (j * 360 + (t * 72 + (l * 2 + i)))) s
-    unfolding number_of
-    literal_number block j t l p i e g = numbered_small s _ h (rw (e, g) (omega arith))
+  -- What the code's bounds and indices give.
+  pub record Placed (g : Group) (bs xs : List ℕ) : Type 0 where
+    pub some : 0 < product bs
+    pub fits : position bs xs < 2 ^ 32
+    pub number : (first at : ℕ) → first ≡ start d g → at ≡ position bs xs → Numbered (first + at)
 
-    pub wire_and_number : (i j t l n first : ℕ) → s ≡ WireAnd i j t l → n ≡ blocks_of d → first ≡ start d wire_ands
-        → Numbered (first + (i * (36 * (n * 18)) + (j * (n * 18) + (t * 18 + l)))) s
-    unfolding number_of
-    wire_and_number i j t l n first e g f = numbered_small s _ h (rw (e, f, g) (omega arith))
+  placed : (g : Group) (bs xs : List ℕ) → group s ≡ g → bs ≡ bounds d g → xs ≡ indices d s → Placed g bs xs
+  unfolding number_of
+  placed g bs xs eg eb ex =
+      let below = position_below (within d s h) in
+      let its = numbered_small (start d (group s) + position (bounds d (group s)) (indices d s)) refl in
+      rw (eb, ex, ← eg)
+      (record {
+        some = omega arith;
+        fits = omega arith;
+        number = λ first at e f. numbered_small _ (rw (e, f));
+      })
 
-    pub macrocell_number : (block m : ℕ) (f : MacrocellField) (i first : ℕ) → s ≡ Macrocell block m f
-        → i ≡ macrocell_index f → first ≡ start d macrocell_settings → Numbered (first + (block * 486 + (m * 27 + i))) s
-    unfolding number_of
-    macrocell_number block m f i first w g e = numbered_small s _ h (rw (w, e, g) (omega arith))
+  pub literal : (block j t l n i : ℕ) (p : Polarity) → s ≡ Literal block j t l p → n ≡ blocks_of d → i ≡ polarity_index p
+      → Placed literals (n ∷ 18 ∷ 5 ∷ 36 ∷ 2 ∷ []) (block ∷ j ∷ t ∷ l ∷ i ∷ [])
+  literal block j t l n i p w e f = placed literals _ _ (ap group w) (rw e) (rw (w, f))
 
-    pub block_number : (block : ℕ) (f : BlockField) (i first : ℕ) → s ≡ Block block f
-        → i ≡ block_index f → first ≡ start d block_settings → Numbered (first + (block * 6 + i)) s
-    unfolding number_of
-    block_number block f i first w g e = numbered_small s _ h (rw (w, e, g) (omega arith))
+  pub wire_and : (i j t l n : ℕ) → s ≡ WireAnd i j t l → n ≡ blocks_of d
+      → Placed wire_ands (n ∷ 36 ∷ n ∷ 18 ∷ []) (i ∷ j ∷ t ∷ l ∷ [])
+  wire_and i j t l n w e = placed wire_ands _ _ (ap group w) (rw e) (rw w)
 
-    pub global_number : (f : GlobalField) (i first : ℕ) → s ≡ Global f
-        → i ≡ global_index (foes d) f → first ≡ start d globals → Numbered (first + i) s
-    unfolding number_of
-    global_number f i first w g e = numbered_small s _ h (rw (w, e, g) (omega arith))
+  pub macrocell : (block m n i : ℕ) (f : MacrocellField) → s ≡ Macrocell block m f → n ≡ blocks_of d → i ≡ macrocell_index f
+      → Placed macrocell_settings (n ∷ 18 ∷ 27 ∷ []) (block ∷ m ∷ i ∷ [])
+  macrocell block m n i f w e g = placed macrocell_settings _ _ (ap group w) (rw e) (rw (w, g))
+
+  pub block : (b n i : ℕ) (f : BlockField) → s ≡ Block b f → n ≡ blocks_of d → i ≡ block_index f
+      → Placed block_settings (n ∷ 6 ∷ []) (b ∷ i ∷ [])
+  block b n i f w e g = placed block_settings _ _ (ap group w) (rw e) (rw (w, g))
+
+  pub global : (f : GlobalField) (i first : ℕ) → s ≡ Global f → i ≡ global_index (foes d) f → first ≡ start d globals → Numbered (first + i)
+  unfolding number_of
+  global f i first w g e = numbered_small _ (rw (w, e, g) (omega arith))

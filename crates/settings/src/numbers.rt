@@ -3,7 +3,7 @@
 ghost use Rattle.std.specs.Prelude.{◌≡◌, true, ◌+◌, ◌*◌, ◌/◌, ◌^◌, ◌<◌};
 ghost use Rattle.part.specs.Device.{blocks_of};
 ghost use Rattle.settings.specs.Fields.{macrocells};
-ghost use Rattle.settings.specs.Order.{size, start, count_of, number_of};
+ghost use Rattle.settings.specs.Order.{product, position, size, start, count_of, number_of};
 ghost use Rattle.settings.specs.Order.{in_group, setting_of};
 ghost use Rattle.settings.specs.Order.Group.{literals, wire_ands, macrocell_settings, block_settings, globals};
 ghost use Rattle.settings.specs.declared.GlobalField.TheVariants.{Usercode};
@@ -63,34 +63,47 @@ pub fn number_of_usercode(d: KnownDevice) -> u32
     count_of(d) - 1
 }
 
-// The number of a setting.
+// The position of indices in their group, the last fastest, by how many values each index has.
+fn position<const N: usize>(bounds: [u32; N], indices: [u32; N]) -> u32
+    requires some { 0 < product bounds }
+    requires fits { position bounds indices < 2 ^ 32 }
+    ensures { result ≡ position bounds.entry indices.entry }
+{
+    let mut before = 0;
+    for i in 0..N {
+        before = before * bounds[i] + indices[i];
+    }
+    before
+}
+
+// The number of a setting: the first number of its group, and its position there.
 pub fn number_of(there: DeviceSetting) -> SettingNumber
     ensures { result.0 ≡ number_of there.device.device there.setting }
 {
     let d = there.device;
-    match there.setting {
+    let n = d.blocks();
+    let number = match there.setting {
         Setting::Literal {
             block,
             macrocell,
             term,
             input,
             polarity,
-        } => {
-            let p = polarity.index();
-            let in_macrocell = term * TERM_LITERALS + (input * 2 + p);
-            SettingNumber(block * BLOCK_LITERALS + (macrocell * MACROCELL_LITERALS + in_macrocell))
-        }
+        } => position(
+            [n, MACROCELLS, TERMS, INPUTS, 2],
+            [block, macrocell, term, input, polarity.index()],
+        ),
         Setting::WireAnd {
             block,
             input,
             source,
             macrocell,
         } => {
-            let n = d.blocks();
-            let in_input = source * MACROCELLS + macrocell;
-            let in_block = input * (n * MACROCELLS) + in_input;
-            let first = start_of_wire_ands(d);
-            SettingNumber(first + (block * (INPUTS * (n * MACROCELLS)) + in_block))
+            let at = position(
+                [n, INPUTS, n, MACROCELLS],
+                [block, input, source, macrocell],
+            );
+            start_of_wire_ands(d) + at
         }
         Setting::Macrocell {
             block,
@@ -98,19 +111,16 @@ pub fn number_of(there: DeviceSetting) -> SettingNumber
             field,
         } => {
             let index = field.index();
-            let in_macrocells = macrocell * MACROCELL_FIELDS + index;
-            let first = start_of_macrocells(d);
-            SettingNumber(first + (block * (MACROCELLS * MACROCELL_FIELDS) + in_macrocells))
+            let at = position([n, MACROCELLS, MACROCELL_FIELDS], [block, macrocell, index]);
+            start_of_macrocells(d) + at
         }
         Setting::Block { block, field } => {
-            let index = field.index();
-            SettingNumber(start_of_blocks(d) + (block * BLOCK_FIELDS + index))
+            let at = position([n, BLOCK_FIELDS], [block, field.index()]);
+            start_of_blocks(d) + at
         }
-        Setting::Global(field) => {
-            let index = field.index(d.device);
-            SettingNumber(start_of_globals(d) + index)
-        }
-    }
+        Setting::Global(field) => start_of_globals(d) + field.index(d.device),
+    };
+    SettingNumber(number)
 }
 
 // The indices of a wire-AND.

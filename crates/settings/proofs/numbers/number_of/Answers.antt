@@ -1,97 +1,60 @@
--- `number_of` meets its contract: the number as the code adds it up is the definition's, and fits.
+-- `number_of` meets its contract: the first number of the group and the position there add up to the definition's number, which fits.
 -- Assumes nothing.
 use mathlib.Core.Path.{refl}
 use native.Mathlib.Omega.{arith}
-use Rattle.part.proofs.Devices.{blocks_small}
-use Rattle.settings.proofs.CodeNumbers.{literal_number, wire_and_number, macrocell_number, block_number, global_number}
+use borrow.Author.Rules.{rules}
+use Rattle.settings.proofs.CodeNumbers as its
 use Rattle.settings.proofs.numbers.number_of.Goals as goal
 
-pub overflow_mul-in_macrocell : goal.overflow_mul-in_macrocell
-overflow_mul-in_macrocell c = omega (arith, literal_number _ c.args.there.device.is_known _ c.args.there.is_there _ _ _ _ _ _ c.in-Literal.is c.index-p.ensures)
-
-pub overflow_mul-in_macrocell-in-Literal : goal.overflow_mul-in_macrocell-in-Literal
-overflow_mul-in_macrocell-in-Literal c = omega (arith, literal_number _ c.args.there.device.is_known _ c.args.there.is_there _ _ _ _ _ _ c.in-Literal.is c.index-p.ensures)
-
-pub overflow_add-in_macrocell : goal.overflow_add-in_macrocell
-overflow_add-in_macrocell c = omega (arith, literal_number _ c.args.there.device.is_known _ c.args.there.is_there _ _ _ _ _ _ c.in-Literal.is c.index-p.ensures)
-
-pub overflow_add-in_macrocell-in-Literal : goal.overflow_add-in_macrocell-in-Literal
-overflow_add-in_macrocell-in-Literal c = omega (arith, literal_number _ c.args.there.device.is_known _ c.args.there.is_there _ _ _ _ _ _ c.in-Literal.is c.index-p.ensures)
-
-pub overflow_mul-result : goal.overflow_mul-result
-overflow_mul-result c = omega (arith, literal_number _ c.args.there.device.is_known _ c.args.there.is_there _ _ _ _ _ _ c.in-Literal.is c.index-p.ensures)
-
-pub overflow_mul-result-in-Literal : goal.overflow_mul-result-in-Literal
-overflow_mul-result-in-Literal c = omega (arith, literal_number _ c.args.there.device.is_known _ c.args.there.is_there _ _ _ _ _ _ c.in-Literal.is c.index-p.ensures)
-
-pub overflow_add-result : goal.overflow_add-result
-overflow_add-result c = omega (arith, literal_number _ c.args.there.device.is_known _ c.args.there.is_there _ _ _ _ _ _ c.in-Literal.is c.index-p.ensures)
-
-pub overflow_add-result-in-Literal : goal.overflow_add-result-in-Literal
-overflow_add-result-in-Literal c = omega (arith, literal_number _ c.args.there.device.is_known _ c.args.there.is_there _ _ _ _ _ _ c.in-Literal.is c.index-p.ensures)
-
-pub overflow_mul-in_input : goal.overflow_mul-in_input
-overflow_mul-in_input c = omega (arith, wire_and_number _ c.args.there.device.is_known _ c.args.there.is_there _ _ _ _ _ _ c.in-WireAnd.is c.blocks-n.ensures refl)
-
-pub overflow_add-in_input : goal.overflow_add-in_input
-overflow_add-in_input c = omega (arith, wire_and_number _ c.args.there.device.is_known _ c.args.there.is_there _ _ _ _ _ _ c.in-WireAnd.is c.blocks-n.ensures refl)
-
-pub overflow_mul-in_block-in-WireAnd : goal.overflow_mul-in_block-in-WireAnd
-overflow_mul-in_block-in-WireAnd c = omega (arith, wire_and_number _ c.args.there.device.is_known _ c.args.there.is_there _ _ _ _ _ _ c.in-WireAnd.is c.blocks-n.ensures refl)
-
-pub overflow_add-in_block : goal.overflow_add-in_block
-overflow_add-in_block c = omega (arith, wire_and_number _ c.args.there.device.is_known _ c.args.there.is_there _ _ _ _ _ _ c.in-WireAnd.is c.blocks-n.ensures refl)
-
-pub overflow_mul-in_block : goal.overflow_mul-in_block
-overflow_mul-in_block c = omega (arith, c.blocks-n.ensures, blocks_small c.args.there.device.device c.args.there.device.is_known)
-
-pub overflow_mul-result-in-WireAnd-3 : goal.overflow_mul-result-in-WireAnd-3
-overflow_mul-result-in-WireAnd-3 c = omega (arith, wire_and_number _ c.args.there.device.is_known _ c.args.there.is_there _ _ _ _ _ _ c.in-WireAnd.is c.blocks-n.ensures c.start_of_wire_ands-first.ensures)
-
-pub overflow_add-result-in-WireAnd : goal.overflow_add-result-in-WireAnd
-overflow_add-result-in-WireAnd c = omega (arith, wire_and_number _ c.args.there.device.is_known _ c.args.there.is_there _ _ _ _ _ _ c.in-WireAnd.is c.blocks-n.ensures c.start_of_wire_ands-first.ensures)
-
-pub overflow_add-result-in-WireAnd-2 : goal.overflow_add-result-in-WireAnd-2
-overflow_add-result-in-WireAnd-2 c = omega (arith, wire_and_number _ c.args.there.device.is_known _ c.args.there.is_there _ _ _ _ _ _ c.in-WireAnd.is c.blocks-n.ensures c.start_of_wire_ands-first.ensures)
-
-pub overflow_mul-in_macrocells : goal.overflow_mul-in_macrocells
-overflow_mul-in_macrocells c = omega (arith, macrocell_number _ c.args.there.device.is_known _ c.args.there.is_there _ _ _ _ _ c.in-Macrocell.is c.index-index.ensures refl)
-
-pub overflow_add-in_macrocells : goal.overflow_add-in_macrocells
-overflow_add-in_macrocells c = omega (arith, macrocell_number _ c.args.there.device.is_known _ c.args.there.is_there _ _ _ _ _ c.in-Macrocell.is c.index-index.ensures refl)
-
-pub overflow_mul-result-in-Macrocell-2 : goal.overflow_mul-result-in-Macrocell-2
-overflow_mul-result-in-Macrocell-2 c = omega (arith, macrocell_number _ c.args.there.device.is_known _ c.args.there.is_there _ _ _ _ _ c.in-Macrocell.is c.index-index.ensures c.start_of_macrocells-first.ensures)
-
-pub overflow_add-result-in-Macrocell : goal.overflow_add-result-in-Macrocell
-overflow_add-result-in-Macrocell c = omega (arith, macrocell_number _ c.args.there.device.is_known _ c.args.there.is_there _ _ _ _ _ c.in-Macrocell.is c.index-index.ensures c.start_of_macrocells-first.ensures)
-
-pub overflow_add-result-in-Macrocell-2 : goal.overflow_add-result-in-Macrocell-2
-overflow_add-result-in-Macrocell-2 c = omega (arith, macrocell_number _ c.args.there.device.is_known _ c.args.there.is_there _ _ _ _ _ c.in-Macrocell.is c.index-index.ensures c.start_of_macrocells-first.ensures)
-
-pub overflow_mul-result-in-Block : goal.overflow_mul-result-in-Block
-overflow_mul-result-in-Block c = omega (arith, block_number _ c.args.there.device.is_known _ c.args.there.is_there _ _ _ _ c.in-Block.is c.index-index-in-Block.ensures c.start_of_blocks.ensures)
-
-pub overflow_add-result-in-Block : goal.overflow_add-result-in-Block
-overflow_add-result-in-Block c = omega (arith, block_number _ c.args.there.device.is_known _ c.args.there.is_there _ _ _ _ c.in-Block.is c.index-index-in-Block.ensures c.start_of_blocks.ensures)
-
-pub overflow_add-result-in-Block-2 : goal.overflow_add-result-in-Block-2
-overflow_add-result-in-Block-2 c = omega (arith, block_number _ c.args.there.device.is_known _ c.args.there.is_there _ _ _ _ c.in-Block.is c.index-index-in-Block.ensures c.start_of_blocks.ensures)
-
-pub overflow_add-result-in-Global : goal.overflow_add-result-in-Global
-overflow_add-result-in-Global c = omega (arith, global_number _ c.args.there.device.is_known _ c.args.there.is_there _ _ _ c.in-Global.is c.index-index-in-Global.ensures c.start_of_globals.ensures)
+pub position-number-requires : goal.position-number-requires
+position-number-requires c = let at = its.literal c.args.there.device.device c.args.there.device.is_known c.args.there.setting c.args.there.is_there _ _ _ _ _ _ _ c.in-Literal.is c.blocks-n.ensures c.index.ensures in search (rules, at.some, at.fits)
 
 pub returns-in-Literal : goal.returns-in-Literal
-returns-in-Literal c = (literal_number _ c.args.there.device.is_known _ c.args.there.is_there _ _ _ _ _ _ c.in-Literal.is c.index-p.ensures).0
+returns-in-Literal c =
+    let at = its.literal c.args.there.device.device c.args.there.device.is_known c.args.there.setting c.args.there.is_there _ _ _ _ _ _ _ c.in-Literal.is c.blocks-n.ensures c.index.ensures in
+    omega (arith, at.number 0 _ refl c.position-number.ensures)
+
+pub position-at-requires : goal.position-at-requires
+position-at-requires c = let at = its.wire_and c.args.there.device.device c.args.there.device.is_known c.args.there.setting c.args.there.is_there _ _ _ _ _ c.in-WireAnd.is c.blocks-n.ensures in search (rules, at.some, at.fits)
+
+pub overflow_add-number : goal.overflow_add-number
+overflow_add-number c =
+    let at = its.wire_and c.args.there.device.device c.args.there.device.is_known c.args.there.setting c.args.there.is_there _ _ _ _ _ c.in-WireAnd.is c.blocks-n.ensures in
+    omega (arith, at.number _ _ c.start_of_wire_ands.ensures c.position-at.ensures)
 
 pub returns-in-WireAnd : goal.returns-in-WireAnd
-returns-in-WireAnd c = (wire_and_number _ c.args.there.device.is_known _ c.args.there.is_there _ _ _ _ _ _ c.in-WireAnd.is c.blocks-n.ensures c.start_of_wire_ands-first.ensures).0
+returns-in-WireAnd c =
+    let at = its.wire_and c.args.there.device.device c.args.there.device.is_known c.args.there.setting c.args.there.is_there _ _ _ _ _ c.in-WireAnd.is c.blocks-n.ensures in
+    (at.number _ _ c.start_of_wire_ands.ensures c.position-at.ensures).0
+
+pub position-at-requires-in-Macrocell : goal.position-at-requires-in-Macrocell
+position-at-requires-in-Macrocell c = let at = its.macrocell c.args.there.device.device c.args.there.device.is_known c.args.there.setting c.args.there.is_there _ _ _ _ _ c.in-Macrocell.is c.blocks-n.ensures c.index-index.ensures in search (rules, at.some, at.fits)
+
+pub overflow_add-number-in-Macrocell : goal.overflow_add-number-in-Macrocell
+overflow_add-number-in-Macrocell c =
+    let at = its.macrocell c.args.there.device.device c.args.there.device.is_known c.args.there.setting c.args.there.is_there _ _ _ _ _ c.in-Macrocell.is c.blocks-n.ensures c.index-index.ensures in
+    omega (arith, at.number _ _ c.start_of_macrocells.ensures c.position-at-in-Macrocell.ensures)
 
 pub returns-in-Macrocell : goal.returns-in-Macrocell
-returns-in-Macrocell c = (macrocell_number _ c.args.there.device.is_known _ c.args.there.is_there _ _ _ _ _ c.in-Macrocell.is c.index-index.ensures c.start_of_macrocells-first.ensures).0
+returns-in-Macrocell c =
+    let at = its.macrocell c.args.there.device.device c.args.there.device.is_known c.args.there.setting c.args.there.is_there _ _ _ _ _ c.in-Macrocell.is c.blocks-n.ensures c.index-index.ensures in
+    (at.number _ _ c.start_of_macrocells.ensures c.position-at-in-Macrocell.ensures).0
+
+pub position-at-requires-in-Block : goal.position-at-requires-in-Block
+position-at-requires-in-Block c = let at = its.block c.args.there.device.device c.args.there.device.is_known c.args.there.setting c.args.there.is_there _ _ _ _ c.in-Block.is c.blocks-n.ensures c.index-in-Block.ensures in search (rules, at.some, at.fits)
+
+pub overflow_add-number-in-Block : goal.overflow_add-number-in-Block
+overflow_add-number-in-Block c =
+    let at = its.block c.args.there.device.device c.args.there.device.is_known c.args.there.setting c.args.there.is_there _ _ _ _ c.in-Block.is c.blocks-n.ensures c.index-in-Block.ensures in
+    omega (arith, at.number _ _ c.start_of_blocks.ensures c.position-at-in-Block.ensures)
 
 pub returns-in-Block : goal.returns-in-Block
-returns-in-Block c = (block_number _ c.args.there.device.is_known _ c.args.there.is_there _ _ _ _ c.in-Block.is c.index-index-in-Block.ensures c.start_of_blocks.ensures).0
+returns-in-Block c =
+    let at = its.block c.args.there.device.device c.args.there.device.is_known c.args.there.setting c.args.there.is_there _ _ _ _ c.in-Block.is c.blocks-n.ensures c.index-in-Block.ensures in
+    (at.number _ _ c.start_of_blocks.ensures c.position-at-in-Block.ensures).0
+
+pub overflow_add-number-in-Global : goal.overflow_add-number-in-Global
+overflow_add-number-in-Global c = omega (arith, its.global c.args.there.device.device c.args.there.device.is_known c.args.there.setting c.args.there.is_there _ _ _ c.in-Global.is c.index-in-Global.ensures c.start_of_globals.ensures)
 
 pub returns-in-Global : goal.returns-in-Global
-returns-in-Global c = (global_number _ c.args.there.device.is_known _ c.args.there.is_there _ _ _ c.in-Global.is c.index-index-in-Global.ensures c.start_of_globals.ensures).0
+returns-in-Global c = (its.global c.args.there.device.device c.args.there.device.is_known c.args.there.setting c.args.there.is_there _ _ _ c.in-Global.is c.index-in-Global.ensures c.start_of_globals.ensures).0
