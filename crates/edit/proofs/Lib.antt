@@ -9,4 +9,5 @@ pub mod ListedFuses
 pub mod OtherFuses
 pub mod ConversionsAccepted
 pub mod Demand
+pub mod Rules
 pub mod Laws

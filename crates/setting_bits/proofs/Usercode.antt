@@ -35,6 +35,11 @@ use Rattle.setting_bits.proofs.Steps.{place_inverse, bits_read, state_small}
 abbrev pub usercode : Setting
 usercode = Global Usercode
 
+-- Every device has it.
+pub usercode_there : (d : Device) → has_setting d usercode ≡ true
+unfolding has_setting
+usercode_there d = lt-ltb _ _ (omega arith)
+
 -- No other setting has 32 bits.
 module _ (d : Device) where
   pub the_usercode : (s : Setting) → has_setting d s ≡ true → bits_of s ≡ 32 → s ≡ usercode
@@ -54,9 +59,6 @@ module _ (d : Device) where
   the_usercode (Global Usercode) h e = refl
 
   module _ (s : Setting) (h : has_setting d s ≡ true) (width : ℕ) (e : width ≡ bits_of s) (q : width ≡ 32) where
-    pub has_usercode : has_setting d usercode ≡ true
-    has_usercode = rw (the_usercode s h (sym e ∙ q)) at h
-
     pub its_pattern : (layout : Layout) (bytes : List ℕ) → pattern_at d layout bytes usercode ≡ pattern_at d layout bytes s
     its_pattern layout bytes = rw (the_usercode s h (sym e ∙ q))
 
@@ -102,14 +104,15 @@ two_more f w =
     let double : 2 ^ suc w ≡ 2 * 2 ^ w = rw (← one-add w) (pow-add 2 1 w) in
     rw (double, add-mul (f w) (2 * f (suc w)) (2 ^ w), ← mul_assoc (f (suc w)) 2 (2 ^ w), mul_comm (f (suc w)) 2) (omega arith)
 
-module _ (d : Device) (k : known d ≡ true) (h : has_setting d usercode ≡ true) where
+module _ (d : Device) (k : known d ≡ true) where
   its_index : (b : ℕ) → b < 32 → byte_of d Readout (fuse_of d usercode b) ≡ (7 - b / 16) * 15 + (7 - b % 16 / 2)
   unfolding place_of
-  its_index b l = ap (λ (p : Place). index_of_byte d p.byte) (place_inverse d k usercode h b (in_usercode b l)) ∙ omega arith
+  its_index b l =
+      ap (λ (p : Place). index_of_byte d p.byte) (place_inverse d k usercode (usercode_there d) b (in_usercode b l)) ∙ omega arith
 
   its_bit : (b : ℕ) → b < 32 → bit_in d Readout (fuse_of d usercode b) ≡ 6 + b % 2
   unfolding place_of
-  its_bit b l = ap (λ (p : Place). p.bit) (place_inverse d k usercode h b (in_usercode b l))
+  its_bit b l = ap (λ (p : Place). p.bit) (place_inverse d k usercode (usercode_there d) b (in_usercode b l))
 
   module _ (pair : ℕ) (l : pair < 16) where
     -- The lower bit of a pair.
@@ -149,7 +152,8 @@ module _ (d : Device) (k : known d ≡ true) (h : has_setting d usercode ≡ tru
         (y : bit ≡ bit_in d layout (fuse_of d usercode (2 * pair))) where
       pub location_in : (bytes : List ℕ) → length bytes ≡ bytes_of d layout → index < length bytes
       location_in bytes e = rw (e, x)
-          (inside d layout (fuse_of d usercode (2 * pair)) k (fuse_below d k usercode h (2 * pair) (in_usercode (2 * pair) (omega arith))))
+          (inside d layout (fuse_of d usercode (2 * pair)) k
+          (fuse_below d k usercode (usercode_there d) (2 * pair) (in_usercode (2 * pair) (omega arith))))
 
       pub location_low : bit < 7
       location_low = rw y (low layout)

@@ -1,6 +1,6 @@
 -- The bits of a setting in an image or a readout: where a fuse stands, the states that stand there as a pattern,
 -- a pattern put there, and the lowest byte that has a bit above its width (document 01, refusal 6).
-use Rattle.std.specs.Prelude.{ℕ, zero, suc, ◌/◌, ◌%◌, Bool, true, false, cond, ◌&&◌, List, ltb}
+use Rattle.std.specs.Prelude.{ℕ, zero, suc, ◌/◌, ◌%◌, Bool, true, false, cond, ◌&&◌, List, ltb, Option, Some, None}
 use Rattle.part.specs.Device.{image_bytes, readout_bytes}
 use Rattle.part.specs.declared.Device.{Device}
 use Rattle.image.specs.Bits.{bit_of, bit_at, with_bit, gathered}
@@ -63,3 +63,7 @@ above_among d readout s (suc bit) =
 
 abbrev pub above_of : Device → List ℕ → Setting → ℕ
 above_of d readout s = above_among d readout s (bits_of s)
+
+-- An index below a length as an answer of the code: none where it is the length.
+abbrev pub below : (size index : ℕ) → Option ℕ
+below size index = cond (ltb index size) (Some index) None

@@ -1,70 +1,59 @@
 // The bits of a setting in an image or a readout: read, put in place, and the byte that has one above its width.
-// A function here may require that the device has the setting and the bytes their length.
+// A function here may require that the bytes have their length.
 ghost use Rattle.std.specs.Prelude.{◌≡◌, true, false, ℕ, ◌+◌, ◌*◌, ◌/◌, ◌^◌, ◌<◌, length, get_or};
-ghost use Rattle.part.specs.Device.{known};
 ghost use Rattle.part.specs.Place.{has_place, fuse_of_place, width_of};
 ghost use Rattle.image.specs.Bits.{bit_of};
-ghost use Rattle.settings.specs.Settings.{has_setting};
 ghost use Rattle.settings.specs.declared.GlobalField.TheVariants.{Usercode};
 ghost use Rattle.settings.specs.declared.Setting.TheVariants.{Global};
 ghost use Rattle.setting_places.specs.Places.{place_of, bits_of, fuse_of};
 ghost use Rattle.setting_bits.specs.declared.Layout.TheVariants.{Readout};
-ghost use Rattle.setting_bits.specs.SettingBits.{bytes_of, is_readout, byte_of, bit_in, with_state, pattern_at};
-ghost use Rattle.setting_bits.specs.SettingBits.{with_pattern, above_of};
+ghost use Rattle.setting_bits.specs.SettingBits.{bytes_of, byte_of, bit_in, with_state, pattern_at};
+ghost use Rattle.setting_bits.specs.SettingBits.{with_pattern, above_of, below};
 
 use super::Layout;
+use addresses::bytes::index_of_byte;
+use image::bytes::{bit_of, pair_of, set_bit, set_pair};
 use part::geometry::{MAIN_COLUMNS, MAIN_ROW_FUSES};
-use part::{Device, Place};
-use settings::Setting;
+use part::places::{fuse_of_place, width_of};
+use part::{KnownDevice, Place};
+use setting_places::places::{bits_of, place_of};
+use settings::{DeviceSetting, Setting};
 
 // A byte of an image or a readout, and one of its bits.
-#[derive(Clone, Copy)]
+#[derive(Clone, Copy, Debug, PartialEq, Eq)]
 pub struct Location {
     pub index: usize,
     pub bit: u32,
 }
 
 // The exact length of an image or a readout.
-pub fn bytes_of(d: Device, layout: Layout) -> usize
-    requires { known d ≡ true }
-    ensures { result ≡ bytes_of d layout }
+pub fn bytes_of(d: KnownDevice, layout: Layout) -> usize
+    ensures { result ≡ bytes_of d.device layout }
 {
     match layout {
-        Layout::Image => part::geometry::image_bytes(d) as usize,
-        Layout::Readout => part::geometry::readout_bytes(d) as usize,
-    }
-}
-
-// Whether bytes of a layout are a readout's, which may have bits above their width.
-pub fn is_readout(layout: Layout) -> bool
-    ensures { result ≡ is_readout layout }
-{
-    match layout {
-        Layout::Image => false,
-        Layout::Readout => true,
+        Layout::Image => d.image_bytes() as usize,
+        Layout::Readout => d.readout_bytes() as usize,
     }
 }
 
 // Where the fuse at a place stands.
-pub fn location_at(d: Device, layout: Layout, place: Place) -> Location
-    requires { (known d ≡ true) × (has_place d place ≡ true) }
-    ensures { (result.index ≡ byte_of d layout (fuse_of_place d place))
-        × (result.bit ≡ bit_in d layout (fuse_of_place d place)) }
+pub fn location_at(d: KnownDevice, layout: Layout, place: Place) -> Location
+    requires { has_place d.device place ≡ true }
+    ensures { (result.index ≡ byte_of d.device layout (fuse_of_place d.device place))
+        × (result.bit ≡ bit_in d.device layout (fuse_of_place d.device place)) }
 {
-    let byte = place.byte;
     match layout {
         Layout::Image => {
-            let fuse = part::places::fuse_of_place(d, place);
-            let index = (fuse.0 / 8) as usize;
+            let fuse = fuse_of_place(d, place);
             Location {
-                index,
+                index: (fuse.0 / 8) as usize,
                 bit: fuse.0 % 8,
             }
         }
         Layout::Readout => {
-            let index = addresses::bytes::index_of_byte(d, byte) as usize;
+            let index = index_of_byte(d, place.byte);
             Location {
-                index,
+                index: index as usize,
                 bit: place.bit,
             }
         }
@@ -72,24 +61,25 @@ pub fn location_at(d: Device, layout: Layout, place: Place) -> Location
 }
 
 // Where a bit of a setting stands.
-fn location_of(d: Device, layout: Layout, s: Setting, bit: u32) -> Location
-    requires { (known d ≡ true) × (has_setting d s ≡ true) × (bit < bits_of s) }
-    ensures { (result.index ≡ byte_of d layout (fuse_of d s bit)) × (result.bit ≡ bit_in d layout (fuse_of d s bit)) }
+fn location_of(layout: Layout, s: DeviceSetting, bit: u32) -> Location
+    requires { bit < bits_of s.setting }
+    ensures { (result.index ≡ byte_of s.device.device layout (fuse_of s.device.device s.setting bit))
+        × (result.bit ≡ bit_in s.device.device layout (fuse_of s.device.device s.setting bit)) }
 {
-    let place = setting_places::places::place_of(d, s, bit);
-    location_at(d, layout, place)
+    let place = place_of(s, bit);
+    location_at(s.device, layout, place)
 }
 
 // Where bits 2k and 2k+1 of USERCODE stand: bits 6 and 7 of a byte of block 0, rows 6 and 7. No
 // device has that byte elsewhere. The layout is tested and not matched: the compiler then makes one code for both.
-fn usercode_location(d: Device, layout: Layout, pair: u32) -> Location
-    requires { (known d ≡ true) × (has_setting d (Global Usercode) ≡ true) × (pair < 16) }
-    ensures { (result.index ≡ byte_of d layout (fuse_of d (Global Usercode) (2 * pair)))
-        × (result.bit ≡ bit_in d layout (fuse_of d (Global Usercode) (2 * pair))) }
+fn usercode_location(d: KnownDevice, layout: Layout, pair: u32) -> Location
+    requires { pair < 16 }
+    ensures { (result.index ≡ byte_of d.device layout (fuse_of d.device (Global Usercode) (2 * pair)))
+        × (result.bit ≡ bit_in d.device layout (fuse_of d.device (Global Usercode) (2 * pair))) }
 {
     let row = 7 - pair / 8;
     let column = 7 - pair % 8;
-    if is_readout(layout) {
+    if layout.is_readout() {
         return Location {
             index: (row * MAIN_COLUMNS + column) as usize,
             bit: 6,
@@ -103,90 +93,78 @@ fn usercode_location(d: Device, layout: Layout, pair: u32) -> Location
 }
 
 // The states of USERCODE's fuses, two at a time.
-pub fn usercode_at(d: Device, layout: Layout, bytes: &[u8]) -> u32
-    requires { (known d ≡ true) × (has_setting d (Global Usercode) ≡ true)
-        × (length bytes.now ≡ bytes_of d layout) }
-    ensures { result ≡ pattern_at d layout bytes.now (Global Usercode) }
+pub fn usercode_at(d: KnownDevice, layout: Layout, bytes: &[u8]) -> u32
+    requires { length bytes.now ≡ bytes_of d.device layout }
+    ensures { result ≡ pattern_at d.device layout bytes.now (Global Usercode) }
 {
     let mut pattern: u32 = 0;
-    let mut pair: u32 = 0;
-    while pair < 16 {
+    for pair in 0..16 {
         let location = usercode_location(d, layout, pair);
-        let states = image::bytes::pair_of(bytes, location.index, location.bit);
+        let states = pair_of(bytes, location.index, location.bit);
         pattern += states << (2 * pair);
-        pair += 1;
     }
     pattern
 }
 
 // Bits 2k and 2k+1 of USERCODE put in place.
-fn put_usercode_pair(d: Device, layout: Layout, bytes: &mut [u8], pattern: u32, pair: u32)
-    requires { (known d ≡ true) × (has_setting d (Global Usercode) ≡ true)
-        × (length bytes.old ≡ bytes_of d layout) × (pair < 16) }
-    ensures { bytes.new ≡ with_state d layout
-        (with_state d layout bytes.old (fuse_of d (Global Usercode) (2 * pair)) (bit_of pattern (2 * pair)))
-        (fuse_of d (Global Usercode) (2 * pair + 1)) (bit_of pattern (2 * pair + 1)) }
+fn put_usercode_pair(d: KnownDevice, layout: Layout, bytes: &mut [u8], pattern: u32, pair: u32)
+    requires { (length bytes.old ≡ bytes_of d.device layout) × (pair < 16) }
+    ensures { bytes.new ≡ with_state d.device layout (with_state d.device layout bytes.old
+        (fuse_of d.device (Global Usercode) (2 * pair)) (bit_of pattern (2 * pair)))
+        (fuse_of d.device (Global Usercode) (2 * pair + 1)) (bit_of pattern (2 * pair + 1)) }
 {
     let location = usercode_location(d, layout, pair);
     let states = (pattern >> (2 * pair)) % 4;
-    image::bytes::set_pair(bytes, location.index, location.bit, states);
+    set_pair(bytes, location.index, location.bit, states);
 }
 
 // The states of USERCODE's fuses put in place: row 7, then row 6. In a loop of one row, the compiler has
 // each byte and bit as constants.
-pub fn put_usercode(d: Device, layout: Layout, bytes: &mut [u8], pattern: u32)
-    requires { (known d ≡ true) × (has_setting d (Global Usercode) ≡ true)
-        × (length bytes.old ≡ bytes_of d layout) }
-    ensures { bytes.new ≡ with_pattern d layout bytes.old (Global Usercode) pattern }
+pub fn put_usercode(d: KnownDevice, layout: Layout, bytes: &mut [u8], pattern: u32)
+    requires { length bytes.old ≡ bytes_of d.device layout }
+    ensures { bytes.new ≡ with_pattern d.device layout bytes.old (Global Usercode) pattern }
 {
-    let mut pair: u32 = 0;
-    while pair < 8 {
+    for pair in 0..8 {
         put_usercode_pair(d, layout, bytes, pattern, pair);
-        pair += 1;
     }
-    while pair < 16 {
+    for pair in 8..16 {
         put_usercode_pair(d, layout, bytes, pattern, pair);
-        pair += 1;
     }
 }
 
 // The states of a setting's fuses, lowest bit first.
-pub fn pattern_at(d: Device, layout: Layout, bytes: &[u8], s: Setting) -> u32
-    requires { (known d ≡ true) × (has_setting d s ≡ true) × (length bytes.now ≡ bytes_of d layout) }
-    ensures { result ≡ pattern_at d layout bytes.now s }
+pub fn pattern_at(layout: Layout, bytes: &[u8], s: DeviceSetting) -> u32
+    requires { length bytes.now ≡ bytes_of s.device.device layout }
+    ensures { result ≡ pattern_at s.device.device layout bytes.now s.setting }
 {
-    let width = setting_places::places::bits_of(d, s);
+    let width = bits_of(s);
     // no other setting has so many bits
     if width == 32 {
-        return usercode_at(d, layout, bytes);
+        return usercode_at(s.device, layout, bytes);
     }
     let mut pattern: u32 = 0;
-    let mut bit: u32 = 0;
-    while bit < width {
-        let location = location_of(d, layout, s, bit);
-        let state = image::bytes::bit_of(bytes, location.index, location.bit);
+    for bit in 0..width {
+        let location = location_of(layout, s, bit);
+        let state = bit_of(bytes, location.index, location.bit);
         pattern += state << bit;
-        bit += 1;
     }
     pattern
 }
 
 // The states of a setting's fuses put in place.
-pub fn put_pattern(d: Device, layout: Layout, bytes: &mut [u8], s: Setting, pattern: u32)
-    requires { (known d ≡ true) × (has_setting d s ≡ true) × (length bytes.old ≡ bytes_of d layout) }
-    ensures { bytes.new ≡ with_pattern d layout bytes.old s pattern }
+pub fn put_pattern(layout: Layout, bytes: &mut [u8], s: DeviceSetting, pattern: u32)
+    requires { length bytes.old ≡ bytes_of s.device.device layout }
+    ensures { bytes.new ≡ with_pattern s.device.device layout bytes.old s.setting pattern }
 {
-    let last = setting_places::places::bits_of(d, s);
+    let last = bits_of(s);
     if last == 32 {
-        put_usercode(d, layout, bytes, pattern);
+        put_usercode(s.device, layout, bytes, pattern);
         return;
     }
-    let mut bit: u32 = 0;
-    while bit < last {
-        let location = location_of(d, layout, s, bit);
+    for bit in 0..last {
+        let location = location_of(layout, s, bit);
         let state = (pattern >> bit) % 2;
-        image::bytes::set_bit(bytes, location.index, location.bit, state);
-        bit += 1;
+        set_bit(bytes, location.index, location.bit, state);
     }
 }
 
@@ -200,12 +178,11 @@ pub fn above_width(bytes: &[u8], index: usize, width: u32) -> u32
 
 // Whether every byte that holds the setting has 8 bits. Literals and wire-ANDs, of one bit
 // each, lie in narrower ones too.
-fn in_whole_bytes(d: Device, s: Setting) -> bool
-    requires { (known d ≡ true) × (has_setting d s ≡ true) }
-    ensures { (result ≡ true → (b : ℕ) → b < bits_of s → width_of (place_of s b).byte ≡ 8)
-        × (result ≡ false → bits_of s ≡ 1) }
+fn in_whole_bytes(s: DeviceSetting) -> bool
+    ensures { (result ≡ true → (b : ℕ) → b < bits_of s.setting → width_of (place_of s.setting b).byte ≡ 8)
+        × (result ≡ false → bits_of s.setting ≡ 1) }
 {
-    match s {
+    match s.setting {
         Setting::Literal { .. } => false,
         Setting::WireAnd { .. } => false,
         Setting::Macrocell { .. } => true,
@@ -214,21 +191,16 @@ fn in_whole_bytes(d: Device, s: Setting) -> bool
     }
 }
 
-// The lowest index of a readout byte that holds the setting and has a bit above its width, or the length.
-pub fn above_of(d: Device, readout: &[u8], s: Setting) -> usize
-    requires { (known d ≡ true) × (has_setting d s ≡ true) × (length readout.now ≡ bytes_of d Readout) }
-    ensures { result ≡ above_of d readout.now s }
+// The lowest index of a readout byte that holds the setting and has a bit above its width.
+pub fn above_of(readout: &[u8], s: DeviceSetting) -> Option<usize>
+    requires { length readout.now ≡ bytes_of s.device.device Readout }
+    ensures { result ≡ below (length readout.now) (above_of s.device.device readout.now s.setting) }
 {
-    if in_whole_bytes(d, s) {
-        return readout.len();
+    if in_whole_bytes(s) {
+        return None;
     }
-    let place = setting_places::places::place_of(d, s, 0);
-    let byte = place.byte;
-    let index = addresses::bytes::index_of_byte(d, byte) as usize;
-    let width = part::places::width_of(byte);
-    let above = above_width(readout, index, width);
-    if above != 0 {
-        return index;
-    }
-    readout.len()
+    let byte = place_of(s, 0).byte;
+    let index = index_of_byte(s.device, byte) as usize;
+    let above = above_width(readout, index, width_of(byte));
+    (above != 0).then_some(index)
 }

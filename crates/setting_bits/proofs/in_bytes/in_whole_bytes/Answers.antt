@@ -20,7 +20,6 @@ returns-in-Block c = ((λ e. of_block_lem _ _ _ c.in-Block.is), (λ e. cc))
 
 pub returns-in-Global : goal.returns-in-Global
 returns-in-Global c = (
-  (λ e. of_global c.args.d c.requires.0 c.args.s c.requires.1 _
-      c.in-Global.is),
+  (λ e. of_global c.args.s.device.device c.args.s.device.is_known c.args.s.setting c.args.s.is_there _ c.in-Global.is),
   (λ e. cc),
 )

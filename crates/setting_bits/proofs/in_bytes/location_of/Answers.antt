@@ -30,4 +30,4 @@ location_at-requires c = search (rules, there)
 
 pub returns : goal.returns
 returns c =
-    same c.args.d c.args.s c.args.bit _ c.place_of-place.ensures c.args.layout _ _ c.location_at.ensures
+    same c.args.s.device.device c.args.s.setting c.args.bit _ c.place_of-place.ensures c.args.layout _ _ c.location_at.ensures

@@ -2,7 +2,7 @@
 -- Assumes nothing.
 use mathlib.Core.Path.{◌≡◌, refl, ◌∙◌, ap, ap₂}
 use mathlib.Core.Bool.{true}
-use Prim.Native.Nat.{ℕ, ◌+◌, ◌*◌, ◌-◌, ◌%◌, ◌^◌, ◌<◌, ◌≤◌}
+use Prim.Native.Nat.{ℕ, ◌+◌, ◌*◌, ◌%◌, ◌^◌, ◌<◌, ◌≤◌}
 use native.Mathlib.Omega.{arith}
 use Rattle.part.specs.Device.{known}
 use Rattle.part.specs.declared.Device.{Device}
@@ -18,7 +18,7 @@ use Rattle.setting_bits.specs.declared.Layout.{Layout}
 use Rattle.setting_bits.specs.SettingBits.{bytes_of, byte_of, bit_in, state_of, pattern_at}
 use Rattle.setting_bits.proofs.Edits.{inside, fuse_below}
 use Rattle.setting_bits.proofs.Steps.{bits_few, bit_small, bits_read, read_more}
-use Rattle.setting_bits.proofs.Usercode.{usercode, has_usercode, its_pattern}
+use Rattle.setting_bits.proofs.Usercode.{usercode, its_pattern}
 use borrow.Author.Rules.{rules}
 use Rattle.setting_bits.proofs.in_bytes.pattern_at.Invariants.{Read}
 use Rattle.setting_bits.proofs.in_bytes.pattern_at.Goals as goal
@@ -29,7 +29,7 @@ of_usercode d layout bytes s width r h e q g = g ∙ its_pattern d s h width e q
 
 start : (d : Device) (layout : Layout) (bytes : List ℕ) (s : Setting) (width : ℕ) → width ≡ bits_of s → Read d layout bytes s width 0 0
 unfolding gathered
-start d layout bytes s width e = record { all = e; upto = omega arith; so_far = refl }
+start d layout bytes s width e = record { all = e; so_far = refl }
 
 module _ (d : Device) (layout : Layout) (bytes : List ℕ) (s : Setting) (width pattern bit : ℕ)
     (r : Read d layout bytes s width pattern bit) where
@@ -55,14 +55,11 @@ module _ (d : Device) (layout : Layout) (bytes : List ℕ) (s : Setting) (width 
     fits = record { fits = (read_more d layout bytes s pattern state bit (few l h) r.so_far e).1 }
 
     more : Read d layout bytes s width (pattern + state * 2 ^ bit % 2 ^ 32) (bit + 1)
-    more = record { all = r.all; upto = omega arith; so_far = (read_more d layout bytes s pattern state bit (few l h) r.so_far e).0 }
+    more = record { all = r.all; so_far = (read_more d layout bytes s pattern state bit (few l h) r.so_far e).0 }
 
-  end : width ≤ bit → pattern ≡ pattern_at d layout bytes s
+  end : width ≤ bit → bit ≤ width → pattern ≡ pattern_at d layout bytes s
   unfolding pattern_at
-  end l = let last : bit ≡ bits_of s = omega (arith, r.all, r.upto) in r.so_far ∙ ap (bits_read d layout bytes s) last
-
-pub usercode_at-requires : goal.usercode_at-requires
-usercode_at-requires c = (search rules, search (rules, has_usercode), search rules)
+  end l m = let last : bit ≡ bits_of s = omega (arith, r.all) in r.so_far ∙ ap (bits_read d layout bytes s) last
 
 pub returns-then-width-eq32 : goal.returns-then-width-eq32
 returns-then-width-eq32 c = search (rules, of_usercode)

@@ -3,7 +3,7 @@
 use mathlib.Core.Path.{◌≡◌, refl, sym, ◌∙◌, ap}
 use mathlib.Core.Bool.{true}
 use mathlib.Core.List.{List}
-use Prim.Native.Nat.{ℕ, suc, ◌+◌, ◌-◌, ◌/◌, ◌%◌, ◌^◌, ◌<◌, ◌≤◌}
+use Prim.Native.Nat.{ℕ, suc, ◌+◌, ◌/◌, ◌%◌, ◌^◌, ◌<◌, ◌≤◌}
 use native.Mathlib.Omega.{arith}
 use lib.ListN.{length}
 use Rattle.part.specs.Device.{known}
@@ -17,7 +17,7 @@ use Rattle.setting_bits.specs.declared.Layout.{Layout}
 use Rattle.setting_bits.specs.SettingBits.{bytes_of, byte_of, bit_in, with_bits, with_pattern}
 use Rattle.setting_bits.proofs.Edits.{inside, fuse_below, set_length}
 use Rattle.setting_bits.proofs.Steps.{bits_few, bit_small}
-use Rattle.setting_bits.proofs.Usercode.{usercode, has_usercode, its_bytes}
+use Rattle.setting_bits.proofs.Usercode.{usercode, its_bytes}
 use borrow.Author.Rules.{rules}
 use Rattle.setting_bits.proofs.in_bytes.put_pattern.Invariants.{Put}
 use Rattle.setting_bits.proofs.in_bytes.put_pattern.Goals as goal
@@ -34,7 +34,7 @@ module _ (d : Device) (layout : Layout) (before : List ℕ) (s : Setting) (patte
 start : (d : Device) (layout : Layout) (before : List ℕ) (s : Setting) (pattern width : ℕ)
     → length before ≡ bytes_of d layout → width ≡ bits_of s → Put d layout before s pattern width before 0
 unfolding with_bits
-start d layout before s pattern width e g = record { all = g; upto = omega arith; size = e; so_far = refl }
+start d layout before s pattern width e g = record { all = g; size = e; so_far = refl }
 
 module _ (d : Device) (layout : Layout) (before : List ℕ) (s : Setting) (pattern width : ℕ) (bytes : List ℕ) (bit : ℕ)
     (r : Put d layout before s pattern width bytes bit) where
@@ -59,7 +59,6 @@ module _ (d : Device) (layout : Layout) (before : List ℕ) (s : Setting) (patte
       let next : bit + 1 ≡ suc bit = omega arith in
       record {
         all = r.all;
-        upto = omega arith;
         size = rw g (with_length bytes index b (pattern / 2 ^ bit % 2) (index_in index k h l x) (omega arith) ∙ r.size);
         so_far = rw (next, ← r.so_far, ← x, ← y) g;
       }
@@ -67,12 +66,9 @@ module _ (d : Device) (layout : Layout) (before : List ℕ) (s : Setting) (patte
   kept : length before ≡ bytes_of d layout → length bytes ≡ length before
   kept e = r.size ∙ sym e
 
-  end : width ≤ bit → bytes ≡ with_pattern d layout before s pattern
+  end : width ≤ bit → bit ≤ width → bytes ≡ with_pattern d layout before s pattern
   unfolding with_pattern
-  end l = let last : bit ≡ bits_of s = omega (arith, r.all, r.upto) in r.so_far ∙ ap (with_bits d layout before s pattern) last
-
-pub put_usercode-requires : goal.put_usercode-requires
-put_usercode-requires c = (search rules, search (rules, has_usercode), search rules)
+  end l m = let last : bit ≡ bits_of s = omega (arith, r.all) in r.so_far ∙ ap (with_bits d layout before s pattern) last
 
 pub returns-then-last-eq32 : goal.returns-then-last-eq32
 returns-then-last-eq32 c = search (rules, of_usercode)

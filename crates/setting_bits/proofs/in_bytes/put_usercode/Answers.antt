@@ -2,7 +2,7 @@
 -- Assumes nothing.
 use mathlib.Core.Path.{◌≡◌, refl, ◌∙◌, ap}
 use mathlib.Core.List.{List}
-use Prim.Native.Nat.{ℕ, ◌+◌, ◌*◌, ◌-◌, ◌<◌, ◌≤◌}
+use Prim.Native.Nat.{ℕ, ◌+◌, ◌*◌, ◌<◌, ◌≤◌}
 use native.Mathlib.Omega.{arith}
 use lib.ListN.{length}
 use Rattle.part.specs.declared.Device.{Device}
@@ -20,23 +20,22 @@ module _ (d : Device) (layout : Layout) (pattern first : ℕ) (entry bytes : Lis
       → Put d layout pattern first entry after (pair + 1)
   more after l same g =
       record {
-        upto = omega arith;
         size = same ∙ r.size;
         so_far = λ before q. two_put d layout before bytes after pattern pair (r.so_far before q) g;
       }
 
-  row_end : first + 8 ≤ pair → (before : List ℕ) → entry ≡ with_bits d layout before usercode pattern (2 * first)
+  row_end : first + 8 ≤ pair → pair ≤ first + 8 → (before : List ℕ) → entry ≡ with_bits d layout before usercode pattern (2 * first)
       → bytes ≡ with_bits d layout before usercode pattern (2 * (first + 8))
-  row_end l before q =
-      let last : 2 * pair ≡ 2 * (first + 8) = omega (arith, r.upto) in
+  row_end l m before q =
+      let last : 2 * pair ≡ 2 * (first + 8) = omega arith in
       r.so_far before q ∙ ap (with_bits d layout before usercode pattern) last
 
 end : (d : Device) (layout : Layout) (pattern : ℕ) (before half after : List ℕ) (pair last : ℕ)
-    → Put d layout pattern 0 before half pair → 8 ≤ pair
-    → Put d layout pattern 8 half after last → 16 ≤ last → after ≡ with_pattern d layout before usercode pattern
+    → Put d layout pattern 0 before half pair → 8 ≤ pair → pair ≤ 8
+    → Put d layout pattern 8 half after last → 16 ≤ last → last ≤ 16 → after ≡ with_pattern d layout before usercode pattern
 unfolding with_pattern with_bits bits_of
-end d layout pattern before half after pair last low l high m =
-    row_end d layout pattern 8 half after last high m before (row_end d layout pattern 0 before half pair low l before refl)
+end d layout pattern before half after pair last low l l2 high m m2 =
+    row_end d layout pattern 8 half after last high m m2 before (row_end d layout pattern 0 before half pair low l l2 before refl)
 
 pub loop-pair-preserved : goal.loop-pair-preserved
 loop-pair-preserved c = search (rules, more)

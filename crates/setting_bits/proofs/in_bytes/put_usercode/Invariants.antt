@@ -2,7 +2,7 @@
 -- Assumes nothing.
 use mathlib.Core.Path.{◌≡◌}
 use mathlib.Core.List.{List}
-use Prim.Native.Nat.{ℕ, ◌+◌, ◌*◌, ◌-◌, ◌≤◌}
+use Prim.Native.Nat.{ℕ, ◌*◌}
 use lib.ListN.{length}
 use Rattle.part.specs.declared.Device.{Device}
 use Rattle.setting_bits.specs.declared.Layout.{Layout}
@@ -12,19 +12,12 @@ use Rattle.setting_bits.proofs.in_bytes.put_usercode.Given as goal
 
 -- The pairs of a row put in place so far, from its first on: with all before that in place, so are these.
 pub record Put (d : Device) (layout : Layout) (pattern first : ℕ) (entry bytes : List ℕ) (pair : ℕ) : Type 0 where
-  pub upto : pair ≤ first + 8
   pub size : length bytes ≡ bytes_of d layout
   pub so_far : (before : List ℕ) → entry ≡ with_bits d layout before usercode pattern (2 * first)
       → bytes ≡ with_bits d layout before usercode pattern (2 * pair)
 
 abbrev pub invariant-loop-pair : goal.invariant-loop-pair
-invariant-loop-pair l = Put l.d l.layout l.pattern 0 l.initial.bytes l.bytes l.pair
-
-abbrev pub decreases-loop-pair : goal.decreases-loop-pair
-decreases-loop-pair l = 8 - l.pair
+invariant-loop-pair l = Put l.d.device l.layout l.pattern 0 l.initial.bytes l.bytes l.pair
 
 abbrev pub invariant-loop-pair-2 : goal.invariant-loop-pair-2
-invariant-loop-pair-2 l = Put l.d l.layout l.pattern 8 l.initial.bytes l.bytes l.pair
-
-abbrev pub decreases-loop-pair-2 : goal.decreases-loop-pair-2
-decreases-loop-pair-2 l = 16 - l.pair
+invariant-loop-pair-2 l = Put l.d.device l.layout l.pattern 8 l.initial.bytes l.bytes l.pair

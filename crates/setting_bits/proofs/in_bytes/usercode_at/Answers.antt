@@ -3,7 +3,7 @@
 use mathlib.Core.Path.{◌≡◌, refl, ◌∙◌, ap}
 use mathlib.Core.Bool.{true}
 use mathlib.Core.List.{List}
-use Prim.Native.Nat.{ℕ, ◌+◌, ◌*◌, ◌-◌, ◌%◌, ◌^◌, ◌<◌, ◌≤◌}
+use Prim.Native.Nat.{ℕ, ◌+◌, ◌*◌, ◌%◌, ◌^◌, ◌<◌, ◌≤◌}
 use native.Mathlib.Omega.{arith}
 use mir.Syntax.{w32}
 use mir.Val.{Fits}
@@ -11,7 +11,6 @@ use lib.ListN.{length}
 use Rattle.part.specs.Device.{known}
 use Rattle.part.specs.declared.Device.{Device}
 use Rattle.image.specs.Bits.{bit_at, gathered}
-use Rattle.settings.specs.Settings.{has_setting}
 use Rattle.setting_places.specs.Places.{bits_of, fuse_of}
 use Rattle.setting_bits.specs.declared.Layout.{Layout}
 use Rattle.setting_bits.specs.SettingBits.{bytes_of, byte_of, bit_in, pattern_at}
@@ -23,27 +22,27 @@ use Rattle.setting_bits.proofs.in_bytes.usercode_at.Goals as goal
 
 start : (d : Device) (layout : Layout) (bytes : List ℕ) → Read d layout bytes 0 0
 unfolding gathered
-start d layout bytes = record { upto = omega arith; so_far = refl }
+start d layout bytes = record { so_far = refl }
 
 module _ (d : Device) (layout : Layout) (bytes : List ℕ) (pattern pair : ℕ) (r : Read d layout bytes pattern pair) where
-  module _ (k : known d ≡ true) (h : has_setting d usercode ≡ true) (l : pair < 16) (index bit : ℕ)
+  module _ (k : known d ≡ true) (l : pair < 16) (index bit : ℕ)
       (x : index ≡ byte_of d layout (fuse_of d usercode (2 * pair))) (y : bit ≡ bit_in d layout (fuse_of d usercode (2 * pair))) where
     index_in : length bytes ≡ bytes_of d layout → index < length bytes
-    index_in e = location_in d k h pair l layout index bit x y bytes e
+    index_in e = location_in d k pair l layout index bit x y bytes e
 
     bit_in_lem : bit < 7
-    bit_in_lem = location_low d k h pair l layout index bit x y
+    bit_in_lem = location_low d k pair l layout index bit x y
 
     module _ (states : ℕ) (g : states ≡ bit_at bytes index bit + 2 * bit_at bytes index (bit + 1)) where
       fits : Fits w32 (pattern + states * 2 ^ (2 * pair) % 2 ^ 32)
-      fits = record { fits = (pair_more d k h pair l layout index bit x y bytes pattern states r.so_far g).1 }
+      fits = record { fits = (pair_more d k pair l layout index bit x y bytes pattern states r.so_far g).1 }
 
       more : Read d layout bytes (pattern + states * 2 ^ (2 * pair) % 2 ^ 32) (pair + 1)
-      more = record { upto = omega arith; so_far = (pair_more d k h pair l layout index bit x y bytes pattern states r.so_far g).0 }
+      more = record { so_far = (pair_more d k pair l layout index bit x y bytes pattern states r.so_far g).0 }
 
-  end : 16 ≤ pair → pattern ≡ pattern_at d layout bytes usercode
+  end : 16 ≤ pair → pair ≤ 16 → pattern ≡ pattern_at d layout bytes usercode
   unfolding pattern_at bits_of
-  end l = let last : 2 * pair ≡ 32 = omega (arith, r.upto) in r.so_far ∙ ap (bits_read d layout bytes usercode) last
+  end l m = let last : 2 * pair ≡ 32 = omega arith in r.so_far ∙ ap (bits_read d layout bytes usercode) last
 
 pub loop-pair-init : goal.loop-pair-init
 loop-pair-init c = search (rules, start)

@@ -5,7 +5,6 @@ use mathlib.Core.Bool.{Bool, true, false, true≢false}
 use Prim.Native.Nat.{ℕ, ◌+◌, ◌*◌, ◌/◌, ◌%◌, ◌<◌}
 use Rattle.part.specs.Device.{known}
 use Rattle.part.specs.declared.Device.{Device}
-use Rattle.settings.specs.Settings.{has_setting}
 use Rattle.setting_places.specs.Places.{fuse_of}
 use Rattle.setting_bits.specs.declared.Layout.{Layout}
 use Rattle.setting_bits.specs.declared.Layout.TheVariants.{Image, Readout}
@@ -23,18 +22,18 @@ an_image : (layout : Layout) (t : Bool) → t ≡ is_readout layout → t ≡ fa
 an_image Image t e h = refl
 an_image Readout t e h = absurd (true≢false (sym e ∙ h))
 
-module _ (d : Device) (layout : Layout) (pair : ℕ) (k : known d ≡ true) (h : has_setting d usercode ≡ true) (l : pair < 16) where
+module _ (d : Device) (layout : Layout) (pair : ℕ) (k : known d ≡ true) (l : pair < 16) where
   readout_byte : layout ≡ Readout → row_of pair * 15 + column_of pair ≡ byte_of d layout (fuse_of d usercode (2 * pair))
-  readout_byte f = rw f (in_readout d k h pair l).0
+  readout_byte f = rw f (in_readout d k pair l).0
 
   readout_bit : layout ≡ Readout → 6 ≡ bit_in d layout (fuse_of d usercode (2 * pair))
-  readout_bit f = rw f (in_readout d k h pair l).1
+  readout_bit f = rw f (in_readout d k pair l).1
 
   image_byte : layout ≡ Image → (row_of pair * 108 + column_of pair * 8 + 6) / 8 ≡ byte_of d layout (fuse_of d usercode (2 * pair))
-  image_byte f = rw (f, in_image d k h pair l)
+  image_byte f = rw (f, in_image d k pair l)
 
   image_bit : layout ≡ Image → (row_of pair * 108 + column_of pair * 8 + 6) % 8 ≡ bit_in d layout (fuse_of d usercode (2 * pair))
-  image_bit f = rw (f, in_image d k h pair l)
+  image_bit f = rw (f, in_image d k pair l)
 
 pub returns-then-is_readout : goal.returns-then-is_readout
 returns-then-is_readout c = (search (rules, readout_byte, a_readout), search (rules, readout_bit, a_readout))
