@@ -1,11 +1,10 @@
 -- How long a name can be, whatever its numbers: a number has at most seven digits.
 -- Assumes nothing.
-use mathlib.Core.Path.{◌≡◌, ◌∙◌, ap}
 use mathlib.Core.Bool.{Bool, true, false, cond}
-use mathlib.Core.List.{List, [], ◌∷◌, ◌++◌}
+use mathlib.Core.List.{[], ◌++◌}
 use mathlib.Core.Option.{Option}
 use mathlib.Core.Option.Option.{none, some}
-use Prim.Native.Nat.{ℕ, ◌+◌, ◌≤◌, ◌<◌}
+use Prim.Native.Nat.{ℕ, ◌≤◌}
 use native.Mathlib.Omega.{arith}
 use lib.Dec.{ltb}
 use lib.ListN.{length, length-append}
@@ -29,7 +28,7 @@ use Rattle.fuse_settings.specs.Back.{setting_at}
 use Rattle.jedec.specs.Characters.{decimal_digit, count_digits}
 use Rattle.jedec.specs.Quoted.{chars}
 use Rattle.jedec.proofs.Numbers.{digits_length}
-use Rattle.names.specs.Names.{Part, polarity_name, part_text, spaced, joined, parts_of, macrocell_parts, block_field_name, global_field_name}
+use Rattle.names.specs.Names.{polarity_name, spaced, joined, parts_of, macrocell_parts, block_field_name, global_field_name}
 use Rattle.names.specs.Names.{setting_name, bit_text, name_of, name_or, name_at}
 
 pub digits_few : (x : ℕ) → length (count_digits x) ≤ 7

@@ -3,7 +3,7 @@
 use mathlib.Core.Path.{◌≡◌, refl, sym, ◌∙◌, ap, ap₂}
 use mathlib.Core.Bool.{true}
 use mathlib.Core.List.{List, [], ◌∷◌, ◌++◌, append_assoc, append-nil}
-use Prim.Native.Nat.{ℕ, ◌+◌, ◌≤◌, ◌<◌}
+use Prim.Native.Nat.{ℕ, ◌≤◌, ◌<◌}
 use native.Mathlib.Omega.{arith}
 use lib.ListN.{length, take, drop, length-drop, take-append-drop}
 use lib.Seq.{take_all, drop-drop}
@@ -24,14 +24,18 @@ use Rattle.settings.specs.declared.GlobalField.TheVariants.{FclkInv, FoeInv, Fcl
 use Rattle.settings.specs.declared.Setting.{Setting}
 use Rattle.settings.specs.declared.Setting.TheVariants.{Literal, WireAnd, Macrocell, Block, Global}
 use Rattle.settings.proofs.FieldIndices.{by_class}
-use Rattle.jedec.specs.Characters.{space, count_digits}
-use Rattle.names.specs.Names.{Part, part_text, polarity_name, macrocell_parts, block_field_name, global_field_name, spaced, joined, parts_of}
+use Rattle.jedec.specs.Characters.{space}
+use Rattle.names.specs.Names.{part_text, polarity_name, macrocell_parts, block_field_name, global_field_name, spaced, joined, parts_of}
 use Rattle.names.specs.Names.{setting_name}
-use Rattle.names.specs.Names.Part.{fb, mc, pt, im, polarity, uim, field}
-use Rattle.names.specs.Pieces.{text_of, Holds, SpellsWords, Spells}
+use Rattle.names.specs.Names.Part.{fb, mc, pt, im, uim}
+use Rattle.names.specs.Pieces.{text_of, name_text, Holds, SpellsWords, Spells}
 use Rattle.names.specs.declared.pieces.Piece.{Piece}
 use Rattle.names.specs.declared.pieces.Words.{Words}
-use Rattle.names.specs.declared.pieces.Name.{Name}
+
+-- No bytes.
+pub nothing_held : Holds (record { word = 0; len = 0 }) []
+unfolding cut
+nothing_held = record { few = omega arith; alone = omega arith; text_is = refl }
 
 -- Three pieces.
 pub words_held : (p q r : Piece) (x y z : List ℕ) → Holds p x → Holds q y → Holds r z
@@ -69,87 +73,61 @@ pub words_same : {A : Type 0} (text_of : A → List ℕ) (x y : A) (w : Words) (
     → SpellsWords w text → SpellsWords w (text_of x)
 words_same text_of x y w text e f h = rw (e, ← f) h
 
--- Five pieces.
-name_held : (p q r s t : Piece) (u v w x y : List ℕ) → Holds p u → Holds q v → Holds r w → Holds s x → Holds t y
-    → Spells (record { one = p; two = q; three = r; four = s; five = t }) (u ++ v ++ w ++ x ++ y)
-name_held p q r s t u v w x y hp hq hr hs ht =
-    record {
-      one_few = hp.few;
-      two_few = hq.few;
-      three_few = hr.few;
-      four_few = hs.few;
-      five_few = ht.few;
-      text_is = rw (hp.text_is, hq.text_is, hr.text_is, hs.text_is, ht.text_is);
-    }
+-- A name piece by piece.
+spelled_none : Spells [] []
+spelled_none = record { few = tt; text_is = refl }
 
-five_parts : (p q r s t : Part) → (space ∷ part_text p) ++ (space ∷ part_text q) ++ (space ∷ part_text r) ++ (space ∷ part_text s)
-    ++ (space ∷ part_text t) ≡ spaced (p ∷ q ∷ r ∷ s ∷ t ∷ [])
-unfolding spaced
-five_parts p q r s t = simp (append_assoc, append-nil)
+spelled_next : (p : Piece) (pieces : List Piece) (x y : List ℕ) → Holds p x → Spells pieces y → Spells (p ∷ pieces) (x ++ y)
+spelled_next p pieces x y hp hs = record { few = (hp.few, hs.few); text_is = ap₂ ◌++◌ hp.text_is hs.text_is }
+
+-- Words before other pieces.
+spelled_words : (w : Words) (pieces : List Piece) (x y : List ℕ) → SpellsWords w x → Spells pieces y
+    → Spells (w.one ∷ w.two ∷ w.three ∷ pieces) (x ++ y)
+spelled_words w pieces x y hw hs =
+    record {
+      few = (hw.one_few, (hw.two_few, (hw.three_few, hs.few)));
+      text_is =
+          sym (append_assoc (text_of w.one ++ text_of w.two) (text_of w.three) (name_text pieces)
+          ∙ append_assoc (text_of w.one) (text_of w.two) (text_of w.three ++ name_text pieces)) ∙ ap₂ ◌++◌ hw.text_is hs.text_is;
+    }
 
 -- The name of each group.
 pub literal_spelled : (b j k l : ℕ) (pol : Polarity) (p q r s t : Piece) → Holds p (space ∷ part_text (fb b))
     → Holds q (space ∷ part_text (mc j)) → Holds r (space ∷ part_text (pt k)) → Holds s (space ∷ part_text (im l))
-    → Holds t (space ∷ polarity_name pol)
-    → Spells (record { one = p; two = q; three = r; four = s; five = t }) (spaced (parts_of (Literal b j k l pol)))
-unfolding parts_of
+    → Holds t (space ∷ polarity_name pol) → Spells (p ∷ q ∷ r ∷ s ∷ t ∷ []) (spaced (parts_of (Literal b j k l pol)))
+unfolding parts_of spaced
 literal_spelled b j k l pol p q r s t hp hq hr hs ht =
-    rw (five_parts (fb b) (mc j) (pt k) (im l) (polarity pol)) at (name_held p q r s t _ _ _ _ _ hp hq hr hs ht)
+    spelled_next _ _ _ _ hp (spelled_next _ _ _ _ hq (spelled_next _ _ _ _ hr (spelled_next _ _ _ _ hs
+    (spelled_next _ _ _ _ ht spelled_none))))
 
 pub wire_and_spelled : (i j k l : ℕ) (p q r s t : Piece) → Holds p (space ∷ part_text (fb i)) → Holds q (space ∷ part_text (im j))
     → Holds r (space ∷ part_text uim) → Holds s (space ∷ part_text (fb k)) → Holds t (space ∷ part_text (mc l))
-    → Spells (record { one = p; two = q; three = r; four = s; five = t }) (spaced (parts_of (WireAnd i j k l)))
-unfolding parts_of
+    → Spells (p ∷ q ∷ r ∷ s ∷ t ∷ []) (spaced (parts_of (WireAnd i j k l)))
+unfolding parts_of spaced
 wire_and_spelled i j k l p q r s t hp hq hr hs ht =
-    rw (five_parts (fb i) (im j) uim (fb k) (mc l)) at (name_held p q r s t _ _ _ _ _ hp hq hr hs ht)
+    spelled_next _ _ _ _ hp (spelled_next _ _ _ _ hq (spelled_next _ _ _ _ hr (spelled_next _ _ _ _ hs
+    (spelled_next _ _ _ _ ht spelled_none))))
 
 pub macrocell_spelled : (b m : ℕ) (f : MacrocellField) (p q : Piece) (w : Words) → Holds p (space ∷ part_text (fb b))
     → Holds q (space ∷ part_text (mc m)) → SpellsWords w (spaced (macrocell_parts f))
-    → Spells (record { one = p; two = q; three = w.one; four = w.two; five = w.three }) (spaced (parts_of (Macrocell b m f)))
+    → Spells (p ∷ q ∷ w.one ∷ w.two ∷ w.three ∷ []) (spaced (parts_of (Macrocell b m f)))
 unfolding parts_of spaced
 macrocell_spelled b m f p q w hp hq hw =
-    let apart : (u v x y z : List ℕ) → u ++ v ++ x ++ y ++ z ≡ u ++ (v ++ (x ++ y ++ z)) = λ u v x y z. simp append_assoc in
-    record {
-      one_few = hp.few;
-      two_few = hq.few;
-      three_few = hw.one_few;
-      four_few = hw.two_few;
-      five_few = hw.three_few;
-      text_is =
-          apart (text_of p) (text_of q) (text_of w.one) (text_of w.two) (text_of w.three)
-          ∙ ap₂ ◌++◌ hp.text_is (ap₂ ◌++◌ hq.text_is hw.text_is);
-    }
+    let words = rw append-nil at (spelled_words w [] _ _ hw spelled_none) in
+    spelled_next _ _ _ _ hp (spelled_next _ _ _ _ hq words)
 
 pub block_spelled : (b : ℕ) (f : BlockField) (p t : Piece) (w : Words) → Holds p (space ∷ part_text (fb b))
     → SpellsWords w (space ∷ block_field_name f) → Holds t []
-    → Spells (record { one = p; two = w.one; three = w.two; four = w.three; five = t }) (spaced (parts_of (Block b f)))
+    → Spells (p ∷ w.one ∷ w.two ∷ w.three ∷ t ∷ []) (spaced (parts_of (Block b f)))
 unfolding parts_of spaced
 block_spelled b f p t w hp hw ht =
-    let apart : (u x y z v : List ℕ) → u ++ x ++ y ++ z ++ v ≡ u ++ ((x ++ y ++ z) ++ v) = λ u x y z v. simp append_assoc in
-    record {
-      one_few = hp.few;
-      two_few = hw.one_few;
-      three_few = hw.two_few;
-      four_few = hw.three_few;
-      five_few = ht.few;
-      text_is =
-          apart (text_of p) (text_of w.one) (text_of w.two) (text_of w.three) (text_of t)
-          ∙ ap₂ ◌++◌ hp.text_is (ap₂ ◌++◌ hw.text_is ht.text_is);
-    }
+    spelled_next _ _ _ _ hp (spelled_words w (t ∷ []) _ [] hw (spelled_next _ _ [] [] ht spelled_none))
 
 pub global_spelled : (f : GlobalField) (s t : Piece) (w : Words) → SpellsWords w (space ∷ global_field_name f) → Holds s [] → Holds t []
-    → Spells (record { one = w.one; two = w.two; three = w.three; four = s; five = t }) (spaced (parts_of (Global f)))
+    → Spells (w.one ∷ w.two ∷ w.three ∷ s ∷ t ∷ []) (spaced (parts_of (Global f)))
 unfolding parts_of spaced
 global_spelled f s t w hw hs ht =
-    record {
-      one_few = hw.one_few;
-      two_few = hw.two_few;
-      three_few = hw.three_few;
-      four_few = hs.few;
-      five_few = ht.few;
-      text_is =
-          ap₂ ◌++◌ (ap₂ ◌++◌ hw.text_is hs.text_is) ht.text_is ∙ append-nil ((space ∷ global_field_name f) ++ []);
-    }
+    spelled_words w (s ∷ t ∷ []) _ [] hw (spelled_next _ _ [] [] hs (spelled_next _ _ [] [] ht spelled_none))
 
 -- Parts, each after a space, are a space and the parts with a space between them.
 spaced_name : (s : Setting) → spaced (parts_of s) ≡ space ∷ setting_name s
@@ -160,7 +138,7 @@ spaced_name (Macrocell b m f) = refl
 spaced_name (Block b f) = refl
 spaced_name (Global f) = refl
 
-pub named : (s t : Setting) (n : Name) → s ≡ t → Spells n (spaced (parts_of t)) → Spells n (space ∷ setting_name s)
+pub named : (s t : Setting) (n : List Piece) → s ≡ t → Spells n (spaced (parts_of t)) → Spells n (space ∷ setting_name s)
 named s t n e h = rw (e, ← spaced_name t) h
 
 -- The word of the mark of a wire-AND.

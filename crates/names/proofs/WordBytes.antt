@@ -20,7 +20,7 @@ use Rattle.part.specs.Device.{decimal_digits}
 use Rattle.jedec.specs.Characters.{letter_l, decimal_digit, digits_of, count_digits, seven_digits}
 use Rattle.jedec.proofs.Numbers.{digits_length}
 use Rattle.jedec_lines.proofs.FuseDigits.{start_cut, start_small}
-use Rattle.names.specs.Pieces.{text_of, Alone, Holds}
+use Rattle.names.specs.Pieces.{text_of, Holds}
 use Rattle.names.specs.declared.pieces.Piece.{Piece}
 
 -- A word of two parts, the first in its low bytes.

@@ -6,7 +6,7 @@ use mathlib.Core.List.{List, [], ◌∷◌, ◌++◌}
 use Prim.Native.Nat.{ℕ, ◌+◌, ◌*◌, ◌-◌, ◌<◌}
 use lib.Dec.{eqb, ltb}
 use Rattle.part.proofs.Facts.{and_iff, tests}
-use Rattle.part.proofs.Tables.{all_below, below_all}
+use Rattle.part.proofs.Tables.{below_all}
 use Rattle.jedec.specs.Characters.{space, count_digits, digits_of}
 
 -- The first word, those behind it, and all.

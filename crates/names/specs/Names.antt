@@ -1,7 +1,7 @@
 -- The names of the settings and of their bits: document 02, K1. "Name parts are FB, MC, PT, IM, P or N, the field, and
 -- the
 -- bit after a dot where a field has several; wire-AND is `FB0 IM7 UIM FB1 MC3`, a global its field alone".
-use Rattle.std.specs.Prelude.{ℕ, cond, List, [], ◌∷◌, ◌++◌, map, ltb}
+use Rattle.std.specs.Prelude.{ℕ, cond, List, [], ◌∷◌, ◌++◌, ltb}
 use Rattle.std.proofs.Math.Option.{Option}
 use Rattle.std.proofs.Math.Option.Option.{none, some}
 use Rattle.part.specs.declared.Device.{Device}

@@ -1,10 +1,9 @@
 -- What the proofs of a name work with: a few bytes as one word, a name made of five such pieces, and its bit.
 -- Assumes nothing.
-use Rattle.std.specs.Prelude.{ℕ, ◌*◌, ◌^◌, ◌≤◌, ◌<◌, ◌≡◌, List, ◌++◌, replicate}
+use Rattle.std.specs.Prelude.{ℕ, ◌*◌, ◌^◌, ◌≤◌, ◌<◌, ◌≡◌, List, [], ◌∷◌, ◌++◌, replicate}
 use Rattle.cells.specs.Cells.{cut}
 use Rattle.names.specs.declared.pieces.Piece.{Piece}
 use Rattle.names.specs.declared.pieces.Words.{Words}
-use Rattle.names.specs.declared.pieces.Name.{Name}
 use Rattle.names.specs.declared.pieces.BitName.{BitName}
 
 -- The bytes of a piece.
@@ -28,25 +27,22 @@ pub record SpellsWords (w : Words) (text : List ℕ) : Type 0 where
   pub three_few : w.three.len ≤ 8
   pub text_is : text_of w.one ++ text_of w.two ++ text_of w.three ≡ text
 
--- A name of these bytes.
-abbrev pub name_text : Name → List ℕ
-name_text n = text_of n.one ++ text_of n.two ++ text_of n.three ++ text_of n.four ++ text_of n.five
+-- Pieces one after another, each of at most eight bytes: a name of these bytes.
+abbrev pub name_text : List Piece → List ℕ
+name_text [] = []
+name_text (p ∷ pieces) = text_of p ++ name_text pieces
 
-pub record Spells (n : Name) (text : List ℕ) : Type 0 where
-  pub one_few : n.one.len ≤ 8
-  pub two_few : n.two.len ≤ 8
-  pub three_few : n.three.len ≤ 8
-  pub four_few : n.four.len ≤ 8
-  pub five_few : n.five.len ≤ 8
-  pub text_is : name_text n ≡ text
+abbrev pub AllFew : List Piece → Type 0
+AllFew [] = Unit {0}
+AllFew (p ∷ pieces) = (p.len ≤ 8) × AllFew pieces
+
+pub record Spells (pieces : List Piece) (text : List ℕ) : Type 0 where
+  pub few : AllFew pieces
+  pub text_is : name_text pieces ≡ text
 
 -- A name and a bit of these bytes.
 pub record SpellsBit (n : BitName) (text : List ℕ) : Type 0 where
-  pub one_few : n.name.one.len ≤ 8
-  pub two_few : n.name.two.len ≤ 8
-  pub three_few : n.name.three.len ≤ 8
-  pub four_few : n.name.four.len ≤ 8
-  pub five_few : n.name.five.len ≤ 8
+  pub few : AllFew n.name
   pub bit_few : n.bit.len ≤ 3
   pub bit_alone : Alone n.bit
   pub text_is : name_text n.name ++ text_of n.bit ≡ text

@@ -1,20 +1,18 @@
 // A few bytes as one word, its first byte lowest: numbers in digits, words of a name, one behind another.
 // A function here may require that its bytes fit a word, and that the number is small enough.
-ghost use Rattle.std.specs.Prelude.{◌≡◌, [], ◌∷◌, ◌++◌, ◌+◌, ◌≤◌, ◌<◌, length, take, drop};
-ghost use Rattle.jedec.specs.Characters.{space, count_digits};
-ghost use Rattle.names.specs.Names.{part_text};
-ghost use Rattle.names.specs.Names.Part.{fb, mc, pt, im};
+ghost use Rattle.std.specs.Prelude.{◌≡◌, ◌++◌, ◌+◌, ◌≤◌, ◌<◌, take, drop};
+ghost use Rattle.jedec.specs.Characters.{count_digits};
 ghost use Rattle.names.specs.Pieces.{text_of, Alone, Holds};
 
-// Up to eight bytes: a word, and how many of its bytes are meant.
-#[derive(Clone, Copy)]
+// Up to eight bytes: a word, and how many of its bytes are meant. It is put by one store, and so no slice of bytes.
+#[derive(Clone, Copy, Debug, PartialEq, Eq)]
 pub struct Piece {
     pub word: u64,
     pub len: usize,
 }
 
 // Words of a name in up to three pieces.
-#[derive(Clone, Copy)]
+#[derive(Clone, Copy, Debug, PartialEq, Eq)]
 pub struct Words {
     pub one: Piece,
     pub two: Piece,
@@ -22,14 +20,7 @@ pub struct Words {
 }
 
 // A name of up to five pieces.
-#[derive(Clone, Copy)]
-pub struct Name {
-    pub one: Piece,
-    pub two: Piece,
-    pub three: Piece,
-    pub four: Piece,
-    pub five: Piece,
-}
+pub type Name = [Piece; 5];
 
 // A name, and the bit behind it.
 #[derive(Clone, Copy)]
@@ -38,21 +29,28 @@ pub struct BitName {
     pub bit: Piece,
 }
 
-// A space and the two letters of a part, the first byte lowest.
-const SPACE_FB: u64 = b' ' as u64 + b'F' as u64 * 0x0100 + b'B' as u64 * 0x0001_0000;
+// Pieces without bytes, and of a space and the letters of a part, the first byte lowest.
+pub const NOTHING: Piece = Piece { word: 0, len: 0 };
 
-const SPACE_MC: u64 = b' ' as u64 + b'M' as u64 * 0x0100 + b'C' as u64 * 0x0001_0000;
+pub const FB: Piece = Piece {
+    word: b' ' as u64 + b'F' as u64 * 0x0100 + b'B' as u64 * 0x0001_0000,
+    len: 3,
+};
 
-const SPACE_PT: u64 = b' ' as u64 + b'P' as u64 * 0x0100 + b'T' as u64 * 0x0001_0000;
+pub const MC: Piece = Piece {
+    word: b' ' as u64 + b'M' as u64 * 0x0100 + b'C' as u64 * 0x0001_0000,
+    len: 3,
+};
 
-const SPACE_IM: u64 = b' ' as u64 + b'I' as u64 * 0x0100 + b'M' as u64 * 0x0001_0000;
+pub const PT: Piece = Piece {
+    word: b' ' as u64 + b'P' as u64 * 0x0100 + b'T' as u64 * 0x0001_0000,
+    len: 3,
+};
 
-// No bytes.
-pub fn nothing() -> Piece
-    ensures { Holds result [] }
-{
-    Piece { word: 0, len: 0 }
-}
+pub const IM: Piece = Piece {
+    word: b' ' as u64 + b'I' as u64 * 0x0100 + b'M' as u64 * 0x0001_0000,
+    len: 3,
+};
 
 // The bytes of one piece behind those of another.
 pub fn followed(p: Piece, q: Piece) -> Piece
@@ -70,7 +68,7 @@ pub fn piece_at(text: &[u8], at: usize) -> Piece
     ensures { Holds result (take 8 (drop at text.now)) }
 {
     if text.len() <= at {
-        return Piece { word: 0, len: 0 };
+        return NOTHING;
     }
     let left = text.len() - at;
     if 8 <= left {
@@ -111,59 +109,6 @@ pub fn numbered(letters: Piece, x: u32) -> Piece
 {
     let digits = few_digits(x);
     followed(letters, digits)
-}
-
-// The parts that have an index, each after a space.
-pub fn block_part(x: u32) -> Piece
-    requires { x < 100 }
-    ensures { Holds result (space ∷ part_text (fb x)) }
-{
-    numbered(
-        Piece {
-            word: SPACE_FB,
-            len: 3,
-        },
-        x,
-    )
-}
-
-pub fn macrocell_part(x: u32) -> Piece
-    requires { x < 100 }
-    ensures { Holds result (space ∷ part_text (mc x)) }
-{
-    numbered(
-        Piece {
-            word: SPACE_MC,
-            len: 3,
-        },
-        x,
-    )
-}
-
-pub fn term_part(x: u32) -> Piece
-    requires { x < 100 }
-    ensures { Holds result (space ∷ part_text (pt x)) }
-{
-    numbered(
-        Piece {
-            word: SPACE_PT,
-            len: 3,
-        },
-        x,
-    )
-}
-
-pub fn input_part(x: u32) -> Piece
-    requires { x < 100 }
-    ensures { Holds result (space ∷ part_text (im x)) }
-{
-    numbered(
-        Piece {
-            word: SPACE_IM,
-            len: 3,
-        },
-        x,
-    )
 }
 
 // A number below a million in digits: the last bytes of its seven digits.

@@ -9,7 +9,7 @@ pub returns-then-text-at : goal.returns-then-text-at
 returns-then-text-at c = search (rules, none_there)
 
 pub returns-then-left-ge8 : goal.returns-then-left-ge8
-returns-then-left-ge8 c = eight_there _ c.args.at (λ i. (c.shared_slice_known-1.given i).fits) _ (search rules) (search rules)
+returns-then-left-ge8 c = eight_there _ c.args.at (λ i. (c.type_inv.text i).fits) _ (search rules) (search rules)
 
 pub returns : goal.returns
-returns c = fewer_there _ c.args.at (λ i. (c.shared_slice_known-1.given i).fits) _ _ refl (search rules) (search rules)
+returns c = fewer_there _ c.args.at (λ i. (c.type_inv.text i).fits) _ _ refl (search rules) (search rules)
