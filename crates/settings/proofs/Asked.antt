@@ -2,6 +2,11 @@
 -- Assumes nothing.
 use mathlib.Core.Path.{◌≡◌, sym, ◌∙◌}
 use mathlib.Core.Bool.{Bool, true, false}
+use Rattle.part.specs.Outcome.{Outcome}
+use Rattle.part.specs.Outcome.Outcome.{refused}
+use Rattle.part.specs.Device.{known}
+use Rattle.part.specs.Sizes.{if_known}
+use Rattle.settings.specs.Operations.{if_setting}
 use Rattle.part.specs.declared.Device.{Device}
 use Rattle.settings.specs.Settings.{has_setting}
 use Rattle.settings.specs.declared.Setting.{Setting}
@@ -11,3 +16,15 @@ has d s t e h = sym e ∙ h
 
 pub has_not : (d : Device) (s : Setting) (t : Bool) → t ≡ has_setting d s → t ≡ false → has_setting d s ≡ false
 has_not d s t e h = sym e ∙ h
+
+-- The refusals of such an operation.
+pub no_device : {A : Type 0} (d : Device) (o : Outcome A) → known d ≡ false → refused 1 0 ≡ if_known d o
+no_device d o k = rw k
+
+pub no_setting : {A : Type 0} (d : Device) (s : Setting) (o : Outcome A) → known d ≡ true → has_setting d s ≡ false
+    → refused 4 0 ≡ if_setting d s o
+no_setting d s o k h = rw (k, h)
+
+pub the_setting : {A : Type 0} (d : Device) (s : Setting) (o x : Outcome A) → known d ≡ true → has_setting d s ≡ true → x ≡ o
+    → x ≡ if_setting d s o
+the_setting d s o x k h e = rw (k, h) e

@@ -20,12 +20,9 @@ use Rattle.fuse_settings.specs.Back.{candidate_at, always_listed, setting_at}
 use Rattle.fuse_settings.specs.Operations.{setting_at_fuse}
 use Rattle.fuse_settings.specs.declared.SettingBit.{SettingBit}
 use Rattle.fuse_settings.proofs.NamedFuses.{always_listed_lem}
+use Rattle.settings.proofs.Asked.{no_device}
 use borrow.Author.Rules.{rules}
 use Rattle.fuse_settings.proofs.setting_at_fuse.Goals as goal
-
-no_device : (d : Device) (f : ℕ) → known d ≡ false → refused 1 0 ≡ setting_at_fuse d f
-unfolding setting_at_fuse
-no_device d f k = rw k
 
 no_fuse_lem : (d : Device) (f count : ℕ) → known d ≡ true → count ≡ fuse_count d → count ≤ f → refused 3 0 ≡ setting_at_fuse d f
 unfolding setting_at_fuse
@@ -81,6 +78,7 @@ module _ (d : Device) (f : ℕ) (p : Place) (c : SettingBit) (k : known d ≡ tr
         )
 
 pub returns-in_err-part : goal.returns-in_err-part
+unfolding setting_at_fuse
 returns-in_err-part c = search (rules, refused_with, no_device)
 
 pub returns-then-fuse_count-fuse : goal.returns-then-fuse_count-fuse
