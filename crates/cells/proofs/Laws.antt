@@ -10,6 +10,7 @@
 --   cut_sets                    cells stored part by part
 --   word_at                     the bytes from an index on, joined, are a part of the number of all
 --   piece                       cells cut from such a word are cut from the number of all
+--   join_eight                  eight bytes, each worth 256 times the one before it, joined
 use mathlib.Core.Path.{◌≡◌, refl, sym, ◌∙◌, ap, ap₂, subst}
 use mathlib.Core.List.{List, [], ◌∷◌, ◌++◌}
 use Prim.Native.Nat.{ℕ, zero, suc, ◌+◌, ◌*◌, ◌-◌, ◌/◌, ◌%◌, ◌^◌, ◌≤◌, ◌<◌}
@@ -19,6 +20,8 @@ use native.Mathlib.Nat.{le_of_suc-le-suc, add-mul, mul_assoc, mul_comm, zero-mul
 use native.Mathlib.Numerals.{one-add}
 use lib.Pow.{pow_pos, pow_mono, pow-add, shr-shr, high, low, mod-pow-add, field, mod-mod-pow}
 use lib.Arith.{digits_lt}
+use mir.Syntax.{w8}
+use mir.Val.{Fits}
 use lib.ListN.{length, get_or, take, drop, replicate, length-append, length-replicate, replicate-append-replicate, set}
 use lib.Seq.{sets, drop-drop, get_or-drop}
 use Rattle.cells.specs.Cells.{cut, join, total, repeat, number}
@@ -168,3 +171,35 @@ piece bytes ws p s k h g =
     ∙ ap (λ (t : ℕ). cut ws (x / 2 ^ s % 2 ^ t)) f
     ∙ cut_low ws (x / 2 ^ s) (j - total ws)
     ∙ ap (cut ws) (shr-shr (number bytes) (p * 8) s))
+
+-- Eight bytes as one word, the first lowest.
+module _ (l : List ℕ) (at : ℕ) (bytes : (i : ℕ) → Fits w8 (get_or l i 0)) where
+  one_byte : (cells : List ℕ) → get_or cells 0 0 < 2 ^ 8 → join (replicate 1 8) cells ≡ get_or cells 0 0
+  unfolding join
+  one_byte cells h = omega arith
+
+  -- One more byte taken into a word of k bytes.
+  taken : (k word : ℕ) → word ≡ join (replicate k 8) (drop at l)
+      → word + get_or l (at + k) 0 * 2 ^ (k * 8) ≡ join (replicate (k + 1) 8) (drop at l)
+  taken k word e =
+      let there : get_or (drop k (drop at l)) 0 0 ≡ get_or l (at + k) 0 =
+      get_or-drop k (drop at l) 0 0 ∙ get_or-drop at l (k + 0) 0 ∙ ap (λ (i : ℕ). get_or l i 0) (omega arith) in
+      rw e
+      (sym (ap (λ (ws : List ℕ). join ws (drop at l)) (sym (replicate-append-replicate k 1 8))
+      ∙ join_append (replicate k 8) (replicate 1 8) (drop at l)
+      ∙ rw (
+        length-replicate {A = ℕ} k 8,
+        total_replicate k 8,
+        one_byte (drop k (drop at l)) (rw there (bytes (at + k)).fits),
+        there,
+      )))
+
+  first : get_or l at 0 ≡ join (replicate 1 8) (drop at l)
+  first =
+      let there : get_or (drop at l) 0 0 ≡ get_or l at 0 = get_or-drop at l 0 0 ∙ ap (λ (i : ℕ). get_or l i 0) (add-zero at) in
+      sym (one_byte (drop at l) (rw there (bytes at).fits) ∙ there)
+
+  pub join_eight : (r : ℕ) → r ≡ get_or l at 0 + get_or l (at + 1) 0 * 2 ^ 8 + get_or l (at + 2) 0 * 2 ^ 16 + get_or l (at + 3) 0 * 2 ^ 24
+      + get_or l (at + 4) 0 * 2 ^ 32 + get_or l (at + 5) 0 * 2 ^ 40 + get_or l (at + 6) 0 * 2 ^ 48 + get_or l (at + 7) 0 * 2 ^ 56
+      → r ≡ join (replicate 8 8) (drop at l)
+  join_eight r e = e ∙ taken 7 _ (taken 6 _ (taken 5 _ (taken 4 _ (taken 3 _ (taken 2 _ (taken 1 _ first))))))

@@ -2,13 +2,13 @@
 --   ones_join       the ones of the first k bytes, as one word, and of the rest
 --   ones_in_le       at most eight a byte
 --   zeros_and_ones  the fuses at 0 and the ones of an image are all its fuses
-use Rattle.std.proofs.Common.{◌≡◌, ℕ, zero, suc, ◌+◌, ◌*◌, ◌/◌, ◌%◌, ◌^◌, ◌<◌, ◌≤◌, List, [], ◌∷◌, length, drop, replicate, sym, refl, ap, ◌∙◌, ap₂, le_of_suc-le-suc, not-suc-le-zero, add-zero, add_assoc, mod-lt, zero-add, div-one, add-one, arith, pow_pos, shr-shr}
+use Rattle.std.proofs.Common.{◌≡◌, ℕ, zero, suc, ◌+◌, ◌*◌, ◌/◌, ◌%◌, ◌^◌, ◌<◌, ◌≤◌, List, [], ◌∷◌, length, get_or, drop, drop-cons, mod-eq_of_lt, replicate, sym, refl, ap, ◌∙◌, ap₂, le_of_suc-le-suc, not-suc-le-zero, add-zero, add_assoc, mod-lt, zero-add, div-one, add-one, arith, pow_pos, shr-shr}
 use native.Mathlib.Nat.{div-eq_of_lt}
 use lib.Count.{ones, ones_in as onesWithin, ones_step, ones_cat, ones-le}
 use Rattle.cells.specs.Cells.{join}
 use Rattle.part.proofs.Sums.{sum, sum_same, sum_add}
 use Rattle.image.specs.Bits.{bit_of, bit_at, ones_in}
-use Rattle.image.specs.Image.{state, zeros_below}
+use Rattle.image.specs.Image.{byte_sum, state, zeros_below}
 use Rattle.image.proofs.Bits.{bit_low}
 
 none : ones 0 ≡ 0
@@ -27,6 +27,12 @@ pub ones_in_le : (bytes : List ℕ) → ones_in bytes ≤ length bytes * 8
 unfolding ones_in
 ones_in_le [] = omega arith
 ones_in_le (b ∷ bytes) = omega (arith, ones-le 8 (b % 2 ^ 8) (mod-lt b (pow_pos 8)), ones_in_le bytes)
+
+-- The ones of a byte, and those of the bytes behind it.
+pub ones_first : (bytes : List ℕ) (i : ℕ) → i < length bytes → get_or bytes i 0 < 2 ^ 8
+    → ones (get_or bytes i 0) + ones_in (drop (i + 1) bytes) ≡ ones_in (drop i bytes)
+unfolding ones_in
+ones_first bytes i h small = rw (drop-cons bytes i 0 h, add-one, mod-eq_of_lt small)
 
 ones_bits : (x w : ℕ) → ones x ≡ sum (bit_of x) w + ones (x / 2 ^ w)
 unfolding sum
@@ -72,3 +78,7 @@ zeros_ones image (suc n) = omega (arith, zeros_ones image n, state_bit image n)
 
 pub zeros_and_ones : (image : List ℕ) → zeros_below image (length image * 8) + ones_in image ≡ length image * 8
 zeros_and_ones image = rw (← states_ones image) (zeros_ones image (length image * 8))
+
+-- What the sums so far and the bytes still to come give together.
+abbrev pub SoFar : (pairs seconds : ℕ) (left : List ℕ) (all : ℕ) → Type 0
+SoFar pairs seconds left all = (pairs + seconds * 65281 + byte_sum left) % 65536 ≡ all

@@ -2,6 +2,7 @@
 -- Assumes nothing.
 pub mod Bits
 pub mod Pairs
+pub mod Chunks
 pub mod Counts
 pub mod Checked
 pub mod Numbers

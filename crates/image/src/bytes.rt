@@ -45,21 +45,12 @@ pub fn set_pair(bytes: &mut [u8], index: usize, bit: u32, states: u32)
     bytes[index] = rest + ((states as u8) << bit);
 }
 
-// Two bytes as one number, the first lowest.
-fn two_bytes(bytes: &[u8], i: usize) -> u16
-    requires { i + 2 ≤ length bytes.now }
-    ensures { result ≡ slice_index bytes.now i + slice_index bytes.now (i + 1) * 2 ^ 8 }
-{
-    bytes[i] as u16 + bytes[i + 1] as u16 * 256
-}
-
 // The sum of bytes, from the sum of such pairs, in which each second byte counts 256 times: 256 of the seconds come
 // off, and one comes back. 65281 is 1 - 256 modulo 2^16.
 fn counted_once(pairs: u16, seconds: u16) -> u16
     ensures { result ≡ (pairs + seconds * 65281) % 2 ^ 16 }
 {
-    let firsts = std::num::wrapping_sub_u16(pairs, seconds << 8);
-    std::num::wrapping_add_u16(firsts, seconds)
+    pairs.wrapping_sub(seconds << 8).wrapping_add(seconds)
 }
 
 // The sum of the bytes, of which the low 16 bits are kept. Two bytes are added as one number: so
@@ -69,16 +60,14 @@ pub fn sum_of(bytes: &[u8]) -> u16
 {
     let mut pairs: u16 = 0;
     let mut seconds: u16 = 0;
-    let mut i: usize = 0;
-    while 2 <= bytes.len() - i {
-        let pair = two_bytes(bytes, i);
-        pairs = std::num::wrapping_add_u16(pairs, pair);
-        seconds = std::num::wrapping_add_u16(seconds, pair >> 8);
-        i += 2;
+    let (whole, last) = bytes.as_chunks::<2>();
+    for two in whole {
+        let pair = u16::from_le_bytes(*two);
+        pairs = pairs.wrapping_add(pair);
+        seconds = seconds.wrapping_add(pair >> 8);
     }
-    if i < bytes.len() {
-        let all = std::num::wrapping_add_u16(pairs, bytes[i] as u16);
-        return counted_once(all, seconds);
+    for odd in last {
+        pairs = pairs.wrapping_add(*odd as u16);
     }
     counted_once(pairs, seconds)
 }
@@ -89,14 +78,12 @@ pub fn ones_of(bytes: &[u8]) -> u64
     ensures { result ≡ ones_in bytes.now }
 {
     let mut ones: u64 = 0;
-    let mut i: usize = 0;
-    while 8 <= bytes.len() - i {
-        ones += u64::count_ones(cells::words::joined(bytes, i, 8, 8)) as u64;
-        i += 8;
+    let (whole, last) = bytes.as_chunks::<8>();
+    for eight in whole {
+        ones += u64::from_le_bytes(*eight).count_ones() as u64;
     }
-    while i < bytes.len() {
-        ones += u64::count_ones(cells::words::joined(bytes, i, 8, 1)) as u64;
-        i += 1;
+    for byte in last {
+        ones += byte.count_ones() as u64;
     }
     ones
 }
@@ -106,9 +93,5 @@ pub fn copy(from: &[u8], to: &mut [u8])
     requires { length from.now ≡ length to.old }
     ensures { to.new ≡ from.now }
 {
-    let mut i: usize = 0;
-    while i < to.len() {
-        to[i] = from[i];
-        i += 1;
-    }
+    to.copy_from_slice(from);
 }
