@@ -18,7 +18,7 @@ abbrev pub longest : ℕ
 longest = 1048576
 
 -- A refusal where there is a value for it.
-abbrev pub unless : (number : ℕ) → Option ℕ → Outcome (List ℕ) → Outcome (List ℕ)
+abbrev pub unless : {A : Type 0} → (number : ℕ) → Option ℕ → Outcome A → Outcome A
 unless number none answer = answer
 unless number (some value) answer = refused number value
 

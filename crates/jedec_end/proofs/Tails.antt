@@ -12,8 +12,6 @@ use lib.Seq.{drop-cons}
 use Rattle.jedec.specs.Characters.{is_blank, hex_value}
 use Rattle.jedec.specs.Cut.{Tail, tail_from}
 use Rattle.jedec.specs.Cut.Tail.{given, wrong}
-use Rattle.jedec_judge.specs.Judged.{value_or}
-use Rattle.jedec_judge.proofs.DigitsRead.{hex_digit_lem}
 
 module _ (text : List ℕ) (i sum : ℕ) (all : Tail) where
   pub tail_goes : (t : Bool) → t ≡ is_blank (get_or text i 0) → t ≡ true → i < length text → tail_from i 0 sum (drop i text) ≡ all
@@ -34,24 +32,21 @@ module _ (text : List ℕ) (i sum : ℕ) (all : Tail) where
   tail_ends l h = rw (drop_of_length-le text l) at h
 
   module _ (left : ℕ) (more : 0 < left) (h : tail_from i left sum (drop i text) ≡ all) where
+    e : left ≡ suc (left - 1)
+    e = omega arith
+
     pub tail_early : length text ≤ i → wrong i ≡ all
     unfolding tail_from
-    tail_early l =
-        let e : left ≡ suc (left - 1) = omega arith in
-        rw (drop_of_length-le text l, e) at h
+    tail_early l = rw (drop_of_length-le text l, e) at h
 
-    module _ (y : ℕ) (l : i < length text) (e : y ≡ value_or 16 (hex_value (get_or text i 0))) where
-      pub tail_wrong : y ≡ 16 → wrong i ≡ all
+    module _ (l : i < length text) where
+      pub tail_wrong : none ≡ hex_value (get_or text i 0) → wrong i ≡ all
       unfolding tail_from
-      tail_wrong z =
-          let f : left ≡ suc (left - 1) = omega arith in
-          let n : hex_value (get_or text i 0) ≡ none = (hex_digit_lem (get_or text i 0)).none_there (sym e ∙ z) in
-          rw (drop-cons text i 0 l, f, n) at h
+      tail_wrong n = rw (drop-cons text i 0 l, e, ← n) at h
 
-      pub tail_digit : (y ≡ 16 → ⊥) → tail_from (i + 1) (left - 1) (sum * 16 + y) (drop (i + 1) text) ≡ all
+      pub tail_digit : (y : ℕ) → some y ≡ hex_value (get_or text i 0)
+          → tail_from (i + 1) (left - 1) (sum * 16 + y) (drop (i + 1) text) ≡ all
       unfolding tail_from
-      tail_digit z =
-          let f : left ≡ suc (left - 1) = omega arith in
-          let s : hex_value (get_or text i 0) ≡ some y = (hex_digit_lem (get_or text i 0)).some_there (λ w. z (e ∙ w)) ∙ ap some (sym e) in
+      tail_digit y s =
           let to : drop (i + 1) text ≡ drop (suc i) text = ap (λ (k : ℕ). drop k text) (add-one i) in
-          rw to (rw (drop-cons text i 0 l, f, s) at h)
+          rw to (rw (drop-cons text i 0 l, e, ← s) at h)

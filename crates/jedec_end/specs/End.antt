@@ -1,26 +1,24 @@
 -- What the answers about the end of a text say, in the terms of crate `jedec`.
 -- The proofs work with these definitions, and no public contract does.
-use Rattle.std.specs.Prelude.{ℕ, ◌≤◌, ◌≡◌, List, length}
+use Rattle.std.specs.Prelude.{ℕ, ◌≤◌, ◌≡◌, List, length, Result, Ok, Err}
 use Rattle.part.specs.Outcome.{Outcome}
 use Rattle.part.specs.Outcome.Outcome.{accepted}
 use Rattle.jedec.specs.Cut.{Tail}
 use Rattle.jedec.specs.Cut.Tail.{given, wrong}
 use Rattle.jedec_end.specs.Verdict.{verdict, result_of}
-use Rattle.jedec_end.specs.declared.tail.TailSays.{TailSays}
-use Rattle.jedec_end.specs.declared.tail.TailSays.TheVariants as tail
 
 -- What an answer about the bytes after ETX says.
-abbrev pub tail_of : TailSays → Tail
-tail_of (tail.Given x) = given x
-tail_of (tail.Wrong at) = wrong at
+abbrev pub tail_of : Result ℕ ℕ → Tail
+tail_of (Ok x) = given x
+tail_of (Err at) = wrong at
 
 -- A wrong byte is in the text or right behind it.
-abbrev pub TailFits : (text : List ℕ) → TailSays → Type 0
-TailFits text (tail.Given x) = Unit {0}
-TailFits text (tail.Wrong at) = at ≤ length text
+abbrev pub TailFits : (text : List ℕ) → Result ℕ ℕ → Type 0
+TailFits text (Ok x) = Unit {0}
+TailFits text (Err at) = at ≤ length text
 
 -- An answer says what the bytes after ETX say.
-pub record TailStands (text : List ℕ) (at : ℕ) (t : Tail) (r : TailSays) : Type 0 where
+pub record TailStands (text : List ℕ) (at : ℕ) (t : Tail) (r : Result ℕ ℕ) : Type 0 where
   pub is : tail_of r ≡ t
   pub fits : TailFits text r
 

@@ -3,73 +3,69 @@
 ghost use Rattle.std.specs.Prelude.{◌≡◌, ◌<◌, ◌≤◌, length};
 ghost use Rattle.std.proofs.Math.Option.Option.{some};
 ghost use Rattle.part.specs.Answer.{done_outcome};
+ghost use Rattle.part.specs.Outcome.Outcome.{accepted};
 ghost use Rattle.jedec.specs.Rules.{Given, wrong_count, without_start};
-ghost use Rattle.jedec.specs.Meaning.{longest, wrong_sum, wrong_transmission, concluded, with_end};
+ghost use Rattle.jedec.specs.Meaning.{longest, unless, wrong_sum, wrong_transmission, concluded, with_end};
 ghost use Rattle.jedec_progress.specs.Progress.{optional_field, optional_number, ProgressKnows};
 ghost use Rattle.jedec_end.specs.End.{TextRead};
 
-use super::tail::{TailSays, tail_from};
-use jedec_progress::progress::{OptionalField, OptionalNumber, Progress};
-use part::{DoneAnswer, Refusal};
+use super::tail::tail_from;
+use jedec_progress::progress::{GivenAt, Progress};
+use part::Refusal;
 
 // Refusal 8: QF is not the count, or is absent.
-fn wrong_count(fuses: u32, etx: u32, count: OptionalField) -> OptionalNumber
-    ensures { optional_number result ≡ wrong_count fuses etx (optional_field count) }
+fn check_count(fuses: u32, etx: u32, count: Option<GivenAt>) -> Result<(), Refusal>
+    ensures { done_outcome result ≡ unless 8 (wrong_count fuses etx (optional_field count)) (accepted tt) }
 {
     match count {
-        OptionalField::None => OptionalNumber::Some(etx),
-        OptionalField::Some { at, value } => {
-            if value == fuses {
-                return OptionalNumber::None;
-            }
-            OptionalNumber::Some(at)
-        }
+        Some(given) if given.value == fuses => Ok(()),
+        Some(given) => Err(Refusal::WrongFuseCount(given.at)),
+        None => Err(Refusal::WrongFuseCount(etx)),
+    }
+}
+
+// Refusal 9: an L is misplaced.
+fn check_lists(misplaced: Option<u32>) -> Result<(), Refusal>
+    ensures { done_outcome result ≡ unless 9 (optional_number misplaced) (accepted tt) }
+{
+    match misplaced {
+        Some(at) => Err(Refusal::MisplacedFuseList(at)),
+        None => Ok(()),
     }
 }
 
 // Refusal 13: no F, and the first fuse that no L gives is below the count.
-fn without_start(fuses: u32, start: OptionalNumber, first: usize) -> OptionalNumber
-    ensures { optional_number result ≡ without_start fuses (optional_number start) first }
+fn check_start(fuses: u32, start: Option<u32>, first: usize) -> Result<(), Refusal>
+    ensures { done_outcome result ≡ unless 13 (without_start fuses (optional_number start) first) (accepted tt) }
 {
-    match start {
-        OptionalNumber::Some(_) => OptionalNumber::None,
-        OptionalNumber::None => {
-            let count = fuses as usize;
-            if first < count {
-                let fuse = first as u32;
-                return OptionalNumber::Some(fuse);
-            }
-            OptionalNumber::None
-        }
+    if start.is_none() && first < fuses as usize {
+        return Err(Refusal::FuseNotGiven(first as u32));
     }
+    Ok(())
 }
 
 // Refusal 10: C differs from the sum of the image.
-fn wrong_sum(image: &[u8], sum: OptionalField) -> OptionalNumber
-    ensures { optional_number result ≡ wrong_sum image.now (optional_field sum) }
+fn check_sum(image: &[u8], sum: Option<GivenAt>) -> Result<(), Refusal>
+    ensures { done_outcome result ≡ unless 10 (wrong_sum image.now (optional_field sum)) (accepted tt) }
 {
     match sum {
-        OptionalField::None => OptionalNumber::None,
-        OptionalField::Some { at, value } => {
-            if value == image::bytes::sum_of(image) as u32 {
-                return OptionalNumber::None;
-            }
-            OptionalNumber::Some(at)
+        Some(given) if given.value != image::bytes::sum_of(image) as u32 => {
+            Err(Refusal::WrongFuseSum(given.at))
         }
+        _ => Ok(()),
     }
 }
 
 // Refusal 11: the transmission sum differs and is not 0000.
-fn wrong_transmission(text: &[u8], etx: usize, given: u32) -> OptionalNumber
+fn check_transmission(text: &[u8], etx: usize, given: u32) -> Result<(), Refusal>
     requires { (etx < length text.now) × (length text.now ≤ longest) }
-    ensures { optional_number result ≡ wrong_transmission text.now etx given }
+    ensures { done_outcome result ≡ unless 11 (wrong_transmission text.now etx given) (accepted tt) }
 {
     let end = etx + 1;
-    let sum = image::bytes::sum_of(&text[..end]) as u32;
-    if (given == 0) | (given == sum) {
-        return OptionalNumber::None;
+    if given == 0 || given == image::bytes::sum_of(&text[..end]) as u32 {
+        return Ok(());
     }
-    OptionalNumber::Some(etx as u32)
+    Err(Refusal::WrongTransmissionSum(etx as u32))
 }
 
 // A text of good form is refused by the first of 8, 9, 13, 10 and 11, or else the image is the text's.
@@ -80,49 +76,26 @@ fn conclude(
     given: u32,
     p: Progress,
     image: &[u8],
-) -> DoneAnswer
+) -> Result<(), Refusal>
     requires { (etx < length text.now) × (length text.now ≤ longest) }
     ensures { (k : Given) → ProgressKnows fuses p k image.now
         → TextRead (concluded fuses text.now etx given k) (done_outcome result) image.now }
 {
-    let count = p.count;
-    let eight = wrong_count(fuses, etx as u32, count);
-    if let OptionalNumber::Some(at) = eight {
-        return DoneAnswer::Refused(Refusal::WrongFuseCount(at));
-    }
-    let nine = p.misplaced;
-    if let OptionalNumber::Some(at) = nine {
-        return DoneAnswer::Refused(Refusal::MisplacedFuseList(at));
-    }
-    let start = p.start;
-    let thirteen = without_start(fuses, start, p.missing);
-    if let OptionalNumber::Some(fuse) = thirteen {
-        return DoneAnswer::Refused(Refusal::FuseNotGiven(fuse));
-    }
-    let sum = p.sum;
-    let ten = wrong_sum(image, sum);
-    if let OptionalNumber::Some(at) = ten {
-        return DoneAnswer::Refused(Refusal::WrongFuseSum(at));
-    }
-    let eleven = wrong_transmission(text, etx, given);
-    if let OptionalNumber::Some(at) = eleven {
-        return DoneAnswer::Refused(Refusal::WrongTransmissionSum(at));
-    }
-    DoneAnswer::Done
+    check_count(fuses, etx as u32, p.count)?;
+    check_lists(p.misplaced)?;
+    check_start(fuses, p.start, p.missing)?;
+    check_sum(image, p.sum)?;
+    check_transmission(text, etx, given)
 }
 
 // The answer to a text by what stands from the ETX after the fields on.
-pub fn finish(fuses: u32, text: &[u8], etx: usize, p: Progress, image: &[u8]) -> DoneAnswer
+pub fn finish(fuses: u32, text: &[u8], etx: usize, p: Progress, image: &[u8]) -> Result<(), Refusal>
     requires { (etx < length text.now) × (length text.now ≤ longest) }
     ensures { (k : Given) → ProgressKnows fuses p k image.now
         → TextRead (with_end fuses text.now k (some etx)) (done_outcome result) image.now }
 {
-    let tail = tail_from(text, etx + 1);
-    match tail {
-        TailSays::Wrong(at) => {
-            let place = at as u32;
-            DoneAnswer::Refused(Refusal::BadForm(place))
-        }
-        TailSays::Given(given) => conclude(fuses, text, etx, given, p, image),
+    match tail_from(text, etx + 1) {
+        Ok(given) => conclude(fuses, text, etx, given, p, image),
+        Err(at) => Err(Refusal::BadForm(at as u32)),
     }
 }

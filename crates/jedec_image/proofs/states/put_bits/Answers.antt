@@ -18,7 +18,8 @@ pub loop-index-preserved : goal.loop-index-preserved
 loop-index-preserved c = search (rules, bits_stored)
 
 pub overflow_cast-image-then-left-gt0-2 : goal.overflow_cast-image-then-left-gt0-2
-overflow_cast-image-then-left-gt0-2 c = record { fits = bits_last_byte _ _ _ _ _ _ _ c.loop-index.invariant _ refl (omega arith) (omega arith) _ refl }
+overflow_cast-image-then-left-gt0-2 c =
+    record { fits = bits_last_byte _ _ _ _ _ _ _ c.loop-index.invariant _ refl (omega arith) (omega arith) _ refl }
 
 pub returns-then-left-gt0 : goal.returns-then-left-gt0
 returns-then-left-gt0 c = bits_last _ _ _ _ _ _ _ c.loop-index.invariant _ refl (omega arith) (omega arith) _ refl
