@@ -1,9 +1,9 @@
 // Runs demand 3's calls, `demand::both_ways`, on each device: many settings and values, with another setting read
 // before and after. Prints a digest of the answers and of each slice.
 use demand::{BothAnswer, BothDone, BothRead};
-use part::{Device, DoneAnswer, NumberAnswer, Refusal};
-use setting_values::ValueAnswer;
-use settings::{Setting, SettingAnswer, SettingNumber};
+use part::{Device, Refusal};
+use settings::{Setting, SettingNumber};
+use std::alloc::Global;
 use std::io;
 use std::io::Write;
 use values::Value;
@@ -14,77 +14,49 @@ const TURNS: u32 = 37;
 
 // The setting of a number, or OE_MUX of macrocell 0 where the device has none.
 fn setting_of(d: Device, number: u32) -> Setting {
-    let answer = settings::setting_of_number(d, SettingNumber(number));
-    match answer {
-        SettingAnswer::Setting(s) => s,
-        SettingAnswer::Refused(_) => super::oe_mux(),
-    }
+    settings::setting_of_number(d, SettingNumber(number)).unwrap_or(super::OE_MUX_NAMED)
 }
 
 // The value of a pattern; one that is none of the setting's where the pattern is too wide.
 fn value_of(d: Device, s: Setting, pattern: u32) -> Value {
-    let answer = setting_values::value_of_pattern(d, s, pattern);
-    match answer {
-        ValueAnswer::Value(v) => v,
-        ValueAnswer::Refused(_) => Value::Unassigned(pattern),
-    }
+    setting_values::value_of_pattern(d, s, pattern).unwrap_or(Value::Unassigned(pattern))
 }
 
 fn refusal_word(r: Refusal) -> u64 {
-    part::refusal_number(r) as u64 * 4294967296 + part::refusal_value(r) as u64
+    r.number() as u64 * 4294967296 + r.value() as u64
 }
 
-fn done_word(answer: DoneAnswer) -> u64 {
-    match answer {
-        DoneAnswer::Done => 0,
-        DoneAnswer::Refused(r) => refusal_word(r),
-    }
+fn done_word(answer: Result<(), Refusal>) -> u64 {
+    answer.map_or_else(refusal_word, |_| 0)
 }
 
 // A value is told by its pattern.
-fn pattern_word(d: Device, s: Setting, v: Value) -> u64 {
-    let answer = setting_values::pattern_of_value(d, s, v);
-    match answer {
-        NumberAnswer::Number(pattern) => pattern as u64,
-        NumberAnswer::Refused(r) => refusal_word(r),
-    }
-}
-
-fn value_word(d: Device, s: Setting, answer: ValueAnswer) -> u64 {
-    match answer {
-        ValueAnswer::Value(v) => pattern_word(d, s, v),
-        ValueAnswer::Refused(r) => refusal_word(r),
-    }
+fn value_word(d: Device, s: Setting, answer: Result<Value, Refusal>) -> u64 {
+    answer
+        .and_then(|v| setting_values::pattern_of_value(d, s, v))
+        .map_or_else(refusal_word, |pattern| pattern as u64)
 }
 
 fn with_done(digest: u64, both: BothDone) -> u64 {
-    let in_image = both.image;
-    let in_readout = both.readout;
-    taken_in(taken_in(digest, done_word(in_image)), done_word(in_readout))
+    taken_in(
+        taken_in(digest, done_word(both.image)),
+        done_word(both.readout),
+    )
 }
 
 fn with_read(digest: u64, d: Device, s: Setting, both: BothRead) -> u64 {
-    let in_image = both.image;
-    let in_readout = both.readout;
-    let first = taken_in(digest, value_word(d, s, in_image));
-    taken_in(first, value_word(d, s, in_readout))
+    let first = taken_in(digest, value_word(d, s, both.image));
+    taken_in(first, value_word(d, s, both.readout))
 }
 
 // In the order of the calls.
 fn with_answers(digest: u64, d: Device, s: Setting, t: Setting, r: BothAnswer) -> u64 {
-    let before = r.before;
-    let converted = before.converted;
-    let other_before = before.other;
-    let set = r.set;
-    let converted_both = r.converted;
-    let read = r.read;
-    let other = r.other;
-    let one = taken_in(digest, done_word(converted));
-    let two = with_read(one, d, t, other_before);
-    let three = with_done(two, set);
-    let four = with_done(three, converted_both);
-    let five = with_read(four, d, s, read);
-    with_read(five, d, t, other)
+    let one = taken_in(digest, done_word(r.before.converted));
+    let two = with_read(one, d, t, r.before.other);
+    let three = with_done(two, r.set);
+    let four = with_done(three, r.converted);
+    let five = with_read(four, d, s, r.read);
+    with_read(five, d, t, r.other)
 }
 
 // The numbers to ask for: at each ninth turn one that the device does not have.
@@ -108,129 +80,85 @@ fn pattern(k: u32) -> u32 {
     k / 2 % 2
 }
 
-// Turn k, and the digest with its answers taken in.
-fn turn(
+// A device, and the slices that the calls for it are given.
+#[derive(Drop)]
+struct Slices {
     d: Device,
-    image: &mut [u8],
-    readout: &mut [u8],
-    kept: &mut [u8],
-    as_readout: &mut [u8],
-    as_image: &mut [u8],
-    k: u32,
-    digest: u64,
-) -> u64 {
-    let count = super::setting_count(d);
-    let s = setting_of(d, number(count, k));
-    let t = setting_of(d, other_number(count, k));
-    let v = value_of(d, s, pattern(k));
-    let r = demand::both_ways(d, image, readout, kept, as_readout, as_image, s, v, t);
-    with_answers(digest, d, s, t, r)
+    image: Vec<u8>,
+    readout: Vec<u8>,
+    kept: Vec<u8>,
+    as_readout: Vec<u8>,
+    as_image: Vec<u8>,
 }
 
-fn answers(
-    d: Device,
-    image: &mut [u8],
-    readout: &mut [u8],
-    kept: &mut [u8],
-    as_readout: &mut [u8],
-    as_image: &mut [u8],
-) -> u64 {
-    let mut digest: u64 = 0;
-    for k in 0..TURNS {
-        digest = turn(d, image, readout, kept, as_readout, as_image, k, digest);
+impl Slices {
+    // Lengths k of three, as for the other edits; the kept readout is as long as the readout for the right lengths alone.
+    fn new(alloc: Global, d: Device, k: u32) -> io::Result<Slices> {
+        let sizes = vectors::sizes(d);
+        let (up, down) = (k % 3, 2 - k % 3);
+        Ok(Slices {
+            d,
+            image: filled(alloc, sizes.image_bytes, up, 3)?,
+            readout: filled(alloc, sizes.readout_bytes, down, 4)?,
+            kept: filled(alloc, sizes.readout_bytes, up, 5)?,
+            as_readout: filled(alloc, sizes.readout_bytes, up, 6)?,
+            as_image: filled(alloc, sizes.image_bytes, down, 7)?,
+        })
     }
-    digest
+
+    // Turn k, and the digest with its answers taken in.
+    fn turn(&mut self, k: u32, digest: u64) -> u64 {
+        let d = self.d;
+        let count = super::setting_count(d);
+        let s = setting_of(d, number(count, k));
+        let t = setting_of(d, other_number(count, k));
+        let v = value_of(d, s, pattern(k));
+        let r = demand::both_ways(
+            d,
+            &mut self.image,
+            &mut self.readout,
+            &mut self.kept,
+            &mut self.as_readout,
+            &mut self.as_image,
+            s,
+            v,
+            t,
+        );
+        with_answers(digest, d, s, t, r)
+    }
+
+    fn answers(&mut self) -> u64 {
+        let mut digest: u64 = 0;
+        for k in 0..TURNS {
+            digest = self.turn(k, digest);
+        }
+        digest
+    }
+
+    fn put<W: Write>(&self, out: &mut W) -> io::Result<()> {
+        vectors::put(out, b" image", vectors::digest_of(&self.image))?;
+        vectors::put(out, b" readout", vectors::digest_of(&self.readout))?;
+        vectors::put(out, b" before", vectors::digest_of(&self.kept))?;
+        vectors::put(out, b" its readout", vectors::digest_of(&self.as_readout))?;
+        vectors::put(out, b" its image", vectors::digest_of(&self.as_image))?;
+        vectors::end_line(out)
+    }
 }
 
-fn put_all<W: Write>(
-    out: &mut W,
-    image: &[u8],
-    readout: &[u8],
-    kept: &[u8],
-    as_readout: &[u8],
-    as_image: &[u8],
-) -> io::Result<()> {
-    vectors::put(out, b" image", vectors::digest_of(image))?;
-    vectors::put(out, b" readout", vectors::digest_of(readout))?;
-    vectors::put(out, b" before", vectors::digest_of(kept))?;
-    vectors::put(out, b" its readout", vectors::digest_of(as_readout))?;
-    vectors::put(out, b" its image", vectors::digest_of(as_image))?;
-    vectors::end_line(out)
+// Bytes that look random, near a length.
+fn filled(alloc: Global, length: u32, step: u32, seed: u64) -> io::Result<Vec<u8>> {
+    let mut bytes = vec![in alloc; 0; near(length, step, vectors::BUFFER)]?;
+    vectors::fill(&mut bytes, seed);
+    Ok(bytes)
 }
 
-fn fill_all(
-    image: &mut [u8],
-    readout: &mut [u8],
-    kept: &mut [u8],
-    as_readout: &mut [u8],
-    as_image: &mut [u8],
-) {
-    vectors::fill(image, 3);
-    vectors::fill(readout, 4);
-    vectors::fill(kept, 5);
-    vectors::fill(as_readout, 6);
-    vectors::fill(as_image, 7);
-}
-
-fn on_slices<W: Write>(
-    out: &mut W,
-    d: Device,
-    image: &mut [u8],
-    readout: &mut [u8],
-    kept: &mut [u8],
-    as_readout: &mut [u8],
-    as_image: &mut [u8],
-) -> io::Result<()> {
-    vectors::put_device(out, d)?;
-    fill_all(image, readout, kept, as_readout, as_image);
-    vectors::put(
-        out,
-        b" both ways",
-        answers(d, image, readout, kept, as_readout, as_image),
-    )?;
-    put_all(out, image, readout, kept, as_readout, as_image)
-}
-
-// Lengths k of three, as for the other edits; the kept readout is as long as the readout for the right lengths alone.
-fn with_lengths<W: Write>(
-    out: &mut W,
-    d: Device,
-    image: &mut [u8],
-    readout: &mut [u8],
-    kept: &mut [u8],
-    as_readout: &mut [u8],
-    as_image: &mut [u8],
-    k: u32,
-) -> io::Result<()> {
-    let sizes = vectors::sizes(d);
-    let i = near(sizes.image_bytes, k % 3, image.len());
-    let r = near(sizes.readout_bytes, 2 - k % 3, readout.len());
-    let b = near(sizes.readout_bytes, k % 3, kept.len());
-    let ir = near(sizes.readout_bytes, k % 3, as_readout.len());
-    let ii = near(sizes.image_bytes, 2 - k % 3, as_image.len());
-    on_slices(
-        out,
-        d,
-        &mut image[..i],
-        &mut readout[..r],
-        &mut kept[..b],
-        &mut as_readout[..ir],
-        &mut as_image[..ii],
-    )
-}
-
-// Each device, with each of the lengths.
-pub fn each_device<W: Write>(
-    out: &mut W,
-    image: &mut [u8],
-    readout: &mut [u8],
-    kept: &mut [u8],
-    as_readout: &mut [u8],
-    as_image: &mut [u8],
-) -> io::Result<()> {
-    for k in 0..3 * vectors::DEVICES {
-        let d = vectors::device(k / 3);
-        with_lengths(out, d, image, readout, kept, as_readout, as_image, k % 3)?;
+// The calls for a device, with each of the lengths.
+pub fn ask<W: Write>(alloc: Global, out: &mut W, d: Device) -> io::Result<()> {
+    for k in 0..3 {
+        let mut slices = Slices::new(alloc, d, k)?;
+        vectors::put_device(out, d)?;
+        vectors::put(out, b" both ways", slices.answers())?;
+        slices.put(out)?;
     }
     Ok(())
 }

@@ -2,13 +2,14 @@
 // device; then both ways at once. The file stdout beside src/ is what the independent program prints.
 #![tactic(auto)]
 
-use part::{Device, DoneAnswer};
-use setting_values::ValueAnswer;
+use part::{Device, Refusal};
+use setting_bits::Layout;
 use settings::{MacrocellField, Setting};
+use std::alloc::Global;
 use std::io;
 use std::io::{BufWriter, Write};
 use values::{OeMux, Value};
-use vectors::{SMALLEST, at_most, near};
+use vectors::{SMALLEST, near};
 
 mod both;
 
@@ -18,18 +19,20 @@ const MANY: u32 = 1 << 20;
 // OE_MUX of macrocell 0 of block 0, of the smallest part.
 const OE_MUX: u32 = 15563;
 
-fn read(in_readout: bool, d: Device, bytes: &[u8], setting: u32) -> u64 {
-    if in_readout {
-        return xc9500::xc9500_read_in_readout(d.blocks, d.class, bytes, setting);
+fn read(layout: Layout, d: Device, bytes: &[u8], setting: u32) -> u64 {
+    match layout {
+        Layout::Image => xc9500::xc9500_read_in_image(d.blocks, d.class, bytes, setting),
+        Layout::Readout => xc9500::xc9500_read_in_readout(d.blocks, d.class, bytes, setting),
     }
-    xc9500::xc9500_read_in_image(d.blocks, d.class, bytes, setting)
 }
 
-fn set(in_readout: bool, d: Device, bytes: &mut [u8], setting: u32, pattern: u32) -> u64 {
-    if in_readout {
-        return xc9500::xc9500_set_in_readout(d.blocks, d.class, bytes, setting, pattern);
+fn set(layout: Layout, d: Device, bytes: &mut [u8], setting: u32, pattern: u32) -> u64 {
+    match layout {
+        Layout::Image => xc9500::xc9500_set_in_image(d.blocks, d.class, bytes, setting, pattern),
+        Layout::Readout => xc9500::xc9500_set_in_readout(
+            d.blocks, d.class, bytes, setting, pattern,
+        ),
     }
-    xc9500::xc9500_set_in_image(d.blocks, d.class, bytes, setting, pattern)
 }
 
 // How many settings a device has, 0 where there is none; below 2^20.
@@ -59,11 +62,11 @@ fn pattern(k: u32, turn: u32) -> u32 {
     (k % MANY + turn % 16) % 7 % 5
 }
 
-fn reads(in_readout: bool, d: Device, bytes: &[u8], count: u32) -> u64 {
+fn reads(layout: Layout, d: Device, bytes: &[u8], count: u32) -> u64 {
     let mut digest: u64 = 0;
     let mut setting = first_asked(count);
     for k in 0..4900 {
-        let answer = read(in_readout, d, bytes, setting);
+        let answer = read(layout, d, bytes, setting);
         digest = vectors::taken_in(digest, answer);
         setting = next_asked(count, k, setting);
     }
@@ -71,11 +74,11 @@ fn reads(in_readout: bool, d: Device, bytes: &[u8], count: u32) -> u64 {
 }
 
 // One after the other on the same bytes.
-fn sets(in_readout: bool, d: Device, bytes: &mut [u8], count: u32, turn: u32) -> u64 {
+fn sets(layout: Layout, d: Device, bytes: &mut [u8], count: u32, turn: u32) -> u64 {
     let mut digest: u64 = 0;
     let mut setting = first_asked(count);
     for k in 0..4900 {
-        let answer = set(in_readout, d, bytes, setting, pattern(k, turn));
+        let answer = set(layout, d, bytes, setting, pattern(k, turn));
         digest = vectors::taken_in(digest, answer);
         setting = next_asked(count, k, setting);
     }
@@ -85,15 +88,15 @@ fn sets(in_readout: bool, d: Device, bytes: &mut [u8], count: u32, turn: u32) ->
 // What is read, what setting answers, what is read then, and the bytes.
 fn edits<W: Write>(
     out: &mut W,
-    in_readout: bool,
+    layout: Layout,
     d: Device,
     bytes: &mut [u8],
     turn: u32,
 ) -> io::Result<()> {
     let count = setting_count(d);
-    vectors::put(out, b" read", reads(in_readout, d, &bytes[..], count))?;
-    vectors::put(out, b" set", sets(in_readout, d, bytes, count, turn))?;
-    vectors::put(out, b" then", reads(in_readout, d, &bytes[..], count))?;
+    vectors::put(out, b" read", reads(layout, d, &bytes[..], count))?;
+    vectors::put(out, b" set", sets(layout, d, bytes, count, turn))?;
+    vectors::put(out, b" then", reads(layout, d, &bytes[..], count))?;
     vectors::put(out, b" bytes", vectors::digest_of(&bytes[..]))
 }
 
@@ -106,10 +109,10 @@ fn on_any_bytes<W: Write>(
 ) -> io::Result<()> {
     vectors::fill(image, 1);
     vectors::put(out, b" image", image.len() as u64)?;
-    edits(out, false, d, image, 0)?;
+    edits(out, Layout::Image, d, image, 0)?;
     vectors::fill(readout, 2);
     vectors::put(out, b" readout", readout.len() as u64)?;
-    edits(out, true, d, readout, 1)
+    edits(out, Layout::Readout, d, readout, 1)
 }
 
 // On the readout of the image, which has no bit above a width.
@@ -121,7 +124,7 @@ fn on_as_readout<W: Write>(
 ) -> io::Result<()> {
     let answer = xc9500::xc9500_image_to_readout(d.blocks, d.class, image, readout);
     vectors::put_answer(out, answer)?;
-    edits(out, true, d, readout, 2)
+    edits(out, Layout::Readout, d, readout, 2)
 }
 
 fn answers<W: Write>(
@@ -135,24 +138,14 @@ fn answers<W: Write>(
     vectors::end_line(out)
 }
 
-// Lengths k of three: the image one byte too short and the readout one too long, both right, and the other way round.
-fn with_lengths<W: Write>(
-    out: &mut W,
-    d: Device,
-    image: &mut [u8],
-    readout: &mut [u8],
-    k: u32,
-) -> io::Result<()> {
-    vectors::put_device(out, d)?;
+// Lengths of three kinds: the image one byte too short and the readout one too long, both right, and the other way round.
+fn ask<W: Write>(alloc: Global, out: &mut W, d: Device) -> io::Result<()> {
     let sizes = vectors::sizes(d);
-    let i = near(sizes.image_bytes, k % 3, image.len());
-    let r = near(sizes.readout_bytes, 2 - k % 3, readout.len());
-    answers(out, d, &mut image[..i], &mut readout[..r])
-}
-
-fn each_device<W: Write>(out: &mut W, image: &mut [u8], readout: &mut [u8]) -> io::Result<()> {
-    for k in 0..3 * vectors::DEVICES {
-        with_lengths(out, vectors::device(k / 3), image, readout, k % 3)?;
+    for k in 0..3 {
+        let mut image = vec![in alloc; 0; near(sizes.image_bytes, k, vectors::BUFFER)]?;
+        let mut readout = vec![in alloc; 0; near(sizes.readout_bytes, 2 - k, vectors::BUFFER)]?;
+        vectors::put_device(out, d)?;
+        answers(out, d, &mut image, &mut readout)?;
     }
     Ok(())
 }
@@ -161,93 +154,71 @@ fn each_device<W: Write>(out: &mut W, image: &mut [u8], readout: &mut [u8]) -> i
 fn set_to_foe2<W: Write>(
     out: &mut W,
     name: &[u8],
-    in_readout: bool,
+    layout: Layout,
     bytes: &mut [u8],
 ) -> io::Result<()> {
-    vectors::put(out, name, read(in_readout, SMALLEST, &bytes[..], OE_MUX))?;
-    vectors::put(out, b" set", set(in_readout, SMALLEST, bytes, OE_MUX, 4))?;
-    vectors::put(
-        out,
-        b" then",
-        read(in_readout, SMALLEST, &bytes[..], OE_MUX),
-    )?;
+    vectors::put(out, name, read(layout, SMALLEST, &bytes[..], OE_MUX))?;
+    vectors::put(out, b" set", set(layout, SMALLEST, bytes, OE_MUX, 4))?;
+    vectors::put(out, b" then", read(layout, SMALLEST, &bytes[..], OE_MUX))?;
     vectors::put(out, b" bytes", vectors::digest_of(&bytes[..]))?;
     vectors::end_line(out)
 }
 
 // OE_MUX of macrocell 0 of block 0 by its name.
-fn oe_mux() -> Setting {
-    Setting::Macrocell {
-        block: 0,
-        macrocell: 0,
-        field: MacrocellField::OeMux,
+const OE_MUX_NAMED: Setting = Setting::Macrocell {
+    block: 0,
+    macrocell: 0,
+    field: MacrocellField::OeMux,
+};
+
+fn read_by_name(layout: Layout, bytes: &[u8]) -> Result<Value, Refusal> {
+    match layout {
+        Layout::Image => edit::read_in_image(SMALLEST, bytes, OE_MUX_NAMED),
+        Layout::Readout => edit::read_in_readout(SMALLEST, bytes, OE_MUX_NAMED),
     }
 }
 
-fn read_by_name(in_readout: bool, bytes: &[u8]) -> ValueAnswer {
-    if in_readout {
-        return edit::read_in_readout(SMALLEST, bytes, oe_mux());
+fn set_by_name(layout: Layout, bytes: &mut [u8], v: OeMux) -> Result<(), Refusal> {
+    match layout {
+        Layout::Image => edit::set_in_image(SMALLEST, bytes, OE_MUX_NAMED, Value::OeMux(v)),
+        Layout::Readout => edit::set_in_readout(SMALLEST, bytes, OE_MUX_NAMED, Value::OeMux(v)),
     }
-    edit::read_in_image(SMALLEST, bytes, oe_mux())
-}
-
-fn set_by_name(in_readout: bool, bytes: &mut [u8], v: OeMux) -> DoneAnswer {
-    if in_readout {
-        return edit::set_in_readout(SMALLEST, bytes, oe_mux(), Value::OeMux(v));
-    }
-    edit::set_in_image(SMALLEST, bytes, oe_mux(), Value::OeMux(v))
 }
 
 // 0 for PT, 1 for FOE2, 2 for any other value, 3 for a refusal.
-fn which_name(v: OeMux) -> u64 {
-    match v {
-        OeMux::Pt => 0,
-        OeMux::Foe2 => 1,
-        _ => 2,
-    }
-}
-
-fn which_value(v: Value) -> u64 {
-    match v {
-        Value::OeMux(name) => which_name(name),
-        _ => 2,
-    }
-}
-
-fn which(answer: ValueAnswer) -> u64 {
+fn which(answer: Result<Value, Refusal>) -> u64 {
     match answer {
-        ValueAnswer::Value(v) => which_value(v),
-        ValueAnswer::Refused(_) => 3,
+        Ok(Value::OeMux(OeMux::Pt)) => 0,
+        Ok(Value::OeMux(OeMux::Foe2)) => 1,
+        Ok(_) => 2,
+        Err(_) => 3,
     }
 }
 
-fn refusal(answer: DoneAnswer) -> u64 {
-    match answer {
-        DoneAnswer::Done => 0,
-        DoneAnswer::Refused(r) => part::refusal_number(r) as u64,
-    }
+fn refusal(answer: Result<(), Refusal>) -> u64 {
+    answer.map_or_else(|r| r.number() as u64, |_| 0)
 }
 
 fn set_to_foe2_by_name<W: Write>(
     out: &mut W,
     name: &[u8],
-    in_readout: bool,
+    layout: Layout,
     bytes: &mut [u8],
 ) -> io::Result<()> {
-    vectors::put(out, name, which(read_by_name(in_readout, &bytes[..])))?;
+    vectors::put(out, name, which(read_by_name(layout, &bytes[..])))?;
     vectors::put(
         out,
         b" set",
-        refusal(set_by_name(in_readout, bytes, OeMux::Foe2)),
+        refusal(set_by_name(layout, bytes, OeMux::Foe2)),
     )?;
-    vectors::put(out, b" then", which(read_by_name(in_readout, &bytes[..])))?;
+    vectors::put(out, b" then", which(read_by_name(layout, &bytes[..])))?;
     vectors::put(out, b" bytes", vectors::digest_of(&bytes[..]))?;
     vectors::end_line(out)
 }
 
 fn put_byte<W: Write>(out: &mut W, name: &[u8], bytes: &[u8], i: usize) -> io::Result<()> {
-    if i < bytes.len() {
-        vectors::put(out, name, bytes[i] as u64)?;
+    if let Some(byte) = bytes.get(i) {
+        vectors::put(out, name, *byte as u64)?;
         vectors::end_line(out)?;
     }
     Ok(())
@@ -259,18 +230,23 @@ fn by_number<W: Write>(out: &mut W, image: &mut [u8], readout: &mut [u8]) -> io:
     let answer = xc9500::xc9500_image_to_readout(2, 0, &image[..], readout);
     vectors::put(out, b"readout of ones", answer)?;
     vectors::end_line(out)?;
-    set_to_foe2(out, b"OE_MUX in the image", false, image)?;
+    set_to_foe2(out, b"OE_MUX in the image", Layout::Image, image)?;
     put_byte(out, b"byte of fuse 3138", &image[..], 392)?;
     put_byte(out, b"byte of fuse 3246", &image[..], 405)?;
     put_byte(out, b"byte of fuse 3354", &image[..], 419)?;
-    set_to_foe2(out, b"OE_MUX in the readout", true, readout)
+    set_to_foe2(out, b"OE_MUX in the readout", Layout::Readout, readout)
 }
 
 fn by_name<W: Write>(out: &mut W, image: &mut [u8], readout: &mut [u8]) -> io::Result<()> {
     vectors::fill_with(image, 255);
-    set_to_foe2_by_name(out, b"by name in the image", false, image)?;
+    set_to_foe2_by_name(out, b"by name in the image", Layout::Image, image)?;
     vectors::fill_with(readout, 255);
-    set_to_foe2_by_name(out, b"by name in a readout of bytes 255", true, readout)
+    set_to_foe2_by_name(
+        out,
+        b"by name in a readout of bytes 255",
+        Layout::Readout,
+        readout,
+    )
 }
 
 fn document_case<W: Write>(out: &mut W, image: &mut [u8], readout: &mut [u8]) -> io::Result<()> {
@@ -278,28 +254,17 @@ fn document_case<W: Write>(out: &mut W, image: &mut [u8], readout: &mut [u8]) ->
     by_name(out, image, readout)
 }
 
-fn on_the_smallest<W: Write>(out: &mut W, image: &mut [u8], readout: &mut [u8]) -> io::Result<()> {
-    let a = at_most(2268, image.len());
-    let b = at_most(2520, readout.len());
-    document_case(out, &mut image[..a], &mut readout[..b])
-}
-
 fn main(rt: HostRuntime) -> io::Result<()> {
     let mut out = BufWriter::new(rt.alloc(), io::writer(&rt))?;
-    let mut image = [0u8; vectors::BUFFER];
-    let mut readout = [0u8; vectors::BUFFER];
-    on_the_smallest(&mut out, &mut image, &mut readout)?;
-    each_device(&mut out, &mut image, &mut readout)?;
-    let mut kept = [0u8; vectors::BUFFER];
-    let mut as_readout = [0u8; vectors::BUFFER];
-    let mut as_image = [0u8; vectors::BUFFER];
-    both::each_device(
-        &mut out,
-        &mut image,
-        &mut readout,
-        &mut kept,
-        &mut as_readout,
-        &mut as_image,
-    )?;
+    let sizes = vectors::sizes(SMALLEST);
+    let mut image = vec![in rt.alloc(); 0; sizes.image_bytes as usize]?;
+    let mut readout = vec![in rt.alloc(); 0; sizes.readout_bytes as usize]?;
+    document_case(&mut out, &mut image, &mut readout)?;
+    for d in (0..vectors::DEVICES).map(vectors::device) {
+        ask(rt.alloc(), &mut out, d)?;
+    }
+    for d in (0..vectors::DEVICES).map(vectors::device) {
+        both::ask(rt.alloc(), &mut out, d)?;
+    }
     out.flush()
 }

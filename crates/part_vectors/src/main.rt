@@ -2,26 +2,25 @@
 // addresses. The file stdout beside src/ is what the independent program prints.
 #![tactic(auto)]
 
-use part::{Device, SizesAnswer};
+use part::{Device, Refusal};
 use std::io;
 use std::io::{BufWriter, Write};
 
-fn refusal<W: Write>(out: &mut W, r: part::Refusal) -> io::Result<()> {
-    vectors::put(out, b" refused", part::refusal_number(r) as u64)?;
-    vectors::put(out, b" value", part::refusal_value(r) as u64)
+fn refusal<W: Write>(out: &mut W, r: Refusal) -> io::Result<()> {
+    vectors::put(out, b" refused", r.number() as u64)?;
+    vectors::put(out, b" value", r.value() as u64)
 }
 
 fn sizes<W: Write>(out: &mut W, d: Device) -> io::Result<()> {
     vectors::put_device(out, d)?;
-    let answer = part::sizes_of(d);
-    match answer {
-        SizesAnswer::Of(s) => {
+    match part::sizes_of(d) {
+        Ok(s) => {
             vectors::put(out, b" fuses", s.fuses as u64)?;
             vectors::put(out, b" image", s.image_bytes as u64)?;
             vectors::put(out, b" readout", s.readout_bytes as u64)?;
             vectors::put(out, b" text", s.text_bytes as u64)?;
         }
-        SizesAnswer::Refused(r) => refusal(out, r)?,
+        Err(r) => refusal(out, r)?,
     }
     vectors::end_line(out)
 }
@@ -38,38 +37,26 @@ fn address<W: Write>(out: &mut W, a: u32) -> io::Result<()> {
     vectors::end_line(out)
 }
 
+// Document 01's bench cases.
+const BENCH_FUSES: [u32; 11] = [0, 71, 72, 107, 108, 7775, 7776, 7784, 9072, 18143, 18144];
+
+const BENCH_ADDRESSES: [u32; 4] = [5, 24, 2304, 16384];
+
 fn bench_cases<W: Write>(out: &mut W) -> io::Result<()> {
-    fuse(out, 0)?;
-    fuse(out, 71)?;
-    fuse(out, 72)?;
-    fuse(out, 107)?;
-    fuse(out, 108)?;
-    fuse(out, 7775)?;
-    fuse(out, 7776)?;
-    fuse(out, 7784)?;
-    fuse(out, 9072)?;
-    fuse(out, 18143)?;
-    fuse(out, 18144)?;
-    address(out, 5)?;
-    address(out, 24)?;
-    address(out, 2304)?;
-    address(out, 16384)
+    for f in BENCH_FUSES {
+        fuse(out, f)?;
+    }
+    for a in BENCH_ADDRESSES {
+        address(out, a)?;
+    }
+    Ok(())
 }
 
-// Call number i: the address of a fuse, or the fuse of an address with bits 0 to 8 in turn.
-fn call(by_fuse: bool, d: Device, i: u32) -> u64 {
-    if by_fuse {
-        return xc9500::xc9500_address_of_fuse(d.blocks, d.class, i);
-    }
-    xc9500::xc9500_fuse_of_address(d.blocks, d.class, i / 9, i % 9)
-}
-
-fn digest(by_fuse: bool, d: Device, calls: u32) -> u64 {
-    let mut digest: u64 = 0;
-    for i in 0..calls {
-        digest = vectors::taken_in(digest, call(by_fuse, d, i));
-    }
-    digest
+// The digest of what so many calls answer.
+fn digest<F: Fn(u32) -> u64>(calls: u32, call: F) -> u64
+    requires { F.IsAlwaysCallable call }
+{
+    (0..calls).fold(0, |digest, i| vectors::taken_in(digest, call(i)))
 }
 
 // More calls than the largest part has fuses, and nine for each address of 17 bits.
@@ -77,31 +64,32 @@ const FUSES: u32 = 300000;
 
 const ADDRESSES: u32 = 9 * 131072;
 
+fn address_of(d: Device, fuse: u32) -> u64 {
+    xc9500::xc9500_address_of_fuse(d.blocks, d.class, fuse)
+}
+
+// Call number i: an address with bits 0 to 8 in turn.
+fn fuse_of(d: Device, i: u32) -> u64 {
+    xc9500::xc9500_fuse_of_address(d.blocks, d.class, i / 9, i % 9)
+}
+
 fn digests<W: Write>(out: &mut W, d: Device) -> io::Result<()> {
     vectors::put_device(out, d)?;
     vectors::put(out, b" fuses", FUSES as u64)?;
-    vectors::put(out, b" digest", digest(true, d, FUSES))?;
+    vectors::put(out, b" digest", digest(FUSES, |fuse| address_of(d, fuse)))?;
     vectors::put(out, b" addresses", ADDRESSES as u64)?;
-    vectors::put(out, b" digest", digest(false, d, ADDRESSES))?;
+    vectors::put(out, b" digest", digest(ADDRESSES, |i| fuse_of(d, i)))?;
     vectors::end_line(out)
-}
-
-fn each_device<W: Write>(out: &mut W, sizes_only: bool) -> io::Result<()> {
-    for k in 0..vectors::DEVICES {
-        let d = vectors::device(k);
-        if sizes_only {
-            sizes(out, d)?;
-        } else {
-            digests(out, d)?;
-        }
-    }
-    Ok(())
 }
 
 fn main(rt: HostRuntime) -> io::Result<()> {
     let mut out = BufWriter::new(rt.alloc(), io::writer(&rt))?;
-    each_device(&mut out, true)?;
+    for d in (0..vectors::DEVICES).map(vectors::device) {
+        sizes(&mut out, d)?;
+    }
     bench_cases(&mut out)?;
-    each_device(&mut out, false)?;
+    for d in (0..vectors::DEVICES).map(vectors::device) {
+        digests(&mut out, d)?;
+    }
     out.flush()
 }

@@ -3,6 +3,7 @@
 #![tactic(auto)]
 
 use part::Device;
+use std::alloc::Global;
 use std::io;
 use std::io::{BufWriter, Write};
 use vectors::near;
@@ -13,109 +14,86 @@ fn conversion<W: Write>(out: &mut W, name: &[u8], answer: u64, bytes: &[u8]) -> 
     vectors::put_answer(out, answer)
 }
 
-// Lengths, sum and count of an image that looks random, and its readout.
-fn there<W: Write>(out: &mut W, d: Device, image: &mut [u8], readout: &mut [u8]) -> io::Result<()> {
-    vectors::fill(image, 1);
-    vectors::fill(readout, 2);
-    vectors::put(out, b" image", image.len() as u64)?;
-    vectors::put(out, b" readout", readout.len() as u64)?;
-    vectors::put(
-        out,
-        b" sum",
-        xc9500::xc9500_fuse_sum(d.blocks, d.class, &image[..]),
-    )?;
-    vectors::put(
-        out,
-        b" zeros",
-        xc9500::xc9500_zero_count(d.blocks, d.class, &image[..]),
-    )?;
-    let answer = xc9500::xc9500_image_to_readout(d.blocks, d.class, &image[..], readout);
-    conversion(out, b" out", answer, &readout[..])
-}
-
-fn back<W: Write>(
-    out: &mut W,
-    name: &[u8],
+// An image and a readout, for a device.
+#[derive(Drop)]
+struct Pictures {
     d: Device,
-    readout: &[u8],
-    image: &mut [u8],
-) -> io::Result<()> {
-    let answer = xc9500::xc9500_readout_to_image(d.blocks, d.class, readout, image);
-    conversion(out, name, answer, &image[..])
+    image: Vec<u8>,
+    readout: Vec<u8>,
 }
 
-// The image of a readout over other bytes.
-fn and_back<W: Write>(out: &mut W, d: Device, readout: &[u8], image: &mut [u8]) -> io::Result<()> {
-    vectors::fill(image, 3);
-    back(out, b" back", d, readout, image)
-}
-
-fn end_in_255(bytes: &mut [u8]) {
-    let n = bytes.len();
-    if 0 < n {
-        bytes[n - 1] = 255;
+impl Pictures {
+    // Lengths, sum and count of an image that looks random, and its readout.
+    fn there<W: Write>(&mut self, out: &mut W) -> io::Result<()> {
+        let d = self.d;
+        vectors::fill(&mut self.image, 1);
+        vectors::fill(&mut self.readout, 2);
+        vectors::put(out, b" image", self.image.len() as u64)?;
+        vectors::put(out, b" readout", self.readout.len() as u64)?;
+        let sum = xc9500::xc9500_fuse_sum(d.blocks, d.class, &self.image);
+        vectors::put(out, b" sum", sum)?;
+        let zeros = xc9500::xc9500_zero_count(d.blocks, d.class, &self.image);
+        vectors::put(out, b" zeros", zeros)?;
+        let answer = xc9500::xc9500_image_to_readout(
+            d.blocks,
+            d.class,
+            &self.image,
+            &mut self.readout,
+        );
+        conversion(out, b" out", answer, &self.readout)
     }
-}
 
-// The image of the readout with 255 for its last byte, and of one that looks random.
-fn bits_above_widths<W: Write>(
-    out: &mut W,
-    d: Device,
-    readout: &mut [u8],
-    image: &mut [u8],
-) -> io::Result<()> {
-    end_in_255(readout);
-    back(out, b" last", d, &readout[..], image)?;
-    vectors::fill(readout, 4);
-    back(out, b" above", d, &readout[..], image)
-}
+    // The image of the readout, over what the image holds.
+    fn back<W: Write>(&mut self, out: &mut W, name: &[u8]) -> io::Result<()> {
+        let d = self.d;
+        let answer = xc9500::xc9500_readout_to_image(
+            d.blocks,
+            d.class,
+            &self.readout,
+            &mut self.image,
+        );
+        conversion(out, name, answer, &self.image)
+    }
 
-fn answers<W: Write>(
-    out: &mut W,
-    d: Device,
-    image: &mut [u8],
-    readout: &mut [u8],
-) -> io::Result<()> {
-    there(out, d, image, readout)?;
-    and_back(out, d, &readout[..], image)?;
-    bits_above_widths(out, d, readout, image)?;
-    vectors::end_line(out)
+    // There and back, over other bytes; then with 255 for the readout's last byte, and from one that looks random.
+    fn ask<W: Write>(&mut self, out: &mut W) -> io::Result<()> {
+        self.there(out)?;
+        vectors::fill(&mut self.image, 3);
+        self.back(out, b" back")?;
+        if let Some(last) = self.readout.last_mut() {
+            *last = 255;
+        }
+        self.back(out, b" last")?;
+        vectors::fill(&mut self.readout, 4);
+        self.back(out, b" above")?;
+        vectors::end_line(out)
+    }
 }
 
 // Each length one less than right at step 0, right at step 1, one more at step 2.
 fn with_lengths<W: Write>(
+    alloc: Global,
     out: &mut W,
     d: Device,
-    image: &mut [u8],
-    readout: &mut [u8],
-    i: u32,
-    r: u32,
+    image: u32,
+    readout: u32,
 ) -> io::Result<()> {
     vectors::put_device(out, d)?;
     let sizes = vectors::sizes(d);
-    let a = near(sizes.image_bytes, i, image.len());
-    let b = near(sizes.readout_bytes, r, readout.len());
-    answers(out, d, &mut image[..a], &mut readout[..b])
-}
-
-fn each_device<W: Write>(out: &mut W, image: &mut [u8], readout: &mut [u8]) -> io::Result<()> {
-    for k in 0..9 * vectors::DEVICES {
-        with_lengths(
-            out,
-            vectors::device(k / 9),
-            image,
-            readout,
-            k % 3,
-            k / 3 % 3,
-        )?;
-    }
-    Ok(())
+    let mut pictures = Pictures {
+        d,
+        image: vec![in alloc; 0; near(sizes.image_bytes, image, vectors::BUFFER)]?,
+        readout: vec![in alloc; 0; near(sizes.readout_bytes, readout, vectors::BUFFER)]?,
+    };
+    pictures.ask(out)
 }
 
 fn main(rt: HostRuntime) -> io::Result<()> {
     let mut out = BufWriter::new(rt.alloc(), io::writer(&rt))?;
-    let mut image = [0u8; vectors::BUFFER];
-    let mut readout = [0u8; vectors::BUFFER];
-    each_device(&mut out, &mut image, &mut readout)?;
+    for d in (0..vectors::DEVICES).map(vectors::device) {
+        for steps in 0..9 {
+            with_lengths(rt.alloc(), &mut out, d, steps % 3, steps / 3)?;
+        }
+    }
     out.flush()
 }

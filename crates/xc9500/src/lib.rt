@@ -24,11 +24,9 @@ ghost use Rattle.xc9500.specs.Packed.{packed, refusal_word, address_and_bit, fus
 ghost use Rattle.xc9500.specs.Packed.{no_result, or_none, setting_and_bit, fuses_in, image_bytes_in, readout_bytes_in};
 ghost use Rattle.xc9500.specs.Packed.{text_bytes_in};
 
-use addresses::{AddressAnswer, DeviceAddress, FuseAnswer};
-use fuse_settings::NamedAnswer;
-use part::{Device, DoneAnswer, FuseNumber, NumberAnswer, Refusal, SizesAnswer};
-use setting_places::BitAnswer;
-use settings::SettingNumber;
+use addresses::{AddressBit, DeviceAddress};
+use part::{Device, FuseNumber, KnownDevice, Refusal};
+use settings::{DeviceSetting, SettingNumber};
 
 const BIT_56: u64 = 1 << 56;
 
@@ -40,114 +38,69 @@ const NO_RESULT: u64 = BIT_56 - 1;
 fn refusal_word(r: Refusal) -> u64
     ensures { result ≡ refusal_word (refusal_number r) (refusal_value r) }
 {
-    part::refusal_number(r) as u64 * BIT_56 + part::refusal_value(r) as u64
+    r.number() as u64 * BIT_56 + r.value() as u64
 }
 
-// The words of the answers.
-fn address_word(answer: AddressAnswer) -> u64
-    ensures { result ≡ packed address_and_bit (address_outcome answer) }
+// The results of an address and a bit, and of a size.
+fn address_word(at: AddressBit) -> u64
+    ensures { result ≡ address_and_bit (at.address.0, at.bit) }
 {
-    match answer {
-        AddressAnswer::At(address, bit) => address.0 as u64 * 8 + bit as u64,
-        AddressAnswer::Refused(r) => refusal_word(r),
-    }
+    at.address.0 as u64 * 8 + at.bit as u64
 }
 
-fn fuse_word(answer: FuseAnswer) -> u64
-    ensures { result ≡ packed itself (fuse_outcome answer) }
-{
-    match answer {
-        FuseAnswer::Fuse(fuse) => fuse.0 as u64,
-        FuseAnswer::Refused(r) => refusal_word(r),
-    }
-}
-
-fn number_word(answer: NumberAnswer) -> u64
+// The words of the answers that several functions give: a number, and none.
+fn number_word(answer: Result<u32, Refusal>) -> u64
     ensures { result ≡ packed itself (number_outcome answer) }
 {
-    match answer {
-        NumberAnswer::Number(x) => x as u64,
-        NumberAnswer::Refused(r) => refusal_word(r),
-    }
+    answer.map_or_else(refusal_word, |x| x as u64)
 }
 
-fn done_word(answer: DoneAnswer) -> u64
+fn done_word(answer: Result<(), Refusal>) -> u64
     ensures { result ≡ packed no_result (done_outcome answer) }
 {
-    match answer {
-        DoneAnswer::Done => 0,
-        DoneAnswer::Refused(r) => refusal_word(r),
-    }
-}
-
-fn bit_word(answer: BitAnswer) -> u64
-    ensures { result ≡ packed (or_none fuse_and_address) (bit_outcome answer) }
-{
-    match answer {
-        BitAnswer::At(fuse, address, bit) => {
-            fuse.0 as u64 * BIT_20 + (address.0 as u64 * 8 + bit as u64)
-        }
-        BitAnswer::NoSuchBit => NO_RESULT,
-        BitAnswer::Refused(r) => refusal_word(r),
-    }
+    answer.map_or_else(refusal_word, |_| 0)
 }
 
 // How many fuses a device has.
 pub fn xc9500_fuse_count(blocks: u32, class: u32) -> u64
     ensures { result ≡ packed fuses_in (sizes_of (device blocks class)) }
 {
-    let answer = part::sizes_of(Device { blocks, class });
-    match answer {
-        SizesAnswer::Of(sizes) => sizes.fuses as u64,
-        SizesAnswer::Refused(r) => refusal_word(r),
-    }
+    part::sizes_of(Device { blocks, class }).map_or_else(refusal_word, |sizes| sizes.fuses as u64)
 }
 
 // How many bytes an image of a device has.
 pub fn xc9500_image_bytes(blocks: u32, class: u32) -> u64
     ensures { result ≡ packed image_bytes_in (sizes_of (device blocks class)) }
 {
-    let answer = part::sizes_of(Device { blocks, class });
-    match answer {
-        SizesAnswer::Of(sizes) => sizes.image_bytes as u64,
-        SizesAnswer::Refused(r) => refusal_word(r),
-    }
+    part::sizes_of(Device { blocks, class }).map_or_else(refusal_word, |sizes| sizes.image_bytes as u64)
 }
 
 // How many bytes a readout of a device has.
 pub fn xc9500_readout_bytes(blocks: u32, class: u32) -> u64
     ensures { result ≡ packed readout_bytes_in (sizes_of (device blocks class)) }
 {
-    let answer = part::sizes_of(Device { blocks, class });
-    match answer {
-        SizesAnswer::Of(sizes) => sizes.readout_bytes as u64,
-        SizesAnswer::Refused(r) => refusal_word(r),
-    }
+    part::sizes_of(Device { blocks, class }).map_or_else(refusal_word, |sizes| sizes.readout_bytes as u64)
 }
 
 // How many bytes the text of an image of a device has.
 pub fn xc9500_text_bytes(blocks: u32, class: u32) -> u64
     ensures { result ≡ packed text_bytes_in (sizes_of (device blocks class)) }
 {
-    let answer = part::sizes_of(Device { blocks, class });
-    match answer {
-        SizesAnswer::Of(sizes) => sizes.text_bytes as u64,
-        SizesAnswer::Refused(r) => refusal_word(r),
-    }
+    part::sizes_of(Device { blocks, class }).map_or_else(refusal_word, |sizes| sizes.text_bytes as u64)
 }
 
 // The address times 8 plus the bit of a fuse.
 pub fn xc9500_address_of_fuse(blocks: u32, class: u32, fuse: u32) -> u64
     ensures { result ≡ packed address_and_bit (address_of_fuse (device blocks class) fuse) }
 {
-    address_word(addresses::address_of_fuse(Device { blocks, class }, FuseNumber(fuse)))
+    addresses::address_of_fuse(Device { blocks, class }, FuseNumber(fuse)).map_or_else(refusal_word, address_word)
 }
 
 // The fuse of an address and a bit.
 pub fn xc9500_fuse_of_address(blocks: u32, class: u32, address: u32, bit: u32) -> u64
     ensures { result ≡ packed itself (fuse_of_address (device blocks class) address bit) }
 {
-    fuse_word(addresses::fuse_of_address(Device { blocks, class }, DeviceAddress(address), bit))
+    addresses::fuse_of_address(Device { blocks, class }, DeviceAddress(address), bit).map_or_else(refusal_word, |fuse| fuse.0 as u64)
 }
 
 // The fuse sum of an image.
@@ -212,7 +165,11 @@ pub fn xc9500_setting_fuse(blocks: u32, class: u32, setting: u32, bit: u32) -> u
     ensures { result ≡ packed (or_none fuse_and_address) (located_by_number (device blocks class) setting bit) }
 {
     let d = Device { blocks, class };
-    bit_word(setting_places::fuse_of_numbered_bit(d, SettingNumber(setting), bit))
+    match setting_places::fuse_of_numbered_bit(d, SettingNumber(setting), bit) {
+        Ok(Some(located)) => located.fuse.0 as u64 * BIT_20 + address_word(located.at),
+        Ok(None) => NO_RESULT,
+        Err(r) => refusal_word(r),
+    }
 }
 
 // The number of the setting at a fuse times 32 plus the bit.
@@ -221,14 +178,16 @@ pub fn xc9500_setting_at_fuse(blocks: u32, class: u32, fuse: u32) -> u64
         (setting_at_fuse (device blocks class) fuse) }
 {
     let d = Device { blocks, class };
-    let answer = fuse_settings::setting_at_fuse(d, FuseNumber(fuse));
-    match answer {
-        NamedAnswer::Bit(s, bit) => {
-            let number = settings::numbers::number_of(d, s);
-            number.0 as u64 * 32 + bit as u64
+    match fuse_settings::setting_at_fuse(d, FuseNumber(fuse)) {
+        Ok(Some(named)) => {
+            let number = settings::numbers::number_of(DeviceSetting {
+                device: KnownDevice { device: d },
+                setting: named.setting,
+            });
+            number.0 as u64 * 32 + named.bit as u64
         }
-        NamedAnswer::Unnamed => NO_RESULT,
-        NamedAnswer::Refused(r) => refusal_word(r),
+        Ok(None) => NO_RESULT,
+        Err(r) => refusal_word(r),
     }
 }
 
