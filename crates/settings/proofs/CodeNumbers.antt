@@ -1,6 +1,6 @@
 -- What the code knows of a setting of the device by its group, and the number of a setting as the code adds it up, which therefore fits.
 -- Stated once for every device.
-use mathlib.Core.Path.{◌≡◌, refl, ap}
+use mathlib.Core.Path.{◌≡◌, refl, sym, ◌∙◌, ap}
 use mathlib.Core.Bool.{true}
 use mathlib.Core.List.{List, [], ◌∷◌}
 use Prim.Native.Nat.{ℕ, ◌+◌, ◌*◌, ◌/◌, ◌^◌, ◌<◌, ◌≤◌}
@@ -20,6 +20,7 @@ use Rattle.settings.specs.declared.MacrocellField.{MacrocellField}
 use Rattle.settings.specs.declared.BlockField.{BlockField}
 use Rattle.settings.specs.declared.GlobalField.{GlobalField}
 use Rattle.settings.specs.declared.Setting.{Setting}
+use Rattle.settings.specs.declared.device_setting.DeviceSetting.{DeviceSetting}
 use Rattle.settings.specs.declared.Setting.TheVariants.{Literal, WireAnd, Macrocell, Block, Global}
 use Rattle.settings.proofs.FieldIndices.{few}
 use Rattle.settings.proofs.Order.{position_below}
@@ -57,12 +58,18 @@ pub whole : (x : ℕ) → x / 1 ≡ x
 whole x = omega arith
 
 -- The number of a setting as the code adds it up, which therefore fits: with the first number of its group and its position there.
-module _ (d : Device) (k : known d ≡ true) (s : Setting) (h : has_setting d s ≡ true) where
+module _ (there : DeviceSetting) where
+  abbrev d : Device
+  d = there.device.device
+
+  abbrev s : Setting
+  s = there.setting
+
   abbrev pub Numbered : ℕ → Type 0
   Numbered r = (r ≡ number_of d s) × (r ≤ 277456)
 
   numbered_small : (r : ℕ) → r ≡ number_of d s → Numbered r
-  numbered_small r e = (e, omega (arith, number_below d s h, count_small d k))
+  numbered_small r e = (e, omega (arith, number_below d s there.is_there, count_small d there.device.is_known))
 
   -- What the code's bounds and indices give.
   pub record Placed (g : Group) (bs xs : List ℕ) : Type 0 where
@@ -70,12 +77,14 @@ module _ (d : Device) (k : known d ≡ true) (s : Setting) (h : has_setting d s 
     pub fits : position bs xs < 2 ^ 32
     pub number : (first at : ℕ) → first ≡ start d g → at ≡ position bs xs → Numbered (first + at)
 
-  placed : (g : Group) (bs xs : List ℕ) → group s ≡ g → bs ≡ bounds d g → xs ≡ indices d s → Placed g bs xs
+  placed : (g : Group) (bs xs : List ℕ) (t : Setting) → s ≡ t → group t ≡ g → bs ≡ bounds d g → xs ≡ indices d t → Placed g bs xs
   unfolding number_of
-  placed g bs xs eg eb ex =
-      let below = position_below (within d s h) in
+  placed g bs xs t w eg eb ex =
+      let below = position_below (within d s there.is_there) in
       let its = numbered_small (start d (group s) + position (bounds d (group s)) (indices d s)) refl in
-      rw (eb, ex, ← eg)
+      let in_group : g ≡ group s = sym (ap group w ∙ eg) in
+      let all : xs ≡ indices d s = ex ∙ sym (ap (indices d) w) in
+      rw (eb, all, in_group)
       (record {
         some = omega arith;
         fits = omega arith;
@@ -84,20 +93,22 @@ module _ (d : Device) (k : known d ≡ true) (s : Setting) (h : has_setting d s 
 
   pub literal : (block j t l n i : ℕ) (p : Polarity) → s ≡ Literal block j t l p → n ≡ blocks_of d → i ≡ polarity_index p
       → Placed literals (n ∷ 18 ∷ 5 ∷ 36 ∷ 2 ∷ []) (block ∷ j ∷ t ∷ l ∷ i ∷ [])
-  literal block j t l n i p w e f = placed literals _ _ (ap group w) (rw e) (rw (w, f))
+  literal block j t l n i p w e f = placed literals _ _ _ w refl (rw e) (rw f)
 
   pub wire_and : (i j t l n : ℕ) → s ≡ WireAnd i j t l → n ≡ blocks_of d
       → Placed wire_ands (n ∷ 36 ∷ n ∷ 18 ∷ []) (i ∷ j ∷ t ∷ l ∷ [])
-  wire_and i j t l n w e = placed wire_ands _ _ (ap group w) (rw e) (rw w)
+  wire_and i j t l n w e = placed wire_ands _ _ _ w refl (rw e) refl
 
   pub macrocell : (block m n i : ℕ) (f : MacrocellField) → s ≡ Macrocell block m f → n ≡ blocks_of d → i ≡ macrocell_index f
       → Placed macrocell_settings (n ∷ 18 ∷ 27 ∷ []) (block ∷ m ∷ i ∷ [])
-  macrocell block m n i f w e g = placed macrocell_settings _ _ (ap group w) (rw e) (rw (w, g))
+  macrocell block m n i f w e g = placed macrocell_settings _ _ _ w refl (rw e) (rw g)
 
   pub block : (b n i : ℕ) (f : BlockField) → s ≡ Block b f → n ≡ blocks_of d → i ≡ block_index f
       → Placed block_settings (n ∷ 6 ∷ []) (b ∷ i ∷ [])
-  block b n i f w e g = placed block_settings _ _ (ap group w) (rw e) (rw (w, g))
+  block b n i f w e g = placed block_settings _ _ _ w refl (rw e) (rw g)
 
-  pub global : (f : GlobalField) (i first : ℕ) → s ≡ Global f → i ≡ global_index (foes d) f → first ≡ start d globals → Numbered (first + i)
+  pub global : (f : GlobalField) (i first : ℕ) → s ≡ Global f → i ≡ global_index (foes d) f → first ≡ start d globals
+      → Numbered (first + i)
   unfolding number_of
-  global f i first w g e = numbered_small _ (rw (w, e, g) (omega arith))
+  global f i first w g e =
+      let its : first + i ≡ number_of d (Global f) = rw (e, g) (omega arith) in numbered_small _ (its ∙ sym (ap (number_of d) w))

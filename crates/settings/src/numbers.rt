@@ -1,6 +1,6 @@
 // The number of a setting and the setting of a number: groups, the first number of each, positions in them.
 // For the crates above: a function here may require that the device is known or has the setting.
-ghost use Rattle.std.specs.Prelude.{◌≡◌, true, ◌+◌, ◌*◌, ◌/◌, ◌^◌, ◌<◌};
+ghost use Rattle.std.specs.Prelude.{◌≡◌, map, ◌+◌, ◌*◌, ◌/◌, ◌^◌, ◌<◌};
 ghost use Rattle.part.specs.Device.{blocks_of};
 ghost use Rattle.settings.specs.Fields.{macrocells};
 ghost use Rattle.settings.specs.Order.{product, position, size, start, count_of, number_of};
@@ -63,15 +63,15 @@ pub fn number_of_usercode(d: KnownDevice) -> u32
     count_of(d) - 1
 }
 
-// The position of indices in their group, the last fastest, by how many values each index has.
-fn position<const N: usize>(bounds: [u32; N], indices: [u32; N]) -> u32
-    requires some { 0 < product bounds }
-    requires fits { position bounds indices < 2 ^ 32 }
-    ensures { result ≡ position bounds.entry indices.entry }
+// The position of indices in their group, the last fastest: each index stands beside how many values it has.
+fn position<const N: usize>(indices: [(u32, u32); N]) -> u32
+    requires some { 0 < product (map (λ x. x.1) indices) }
+    requires fits { position (map (λ x. x.1) indices) (map (λ x. x.0) indices) < 2 ^ 32 }
+    ensures { result ≡ position (map (λ x. x.1) indices.entry) (map (λ x. x.0) indices.entry) }
 {
     let mut before = 0;
-    for i in 0..N {
-        before = before * bounds[i] + indices[i];
+    for (index, bound) in indices {
+        before = before * bound + index;
     }
     before
 }
@@ -89,34 +89,42 @@ pub fn number_of(there: DeviceSetting) -> SettingNumber
             term,
             input,
             polarity,
-        } => position(
-            [n, MACROCELLS, TERMS, INPUTS, 2],
-            [block, macrocell, term, input, polarity.index()],
-        ),
+        } => position([
+            (block, n),
+            (macrocell, MACROCELLS),
+            (term, TERMS),
+            (input, INPUTS),
+            (polarity.index(), 2),
+        ]),
         Setting::WireAnd {
             block,
             input,
             source,
             macrocell,
         } => {
-            let at = position(
-                [n, INPUTS, n, MACROCELLS],
-                [block, input, source, macrocell],
-            );
-            start_of_wire_ands(d) + at
+            let indices = [
+                (block, n),
+                (input, INPUTS),
+                (source, n),
+                (macrocell, MACROCELLS),
+            ];
+            start_of_wire_ands(d) + position(indices)
         }
         Setting::Macrocell {
             block,
             macrocell,
             field,
         } => {
-            let index = field.index();
-            let at = position([n, MACROCELLS, MACROCELL_FIELDS], [block, macrocell, index]);
-            start_of_macrocells(d) + at
+            let indices = [
+                (block, n),
+                (macrocell, MACROCELLS),
+                (field.index(), MACROCELL_FIELDS),
+            ];
+            start_of_macrocells(d) + position(indices)
         }
         Setting::Block { block, field } => {
-            let at = position([n, BLOCK_FIELDS], [block, field.index()]);
-            start_of_blocks(d) + at
+            let indices = [(block, n), (field.index(), BLOCK_FIELDS)];
+            start_of_blocks(d) + position(indices)
         }
         Setting::Global(field) => start_of_globals(d) + field.index(d.device),
     };

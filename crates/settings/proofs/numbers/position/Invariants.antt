@@ -2,9 +2,12 @@
 -- Assumes nothing.
 use mathlib.Core.Path.{◌≡◌}
 use Prim.Native.Nat.{◌+◌, ◌*◌}
-use Rattle.std.proofs.Common.{drop}
+use Rattle.std.proofs.Common.{map, drop}
 use Rattle.settings.specs.Order.{product, position}
 use Rattle.settings.proofs.numbers.position.Given as goal
 
-abbrev pub invariant-loop-i : goal.invariant-loop-i
-invariant-loop-i g l = l.before * product (drop l.i l.bounds) + position (drop l.i l.bounds) (drop l.i l.indices) ≡ position l.bounds l.indices
+abbrev pub invariant-loop-index : goal.invariant-loop-index
+invariant-loop-index g l =
+    l.before * product (map (λ x. x.1) (drop l.index-index l.index-items))
+    + position (map (λ x. x.1) (drop l.index-index l.index-items)) (map (λ x. x.0) (drop l.index-index l.index-items))
+    ≡ position (map (λ x. x.1) l.index-items) (map (λ x. x.0) l.index-items)
