@@ -2,15 +2,15 @@
 -- Assumes nothing.
 use mathlib.Core.Path.{◌≡◌, refl, sym, ◌∙◌, ap, ap₂}
 use mathlib.Core.Bool.{true, false}
-use mathlib.Core.List.{List, [], ◌∷◌, ◌++◌}
+use mathlib.Core.List.{List, ◌++◌}
 use Prim.Native.Nat.{ℕ, ◌+◌, ◌≤◌, ◌<◌}
 use native.Mathlib.Omega.{arith}
-use lib.ListN.{length, take, drop, length-append, take-append-drop}
+use lib.ListN.{length, drop, length-append, take-append-drop}
 use borrow.Author.Tests.{lt-ltb, le-ltb}
 use Rattle.part.specs.Outcome.{Outcome, Written}
 use Rattle.part.specs.Outcome.Outcome.{accepted, refused}
 use Rattle.part.specs.Device.{known, image_bytes}
-use Rattle.part.specs.Sizes.{bytes_put, at_start}
+use Rattle.part.specs.Sizes.{bytes_put}
 use Rattle.part.specs.declared.Device.{Device}
 use Rattle.part.proofs.Targets.{unknown, wrong_first, wrong_second, right}
 use Rattle.differences.specs.Differences.{differing_fuses, lines_of, first_line, text_of, to_differences, with_differences}

@@ -8,7 +8,7 @@ use native.Mathlib.Omega.{arith}
 use native.Mathlib.Nat.{add-zero, zero-add, suc-add, zero-div, zero-mul, zero-mod}
 use lib.Bits.{bit_xor}
 use lib.Dec.{eqb}
-use lib.ListN.{length, get_or, drop, replicate, length-replicate, length-append, length-drop, drop_of_length-le, replicate-append-replicate}
+use lib.ListN.{length, get_or, drop, replicate, length-replicate, length-drop, drop_of_length-le, replicate-append-replicate}
 use lib.Seq.{get_or-drop}
 use borrow.Author.Tests.{eqb-true, eq-eqb}
 use Rattle.cells.specs.Cells.{join, total}

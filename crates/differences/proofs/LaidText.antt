@@ -2,17 +2,18 @@
 -- Assumes nothing.
 use mathlib.Core.Path.{◌≡◌, refl, sym, ◌∙◌, ap, ap₂}
 use mathlib.Core.List.{List, [], ◌∷◌, ◌++◌, append_assoc, append-nil}
-use Prim.Native.Nat.{ℕ, ◌+◌, ◌*◌, ◌-◌, ◌/◌, ◌^◌, ◌≤◌, ◌<◌}
+use Prim.Native.Nat.{ℕ, zero, suc, ◌+◌, ◌*◌, ◌-◌, ◌/◌, ◌^◌, ◌≤◌, ◌<◌}
 use native.Mathlib.Omega.{arith}
-use native.Mathlib.Nat.{add-zero}
-use lib.ListN.{length, take, drop, replicate, length-append, length-take, length-replicate, replicate-append-replicate}
+use native.Mathlib.Nat.{add-zero, not-suc-le-zero, le_of_suc-le-suc}
+use lib.ListN.{length, get_or, take, drop, replicate, length-append, length-take, length-replicate, replicate-append-replicate}
 use lib.Seq.{sets, sets-eq, length-sets, take_at, drop_at, drop-drop}
 use Rattle.cells.specs.Cells.{cut, total}
-use Rattle.cells.proofs.Laws.{cut_append, cut_length, total_replicate}
+use Rattle.cells.proofs.Laws.{cut_append, cut_length}
 use Rattle.report_lines.specs.Put.{Put}
-use Rattle.names.specs.Pieces.{text_of, name_text}
+use Rattle.names.specs.Pieces.{text_of, name_text, AllFew}
 use Rattle.names.specs.declared.pieces.Piece.{Piece}
-use Rattle.names.specs.declared.pieces.Name.{Name}
+use Rattle.names.proofs.AtFuse.{text_length}
+use Rattle.std.proofs.lemmas.List.{take_more, take_all}
 use Rattle.differences.specs.Scan.{Laid, SpellsLine}
 use Rattle.differences.specs.declared.lines.Line.{Line}
 
@@ -91,6 +92,11 @@ put_laid before after bytes at end fits p =
     let laid = stored before after bytes [] at (rw none fits) (p.holds ∙ ap (sets before at) (sym none)) in
     record { ends = p.ends; long = laid.long; holds = rw p.ends laid.holds; behind = rw none at laid.behind }
 
+-- No text.
+pub nothing_laid : (out : List ℕ) (at until : ℕ) → Laid out out at until [] at
+nothing_laid out at until =
+    record { ends = sym (add-zero at); long = refl; holds = sym (append-nil (take at out)); behind = refl }
+
 -- Text of which a part is put and the rest is to come.
 pub record Going (before after : List ℕ) (at until : ℕ) (rest all : List ℕ) (next : ℕ) : Type 0 where
   pub done : List ℕ
@@ -101,8 +107,7 @@ pub going_start : (before all : List ℕ) (at until : ℕ) → at ≤ length bef
 going_start before all at until h =
     record {
       done = [];
-      laid =
-          record { ends = sym (add-zero at); long = refl; holds = sym (append-nil (take at before)); behind = refl };
+      laid = nothing_laid before at until;
       whole = refl;
     }
 
@@ -127,17 +132,57 @@ going_fits before after rest all at until next g =
     let long : length g.done + length rest ≡ length all = sym (length-append g.done rest) ∙ ap length g.whole in
     omega (arith, g.laid.ends)
 
--- The pieces of a name, and of a line, one behind another.
-pub name_laid : (n : Name) (o a b c d e : List ℕ) (at p q r s t : ℕ) → n.one.len ≤ 8 → n.two.len ≤ 8 → n.three.len ≤ 8
-    → n.four.len ≤ 8 → n.five.len ≤ 8 → Laid o a at (at + 8) (text_of n.one) p → p ≡ at + n.one.len
-    → Laid a b p (p + 8) (text_of n.two) q → q ≡ p + n.two.len → Laid b c q (q + 8) (text_of n.three) r → r ≡ q + n.three.len
-    → Laid c d r (r + 8) (text_of n.four) s → s ≡ r + n.four.len → Laid d e s (s + 8) (text_of n.five) t
-    → Laid o e at (at + 40) (name_text n) t
-name_laid n o a b c d e at p q r s t h1 h2 h3 h4 h5 l1 e1 l2 e2 l3 e3 l4 e4 l5 =
-    let two = then o a b _ _ at p q _ _ (at + 40) l1 l2 (omega arith) (omega arith) in
-    let three = then o b c _ _ at q r _ _ (at + 40) two l3 (omega arith) (omega arith) in
-    let four = then o c d _ _ at r s _ _ (at + 40) three l4 (omega arith) (omega arith) in
-    then o d e _ _ at s t _ _ (at + 40) four l5 (omega arith) (omega arith)
+-- The pieces of a name one behind another: when `i` of them are put, the next one follows.
+name_append : (ps qs : List Piece) → name_text (ps ++ qs) ≡ name_text ps ++ name_text qs
+name_append [] qs = refl
+name_append (p ∷ ps) qs =
+    ap (λ (l : List ℕ). text_of p ++ l) (name_append ps qs) ∙ sym (append_assoc (text_of p) (name_text ps) (name_text qs))
+
+name_more : (n : List Piece) (i : ℕ) (none : Piece) → i < length n
+    → name_text (take (i + 1) n) ≡ name_text (take i n) ++ text_of (get_or n i none)
+name_more n i none h =
+    ap name_text (take_more n i none h) ∙ name_append (take i n) (get_or n i none ∷ [])
+    ∙ ap (λ (l : List ℕ). name_text (take i n) ++ l) (append-nil (text_of (get_or n i none)))
+
+few_at : (n : List Piece) (i : ℕ) (none : Piece) → AllFew n → i < length n → (get_or n i none).len ≤ 8
+few_at [] i none h l = absurd (not-suc-le-zero l)
+few_at (q ∷ n) zero none h l = h.0
+few_at (q ∷ n) (suc i) none h l = few_at n i none h.1 (le_of_suc-le-suc l)
+
+module _ (n : List Piece) (few : AllFew n) (five : length n ≡ 5) where
+  -- The bytes of the pieces so far.
+  pub bytes_fit : (none : Piece) (i bytes : ℕ) → i < 5 → bytes ≤ 8 * i → bytes + (get_or n i none).len ≤ 8 * (i + 1)
+  bytes_fit none i bytes below most = omega (arith, few_at n i none few (omega arith))
+
+  pub bytes_more : (none : Piece) (i bytes : ℕ) → i < 5 → bytes ≡ length (name_text (take i n))
+      → bytes + (get_or n i none).len ≡ length (name_text (take (i + 1) n))
+  bytes_more none i bytes below e =
+      e' ∙ sym (ap length (name_more n i none (omega arith)) ∙ length-append (name_text (take i n)) (text_of (get_or n i none)))
+    where
+      e' : bytes + (get_or n i none).len ≡ length (name_text (take i n)) + length (text_of (get_or n i none))
+      e' = ap₂ ◌+◌ e (sym (text_length (get_or n i none)))
+
+  pub bytes_all : (i bytes : ℕ) → 5 ≤ i → i ≤ 5 → bytes ≡ length (name_text (take i n)) → bytes ≤ 8 * i
+      → (bytes ≡ length (name_text n)) × (bytes ≤ 40)
+  bytes_all i bytes above below e most = (e ∙ ap (λ (l : List Piece). length (name_text l)) (take_all i n (omega arith)), omega arith)
+
+  -- The text of the pieces so far.
+  pub piece_room : (none : Piece) (out : List ℕ) (at i next : ℕ) → i < 5 → next ≤ at + 8 * i → at + 40 ≤ length out
+      → ((get_or n i none).len ≤ 8) × (next + 8 ≤ length out)
+  piece_room none out at i next below most fits = (few_at n i none few (omega arith), omega arith)
+
+  pub piece_put : (none : Piece) (before out after : List ℕ) (at i next end : ℕ) → i < 5
+      → Laid before out at (at + 40) (name_text (take i n)) next → next ≤ at + 8 * i
+      → Laid out after next (next + 8) (text_of (get_or n i none)) end → end ≡ next + (get_or n i none).len
+      → Laid before after at (at + 40) (name_text (take (i + 1) n)) end × (end ≤ at + 8 * (i + 1))
+  piece_put none before out after at i next end below p most q e =
+      let all = then before out after _ _ at next end _ _ (at + 40) p q (omega arith) (omega arith) in
+      (rw (name_more n i none (omega arith)) all, omega (arith, few_at n i none few (omega arith)))
+
+  pub name_put : (before after : List ℕ) (at i next : ℕ) → 5 ≤ i → i ≤ 5 → Laid before after at (at + 40) (name_text (take i n)) next
+      → next ≤ at + 8 * i → Laid before after at (at + 40) (name_text n) next × (next ≤ at + 40)
+  name_put before after at i next above below p most =
+      let all : take i n ≡ n = take_all i n (omega arith) in (rw all at p, omega arith)
 
 pub line_laid : (l : Line) (text o a b c e : List ℕ) (at p q r s : ℕ) → SpellsLine l text
     → Laid o a at (at + 8) (text_of l.number) p → p ≡ at + l.number.len → Laid a b p (p + 8) (text_of l.states) q

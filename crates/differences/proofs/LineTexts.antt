@@ -2,14 +2,14 @@
 -- Assumes nothing.
 use mathlib.Core.Path.{◌≡◌, refl, sym, ◌∙◌, ap, ap₂}
 use mathlib.Core.Bool.{Bool, true, false, cond}
-use mathlib.Core.List.{List, [], ◌∷◌, ◌++◌, append_assoc, append-nil}
+use mathlib.Core.List.{List, [], ◌∷◌, ◌++◌, append_assoc}
 use Prim.Native.Nat.{ℕ, zero, suc, ◌+◌, ◌*◌, ◌-◌, ◌/◌, ◌%◌, ◌^◌, ◌≤◌, ◌<◌}
 use native.Mathlib.Omega.{arith}
 use lib.Bits.{bit_and, and_le_l}
 use lib.Count.{count_trailing_zeros, trailing_le}
 use lib.Dec.{eqb}
 use lib.ListN.{length, take, length-append}
-use borrow.Author.Tests.{eqb-true, eqb-false, eq-eqb}
+use borrow.Author.Tests.{eqb-false}
 use Rattle.cells.specs.Cells.{cut}
 use Rattle.part.specs.Device.{known, fuse_count, decimal_digits}
 use Rattle.part.specs.declared.Device.{Device}
@@ -23,7 +23,6 @@ use Rattle.report_lines.specs.Put.{Put}
 use Rattle.names.specs.Names.{name_at}
 use Rattle.names.specs.Pieces.{text_of, name_text, Holds, SpellsBit}
 use Rattle.names.specs.declared.pieces.Piece.{Piece}
-use Rattle.names.specs.declared.pieces.Name.{Name}
 use Rattle.names.specs.declared.pieces.BitName.{BitName}
 use Rattle.names.proofs.AtFuse.{held_length, text_length}
 use Rattle.names.proofs.WordBytes.{few_count}
@@ -60,11 +59,7 @@ line_spelled d fuse old number states end n hn hs hb he =
     record {
       number_few = hn.few;
       states_few = hs.few;
-      one_few = hb.one_few;
-      two_few = hb.two_few;
-      three_few = hb.three_few;
-      four_few = hb.four_few;
-      five_few = hb.five_few;
+      name_few = hb.few;
       end_few = he.few;
       text_is =
           ap (λ (l : List ℕ). text_of number ++ text_of states ++ name_text n.name ++ l) he.text_is
@@ -73,25 +68,19 @@ line_spelled d fuse old number states end n hn hs hb he =
     }
 
 -- How many bytes a line has.
-name_length : (n : Name) → length (name_text n) ≡ n.one.len + n.two.len + n.three.len + n.four.len + n.five.len
-name_length n =
-    simp length-append (rw (text_length n.one, text_length n.two, text_length n.three, text_length n.four, text_length n.five))
-
-pub line_counted : (d : Device) (fuse digits : ℕ) (n : BitName) → digits ≡ decimal_digits fuse → SpellsBit n (space ∷ name_at d fuse)
-    → digits + 4 + (n.name.one.len + n.name.two.len + n.name.three.len + n.name.four.len + n.name.five.len + n.bit.len) + 1
-    ≡ line_bytes d fuse
+pub line_counted : (d : Device) (fuse digits bytes : ℕ) (n : BitName) → digits ≡ decimal_digits fuse
+    → SpellsBit n (space ∷ name_at d fuse) → bytes ≡ length (name_text n.name)
+    → digits + 4 + (bytes + n.bit.len) + 1 ≡ line_bytes d fuse
 unfolding line_bytes
-line_counted d fuse digits n e h =
+line_counted d fuse digits bytes n e h f =
     let long : length (name_text n.name) + n.bit.len ≡ 1 + length (name_at d fuse) =
     ap (λ (k : ℕ). length (name_text n.name) + k) (sym (text_length n.bit)) ∙ sym (length-append (name_text n.name) (text_of n.bit))
     ∙ ap length h.text_is ∙ omega arith in
-    rw (digits_length 10 decimal_digit (decimal_digits fuse) fuse, ← e, ← long, name_length n.name)
+    rw (digits_length 10 decimal_digit (decimal_digits fuse) fuse, ← e, ← long, ← f)
 
-pub line_short : (d : Device) (fuse digits : ℕ) (n : BitName) → known d ≡ true → fuse < fuse_count d → digits ≡ decimal_digits fuse
-    → SpellsBit n (space ∷ name_at d fuse)
-    → digits + 4 + (n.name.one.len + n.name.two.len + n.name.three.len + n.name.four.len + n.name.five.len + n.bit.len) + 1 ≤ 64
-line_short d fuse digits n k l e h =
-    omega (arith, few_count fuse digits e (fuse_small d fuse k l), h.one_few, h.two_few, h.three_few, h.four_few, h.five_few, h.bit_few)
+pub line_short : (d : Device) (fuse digits bytes : ℕ) (n : BitName) → known d ≡ true → fuse < fuse_count d → digits ≡ decimal_digits fuse
+    → SpellsBit n (space ∷ name_at d fuse) → bytes ≤ 40 → digits + 4 + (bytes + n.bit.len) + 1 ≤ 64
+line_short d fuse digits bytes n k l e h few = omega (arith, few_count fuse digits e (fuse_small d fuse k l), h.bit_few)
 
 pub line_length : (d : Device) (fuse old : ℕ) → length (line_with d fuse old) ≡ line_bytes d fuse
 unfolding line_bytes

@@ -1,14 +1,13 @@
 -- The ones of a word as fuses: the first of them is at the trailing zeros, the others are those of the word without it; the ones of the
 -- exclusive-or of two words are the fuses that differ. Assumes nothing.
 use mathlib.Core.Path.{◌≡◌, refl, sym, ◌∙◌, ap, ap₂, subst}
-use mathlib.Core.Bool.{Bool, true, false, cond}
-use mathlib.Core.List.{List, [], ◌∷◌, ◌++◌}
-use Prim.Native.Nat.{ℕ, zero, suc, min, ◌+◌, ◌*◌, ◌-◌, ◌/◌, ◌%◌, ◌^◌, ◌≤◌, ◌<◌}
+use mathlib.Core.List.{List, [], ◌∷◌}
+use Prim.Native.Nat.{ℕ, zero, suc, ◌+◌, ◌*◌, ◌-◌, ◌/◌, ◌%◌, ◌^◌, ◌≤◌, ◌<◌}
 use native.Mathlib.Omega.{arith}
 use native.Mathlib.Nat.{mod-lt, add-zero, div-one}
-use native.Mathlib.Numerals.{add-one, one-add}
+use native.Mathlib.Numerals.{add-one}
 use lib.Bits.{bit_and, bit_xor, differ, and_step, and_self, xor_step}
-use lib.Count.{ones, ones_step, under, count_trailing_zeros}
+use lib.Count.{ones, ones_step, count_trailing_zeros}
 use lib.Dec.{eqb}
 use lib.ListN.{length}
 use lib.Pow.{shr_lt, shr-shr}

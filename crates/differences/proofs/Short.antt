@@ -1,12 +1,12 @@
 -- How long the text of the differences can be: so its length fits every word that holds it.
 -- Assumes nothing.
-use mathlib.Core.Path.{◌≡◌, sym, ◌∙◌, ap₂}
+use mathlib.Core.Path.{◌≡◌}
 use mathlib.Core.Bool.{true}
 use mathlib.Core.List.{List, [], ◌∷◌}
-use Prim.Native.Nat.{ℕ, ◌+◌, ◌*◌, ◌≤◌}
+use Prim.Native.Nat.{ℕ, ◌*◌, ◌≤◌}
 use native.Mathlib.Omega.{arith}
 use lib.ListN.{length, length-append}
-use Rattle.part.specs.Device.{known, fuse_count, decimal_digits}
+use Rattle.part.specs.Device.{known, fuse_count}
 use Rattle.part.specs.declared.Device.{Device}
 use Rattle.part.proofs.Devices.{fuses_small}
 use Rattle.names.proofs.Short.{digits_few, name_short}

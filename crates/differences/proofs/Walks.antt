@@ -1,9 +1,9 @@
 -- The walk over the words of two images: what is counted or put so far, and what is to come, are all that differs.
 -- Assumes nothing.
-use mathlib.Core.Path.{◌≡◌, refl, sym, ◌∙◌, ap, ap₂, subst}
+use mathlib.Core.Path.{◌≡◌, sym, ◌∙◌, ap, subst}
 use mathlib.Core.Bool.{true}
-use mathlib.Core.List.{List, [], ◌∷◌, ◌++◌}
-use Prim.Native.Nat.{ℕ, zero, suc, ◌+◌, ◌*◌, ◌-◌, ◌/◌, ◌%◌, ◌^◌, ◌≤◌, ◌<◌}
+use mathlib.Core.List.{List, [], ◌++◌}
+use Prim.Native.Nat.{ℕ, ◌+◌, ◌*◌, ◌-◌, ◌^◌, ◌≤◌, ◌<◌}
 use native.Mathlib.Omega.{arith}
 use lib.Bits.{bit_xor, xor_lt}
 use lib.Count.{ones}
@@ -18,7 +18,7 @@ use Rattle.differences.specs.Scan.{ones_from, HasStates, AllBelow, lines_bytes, 
 use Rattle.differences.proofs.Ones.{ones_count, xor_ones}
 use Rattle.differences.proofs.Differing.{differ_few, past_all, word_differs, word_below, word_states}
 use Rattle.differences.proofs.LineTexts.{bytes_append, lines_append, lines_count, lines_same}
-use Rattle.differences.proofs.LaidText.{Going, going_start, going_on, going_end, going_fits}
+use Rattle.differences.proofs.LaidText.{Going, going_start, going_end, going_fits}
 
 module _ (d : Device) (old new : List ℕ) (k : known d ≡ true) (lo : length old ≡ image_bytes d) (ln : length new ≡ image_bytes d) where
   pub same_length : length new ≡ length old

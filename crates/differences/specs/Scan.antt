@@ -7,7 +7,7 @@ use Rattle.part.specs.declared.Device.{Device}
 use Rattle.image.specs.Image.{state}
 use Rattle.jedec.specs.Characters.{lf, space, decimal_digit, count_digits}
 use Rattle.names.specs.Names.{name_at}
-use Rattle.names.specs.Pieces.{text_of, name_text}
+use Rattle.names.specs.Pieces.{text_of, name_text, AllFew}
 use Rattle.differences.specs.Differences.{differing}
 use Rattle.differences.specs.declared.lines.Line.{Line}
 
@@ -66,10 +66,6 @@ differing_from old new byte = differing old new (byte * 8) (length old * 8 - byt
 pub record SpellsLine (l : Line) (text : List ℕ) : Type 0 where
   pub number_few : l.number.len ≤ 8
   pub states_few : l.states.len ≤ 8
-  pub one_few : l.name.one.len ≤ 8
-  pub two_few : l.name.two.len ≤ 8
-  pub three_few : l.name.three.len ≤ 8
-  pub four_few : l.name.four.len ≤ 8
-  pub five_few : l.name.five.len ≤ 8
+  pub name_few : AllFew l.name
   pub end_few : l.end.len ≤ 8
   pub text_is : text_of l.number ++ text_of l.states ++ name_text l.name ++ text_of l.end ≡ text

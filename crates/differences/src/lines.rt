@@ -1,14 +1,16 @@
 // The line of a fuse: its pieces, how many bytes it has, and the line put into a slice.
-// A function here may require that the device is known and has the fuse, and that the line lies in the slice.
-ghost use Rattle.std.specs.Prelude.{◌≡◌, true, [], ◌∷◌, ◌+◌, ◌-◌, ◌≤◌, ◌<◌, length};
-ghost use Rattle.part.specs.Device.{known, fuse_count};
+// A function here may require that the device has the fuse, and that the line lies in the slice.
+ghost use Rattle.std.specs.Prelude.{◌≡◌, [], ◌∷◌, ◌+◌, ◌-◌, ◌≤◌, ◌<◌, length};
+ghost use Rattle.part.specs.Device.{fuse_count};
 ghost use Rattle.jedec.specs.Characters.{space, decimal_digit};
-ghost use Rattle.names.specs.Pieces.{text_of, name_text, Holds};
+ghost use Rattle.names.specs.Pieces.{text_of, name_text, AllFew, Holds};
 ghost use Rattle.differences.specs.Differences.{first_line};
 ghost use Rattle.differences.specs.Scan.{line_bytes, line_with, Laid, SpellsLine};
 
-use names::pieces::{Name, Piece};
-use part::Device;
+use names::pieces::{Name, Piece, count_digits, followed};
+use names::setting_names::name_at;
+use part::KnownDevice;
+use part::geometry::decimal_digits;
 
 // A line in pieces: the number, the two states, the name, and what stands behind it.
 #[derive(Clone, Copy)]
@@ -18,6 +20,9 @@ pub struct Line {
     pub name: Name,
     pub end: Piece,
 }
+
+// LF.
+const FEED: Piece = Piece { word: 10, len: 1 };
 
 // A space, the old state, a space, the other state.
 fn states_piece(old: u64) -> Piece
@@ -31,36 +36,40 @@ fn states_piece(old: u64) -> Piece
 }
 
 // The line of a fuse whose old state is given; its new one is the other.
-fn line_of(d: Device, fuse: u32, old: u64) -> Line
-    requires { (known d ≡ true) × (fuse < fuse_count d) × (old < 2) }
-    ensures { SpellsLine result (line_with d fuse old) }
+fn line_of(part: KnownDevice, fuse: u32, old: u64) -> Line
+    requires { (fuse < fuse_count part.device) × (old < 2) }
+    ensures { SpellsLine result (line_with part.device fuse old) }
 {
-    let number = names::pieces::count_digits(fuse);
-    let states = states_piece(old);
-    let named = names::setting_names::name_at(d, fuse);
+    let named = name_at(part, fuse);
     let name = named.name;
-    let bit = named.bit;
-    let feed = Piece { word: 10, len: 1 };
-    let end = names::pieces::followed(bit, feed);
     Line {
-        number,
-        states,
+        number: count_digits(fuse),
+        states: states_piece(old),
         name,
-        end,
+        end: followed(named.bit, FEED),
     }
 }
 
-// How many bytes the line of a fuse has.
-pub fn line_bytes(d: Device, fuse: u32) -> usize
-    requires { (known d ≡ true) × (fuse < fuse_count d) }
-    ensures { (result ≡ line_bytes d fuse) × (result ≤ 64) }
+// How many bytes a name has.
+fn name_bytes(n: Name) -> usize
+    requires { AllFew n }
+    ensures { (result ≡ length (name_text n)) × (result ≤ 40) }
 {
-    let digits = part::geometry::decimal_digits(fuse) as usize;
-    let named = names::setting_names::name_at(d, fuse);
-    let name = named.name;
-    let bit = named.bit;
-    let pieces = name.one.len + name.two.len + name.three.len + name.four.len + name.five.len;
-    digits + 4 + (pieces + bit.len) + 1
+    let mut bytes = 0;
+    for piece in n {
+        bytes += piece.len;
+    }
+    bytes
+}
+
+// How many bytes the line of a fuse has.
+pub fn line_bytes(part: KnownDevice, fuse: u32) -> usize
+    requires { fuse < fuse_count part.device }
+    ensures { (result ≡ line_bytes part.device fuse) × (result ≤ 64) }
+{
+    let digits = decimal_digits(fuse) as usize;
+    let named = name_at(part, fuse);
+    digits + 4 + (name_bytes(named.name) + named.bit.len) + 1
 }
 
 // A piece put into a slice, with other bytes behind it; the index behind it.
@@ -74,43 +83,41 @@ fn put_piece(p: Piece, out: &mut [u8], at: usize) -> usize
 
 // The pieces of a name.
 fn put_name(n: Name, out: &mut [u8], at: usize) -> usize
-    requires { (n.one.len ≤ 8) × (n.two.len ≤ 8) × (n.three.len ≤ 8) × (n.four.len ≤ 8) × (n.five.len ≤ 8)
-        × (at + 40 ≤ length out.old) }
+    requires { (AllFew n) × (at + 40 ≤ length out.old) }
     ensures { (Laid out.old out.new at (at + 40) (name_text n) result) × (result ≤ at + 40) }
 {
-    let one = put_piece(n.one, out, at);
-    let two = put_piece(n.two, out, one);
-    let three = put_piece(n.three, out, two);
-    let four = put_piece(n.four, out, three);
-    put_piece(n.five, out, four)
+    let mut next = at;
+    for piece in n {
+        next = put_piece(piece, out, next);
+    }
+    next
 }
 
 // The line of a fuse put into a slice that has 64 bytes for it; the index behind it.
-pub fn put_line(d: Device, fuse: u32, old: u64, out: &mut [u8], at: usize) -> usize
-    requires { (known d ≡ true) × (fuse < fuse_count d) × (old < 2) × (at + 64 ≤ length out.old) }
+pub fn put_line(part: KnownDevice, fuse: u32, old: u64, out: &mut [u8], at: usize) -> usize
+    requires { (fuse < fuse_count part.device) × (old < 2) × (at + 64 ≤ length out.old) }
     ensures { (Laid out.old out.new at (at + 64)
-        (line_with d fuse old) result) × (result ≤ at + 64) }
+        (line_with part.device fuse old) result) × (result ≤ at + 64) }
 {
-    let line = line_of(d, fuse, old);
-    let number = line.number;
-    let states = line.states;
-    let name = line.name;
-    let end = line.end;
-    let one = put_piece(number, out, at);
-    let two = put_piece(states, out, one);
-    let three = put_name(name, out, two);
-    put_piece(end, out, three)
+    let line = line_of(part, fuse, old);
+    let one = put_piece(line.number, out, at);
+    let two = put_piece(line.states, out, one);
+    let three = put_name(line.name, out, two);
+    put_piece(line.end, out, three)
 }
 
 // ` differ` and LF, the first byte lowest.
-const DIFFER: u64 = 0x0A72_6566_6669_6420;
+const DIFFER: Piece = Piece {
+    word: 0x0A72_6566_6669_6420,
+    len: 8,
+};
 
 // The bytes of the first line.
 pub fn first_bytes(fuses: u32) -> usize
     requires { fuses < 1000000 }
     ensures { (result ≡ length (first_line fuses)) × (result ≤ 14) }
 {
-    part::geometry::decimal_digits(fuses) as usize + 8
+    decimal_digits(fuses) as usize + 8
 }
 
 // The first line, put at the start of a slice; the index behind it.
@@ -118,14 +125,6 @@ pub fn put_first(fuses: u32, out: &mut [u8]) -> usize
     requires { (fuses < 1000000) × (length (first_line fuses) ≤ length out.old) }
     ensures { Laid out.old out.new 0 (length (first_line fuses)) (first_line fuses) result }
 {
-    let number = names::pieces::count_digits(fuses);
-    let behind = put_piece(number, out, 0);
-    put_piece(
-        Piece {
-            word: DIFFER,
-            len: 8,
-        },
-        out,
-        behind,
-    )
+    let behind = put_piece(count_digits(fuses), out, 0);
+    put_piece(DIFFER, out, behind)
 }

@@ -1,17 +1,17 @@
 // The walk over two images: how many fuses differ, how many bytes their lines have, and the lines put into a slice.
 // A function here may require that the images have the length of the device, and that the lines lie in the slice.
-ghost use Rattle.std.specs.Prelude.{◌≡◌, true, ◌+◌, ◌-◌, ◌≤◌, ◌<◌, length};
+ghost use Rattle.std.specs.Prelude.{◌≡◌, ◌+◌, ◌-◌, ◌≤◌, ◌<◌, length};
 ghost use Rattle.std.specs.Int.Bits.{bit_and};
-ghost use Rattle.part.specs.Device.{known, fuse_count, image_bytes};
+ghost use Rattle.part.specs.Device.{fuse_count, image_bytes};
 ghost use Rattle.differences.specs.Differences.{differing_fuses, lines_of};
 ghost use Rattle.differences.specs.Scan.{ones_from, AllBelow, line_bytes, lines_bytes, line_with, lines_with, Laid};
 
 use super::lines::{line_bytes, put_line};
 use super::words::{skip_same, word_at};
-use part::Device;
+use part::KnownDevice;
 
 // How many fuses differ, and how many bytes their lines have.
-#[derive(Clone, Copy)]
+#[derive(Clone, Copy, Debug, PartialEq, Eq)]
 pub struct Tally {
     pub fuses: u32,
     pub bytes: usize,
@@ -25,25 +25,27 @@ fn without_lowest(x: u64) -> u64
     x & (x - 1)
 }
 
-// The bytes of the lines of the ones of a word.
-fn word_bytes(d: Device, from: u32, x: u64) -> usize
-    requires { (known d ≡ true) × (from ≤ 1000000) × (AllBelow (fuse_count d) (ones_from from x 64)) }
-    ensures { (result ≡ lines_bytes d (ones_from from x 64)) × (result ≤ 4096) }
+// The bytes of the lines of the ones of a word. A while here and in `put_word`: what is left of the word is all that the
+// loop walks, and a for over its bits would test all 64.
+fn word_bytes(part: KnownDevice, from: u32, x: u64) -> usize
+    requires { (from ≤ 1000000) × (AllBelow (fuse_count part.device) (ones_from from x 64)) }
+    ensures { (result ≡ lines_bytes part.device (ones_from from x 64)) × (result ≤ 4096) }
 {
     let mut left = x;
     let mut bytes: usize = 0;
     while left != 0 {
-        bytes += line_bytes(d, from + u64::trailing_zeros(left));
+        bytes += line_bytes(part, from + left.trailing_zeros());
         left = without_lowest(left);
     }
     bytes
 }
 
-// The fuses that differ are counted, and the bytes of their lines.
-pub fn measure(d: Device, old: &[u8], new: &[u8]) -> Tally
-    requires { (known d ≡ true) × (length old.now ≡ image_bytes d) × (length new.now ≡ image_bytes d) }
-    ensures { (result.fuses ≡ length (differing_fuses d old.now new.now))
-        × (result.bytes ≡ lines_bytes d (differing_fuses d old.now new.now))
+// The fuses that differ are counted, and the bytes of their lines. A while here and in `put_lines`: `skip_same` says
+// where the next word is.
+pub fn measure(part: KnownDevice, old: &[u8], new: &[u8]) -> Tally
+    requires { (length old.now ≡ image_bytes part.device) × (length new.now ≡ image_bytes part.device) }
+    ensures { (result.fuses ≡ length (differing_fuses part.device old.now new.now))
+        × (result.bytes ≡ lines_bytes part.device (differing_fuses part.device old.now new.now))
         × (result.fuses ≤ 290304) × (result.bytes ≤ 20000000) }
 {
     let mut fuses: u32 = 0;
@@ -51,38 +53,45 @@ pub fn measure(d: Device, old: &[u8], new: &[u8]) -> Tally
     let mut at = skip_same(old, new, 0);
     while at < old.len() {
         let x = word_at(old, at) ^ word_at(new, at);
-        fuses += u64::count_ones(x);
-        bytes += word_bytes(d, at as u32 * 8, x);
+        fuses += x.count_ones();
+        bytes += word_bytes(part, at as u32 * 8, x);
         at = skip_same(old, new, at + 8);
     }
     Tally { fuses, bytes }
 }
 
 // The line of a fuse put into bytes of its own first: no byte behind the line is changed.
-fn put_exact(d: Device, fuse: u32, state: u64, out: &mut [u8], at: usize) -> usize
-    requires { (known d ≡ true) × (fuse < fuse_count d) × (state < 2) × (at + line_bytes d fuse ≤ length out.old) }
-    ensures { Laid out.old out.new at (at + line_bytes d fuse) (line_with d fuse state) result }
+fn put_exact(part: KnownDevice, fuse: u32, state: u64, out: &mut [u8], at: usize) -> usize
+    requires { (fuse < fuse_count part.device) × (state < 2) × (at + line_bytes part.device fuse ≤ length out.old) }
+    ensures { Laid out.old out.new at (at + line_bytes part.device fuse) (line_with part.device fuse state) result }
 {
     let mut line = [0u8; 64];
-    let n = put_line(d, fuse, state, &mut line, 0);
+    let n = put_line(part, fuse, state, &mut line, 0);
     report_lines::lines::put(&line[..n], out, at)
 }
 
 // The line of a fuse put into a slice, and no byte changed from `end` on.
-fn put_before(d: Device, fuse: u32, state: u64, out: &mut [u8], at: usize, end: usize) -> usize
-    requires { (known d ≡ true) × (fuse < fuse_count d) × (state < 2) × (at + line_bytes d fuse ≤ end)
+fn put_before(
+    part: KnownDevice,
+    fuse: u32,
+    state: u64,
+    out: &mut [u8],
+    at: usize,
+    end: usize,
+) -> usize
+    requires { (fuse < fuse_count part.device) × (state < 2) × (at + line_bytes part.device fuse ≤ end)
         × (end ≤ length out.old) × (end ≤ 30000000) }
-    ensures { Laid out.old out.new at end (line_with d fuse state) result }
+    ensures { Laid out.old out.new at end (line_with part.device fuse state) result }
 {
     if at + 64 <= end {
-        return put_line(d, fuse, state, out, at);
+        return put_line(part, fuse, state, out, at);
     }
-    put_exact(d, fuse, state, out, at)
+    put_exact(part, fuse, state, out, at)
 }
 
 // The lines of the ones of a word; the old states are the bits of another word.
 fn put_word(
-    d: Device,
+    part: KnownDevice,
     from: u32,
     states: u64,
     x: u64,
@@ -90,35 +99,35 @@ fn put_word(
     at: usize,
     end: usize,
 ) -> usize
-    requires { (known d ≡ true) × (from ≤ 1000000) × (AllBelow (fuse_count d) (ones_from from x 64))
-        × (at + lines_bytes d (ones_from from x 64) ≤ end) × (end ≤ length out.old) × (end ≤ 30000000) }
-    ensures { Laid out.old out.new at end (lines_with d from states (ones_from from x 64)) result }
+    requires { (from ≤ 1000000) × (AllBelow (fuse_count part.device) (ones_from from x 64))
+        × (at + lines_bytes part.device (ones_from from x 64) ≤ end) × (end ≤ length out.old) × (end ≤ 30000000) }
+    ensures { Laid out.old out.new at end (lines_with part.device from states (ones_from from x 64)) result }
 {
     let mut left = x;
     let mut next = at;
     while left != 0 {
-        let bit = u64::trailing_zeros(left);
+        let bit = left.trailing_zeros();
         let state = cells::words::low_bits(states >> bit, 1);
-        next = put_before(d, from + bit, state, out, next, end);
+        next = put_before(part, from + bit, state, out, next, end);
         left = without_lowest(left);
     }
     next
 }
 
 // The lines of all fuses that differ.
-pub fn put_lines(d: Device, old: &[u8], new: &[u8], out: &mut [u8], at: usize, end: usize)
-    requires { (known d ≡ true) × (length old.now ≡ image_bytes d) × (length new.now ≡ image_bytes d)
-        × (at + lines_bytes d (differing_fuses d old.now new.now) ≡ end) × (end ≤ length out.old)
+pub fn put_lines(part: KnownDevice, old: &[u8], new: &[u8], out: &mut [u8], at: usize, end: usize)
+    requires { (length old.now ≡ image_bytes part.device) × (length new.now ≡ image_bytes part.device)
+        × (at + lines_bytes part.device (differing_fuses part.device old.now new.now) ≡ end) × (end ≤ length out.old)
         × (end ≤ 30000000) }
     ensures { Laid out.old out.new at end
-        (lines_of d old.now new.now (differing_fuses d old.now new.now)) end }
+        (lines_of part.device old.now new.now (differing_fuses part.device old.now new.now)) end }
 {
     let mut next = at;
     let mut i = skip_same(old, new, 0);
     while i < old.len() {
         let states = word_at(old, i);
         let x = states ^ word_at(new, i);
-        next = put_word(d, i as u32 * 8, states, x, out, next, end);
+        next = put_word(part, i as u32 * 8, states, x, out, next, end);
         i = skip_same(old, new, i + 8);
     }
 }

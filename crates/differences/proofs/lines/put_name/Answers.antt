@@ -1,15 +1,21 @@
--- `put_name` meets its contract: five pieces, one behind another.
+-- `put_name` meets its contract: the pieces so far are put.
 -- Assumes nothing.
-use Rattle.differences.proofs.LaidText.{name_laid}
-use borrow.Author.Rules.{rules}
+use native.Mathlib.Omega.{arith}
+use Rattle.differences.proofs.LaidText.{nothing_laid, piece_room, piece_put, name_put}
 use Rattle.differences.proofs.lines.put_name.Goals as goal
+
+pub loop-piece-init : goal.loop-piece-init
+loop-piece-init c = (nothing_laid _ _ _, omega arith)
+
+pub put_piece-next-requires : goal.put_piece-next-requires
+put_piece-next-requires c =
+    piece_room c.args.n c.requires.0 (omega arith) _ _ c.args.at _ _ (omega arith) c.loop-piece.invariant.1 (omega (arith, c.requires.1))
+
+pub loop-piece-preserved : goal.loop-piece-preserved
+loop-piece-preserved c =
+    piece_put c.args.n c.requires.0 (omega arith) _ _ _ _ _ _ _ _ (omega arith) c.loop-piece.invariant.0 c.loop-piece.invariant.1
+    c.put_piece-next.ensures.0 c.put_piece-next.ensures.1
 
 pub returns : goal.returns
 returns c =
-    let few = c.requires in (
-      name_laid c.args.n _ _ _ _ _ _ _ _ _ _ _ _ few.0 few.1 few.2 few.3 few.4
-          c.put_piece-one.ensures.0 c.put_piece-one.ensures.1 c.put_piece-two.ensures.0 c.put_piece-two.ensures.1
-          c.put_piece-three.ensures.0 c.put_piece-three.ensures.1 c.put_piece-four.ensures.0 c.put_piece-four.ensures.1
-          c.put_piece.ensures.0,
-      search rules,
-    )
+    name_put c.args.n c.requires.0 (omega arith) _ _ _ _ _ (omega arith) (omega arith) c.loop-piece.invariant.0 c.loop-piece.invariant.1

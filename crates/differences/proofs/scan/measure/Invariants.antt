@@ -9,9 +9,10 @@ use Rattle.differences.proofs.scan.measure.Given as goal
 
 abbrev pub invariant-loop-at : goal.invariant-loop-at
 invariant-loop-at l =
-    (l.at ≤ length l.old + 8) × (length l.old ≤ 36288)
-    × (l.fuses + length (differing_from l.old l.new l.at) ≡ length (differing_fuses l.d l.old l.new)) × (l.bytes
-    + lines_bytes l.d (differing_from l.old l.new l.at) ≡ lines_bytes l.d (differing_fuses l.d l.old l.new)) × (l.bytes ≤ 512 * l.at)
+    let all = differing_fuses l.part.device l.old l.new in
+    let rest = differing_from l.old l.new l.at in
+    (l.at ≤ length l.old + 8) × (length l.old ≤ 36288) × (l.fuses + length rest ≡ length all)
+    × (l.bytes + lines_bytes l.part.device rest ≡ lines_bytes l.part.device all) × (l.bytes ≤ 512 * l.at)
 
 abbrev pub decreases-loop-at : goal.decreases-loop-at
 decreases-loop-at l = length l.old + 8 - l.at

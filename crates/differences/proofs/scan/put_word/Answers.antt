@@ -10,11 +10,10 @@ pub put_before-next-requires : goal.put_before-next-requires
 put_before-next-requires c =
     let left = c.loop-left.left in
     let word = c.loop-left.invariant.0 in (
-      search rules,
       first_below c.args.from left (search rules) word _ c.loop-left.invariant.1,
-      state_small c.args.d c.args.from c.args.states left (search rules) word _ c.low_bits-state.ensures,
-      line_fits c.args.d c.args.from c.args.states left (search rules) word _ _ _ _ _ _ _ c.loop-left.invariant.2
-          (lines_fit c.args.d c.args.from c.args.states c.args.x _ _ (search rules)),
+      state_small c.args.part.device c.args.from c.args.states left (search rules) word _ c.low_bits-state.ensures,
+      line_fits c.args.part.device c.args.from c.args.states left (search rules) word _ _ _ _ _ _ _ c.loop-left.invariant.2
+          (lines_fit c.args.part.device c.args.from c.args.states c.args.x _ _ (search rules)),
       omega arith,
       search rules,
     )
@@ -34,11 +33,11 @@ loop-left-preserved c =
       rest_word from left (search rules) word _ without,
       rest_below from left (search rules) word _ without _ c.loop-left.invariant.1,
       going_on _ _ _ _ _ _ _ _ _ _ _ c.loop-left.invariant.2
-          (line_on c.args.d from c.args.states left (search rules) word _ _ without state) put,
+          (line_on c.args.part.device from c.args.states left (search rules) word _ _ without state) put,
       omega (arith, put.long, c.loop-left.invariant.3),
     )
 
 pub returns : goal.returns
 returns c =
     going_end _ _ _ _ _ _ _ c.loop-left.invariant.2
-    (lines_end c.args.d c.args.from c.args.states c.loop-left.left (search rules))
+    (lines_end c.args.part.device c.args.from c.args.states c.loop-left.left (search rules))

@@ -10,7 +10,7 @@ loop-left-init c = (search rules, omega arith, search rules, omega (arith, ones_
 
 pub line_bytes-bytes-requires : goal.line_bytes-bytes-requires
 line_bytes-bytes-requires c =
-    (search rules, first_below c.args.from c.loop-left.left (search rules) c.loop-left.invariant.0 _ c.loop-left.invariant.2)
+    first_below c.args.from c.loop-left.left (search rules) c.loop-left.invariant.0 _ c.loop-left.invariant.2
 
 pub loop-left-smaller : goal.loop-left-smaller
 loop-left-smaller c = ones_fall c.args.from c.loop-left.left (search rules) c.loop-left.invariant.0 _ c.without_lowest-left.ensures

@@ -8,8 +8,11 @@ use Rattle.differences.specs.Scan.{ones_from, AllBelow, lines_bytes}
 use Rattle.differences.proofs.scan.word_bytes.Given as goal
 
 abbrev pub invariant-loop-left : goal.invariant-loop-left
-invariant-loop-left l = (l.left < 2 ^ 64) × (l.bytes + lines_bytes l.d (ones_from l.from l.left 64) ≡ lines_bytes l.d (ones_from l.from l.x
-    64)) × AllBelow (fuse_count l.d) (ones_from l.from l.left 64) × (l.bytes + 64 * length (ones_from l.from l.left 64) ≤ 4096)
+invariant-loop-left l =
+    let left = ones_from l.from l.left 64 in
+    let bytes = lines_bytes l.part.device in
+    (l.left < 2 ^ 64) × (l.bytes + bytes left ≡ bytes (ones_from l.from l.x 64)) × AllBelow (fuse_count l.part.device) left
+    × (l.bytes + 64 * length left ≤ 4096)
 
 abbrev pub decreases-loop-left : goal.decreases-loop-left
 decreases-loop-left l = length (ones_from l.from l.left 64)

@@ -1,6 +1,5 @@
 -- `skip_fours` meets its contract: what differs from the index on is the same after each turn.
 -- Assumes nothing.
-use Prim.Native.Nat.{◌-◌}
 use native.Mathlib.Omega.{arith}
 use Rattle.differences.proofs.Differing.{fours_on}
 use borrow.Author.Rules.{rules}

@@ -1,6 +1,5 @@
 -- `skip_same` meets its contract: what differs from the index on is the same after each turn.
 -- Assumes nothing.
-use Prim.Native.Nat.{◌-◌}
 use native.Mathlib.Omega.{arith}
 use Rattle.differences.proofs.Differing.{eight_on}
 use borrow.Author.Rules.{rules}
