@@ -2,6 +2,7 @@
 -- Assumes nothing.
 pub mod Laws
 mod ByName
+mod Rules
 mod Asked
 mod Demand
 mod Literals

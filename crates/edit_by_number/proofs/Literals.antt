@@ -1,6 +1,6 @@
 -- A literal by its number: its one bit stands at the place that the number gives, and its byte is looked at.
 -- Assumes nothing.
-use mathlib.Core.Path.{◌≡◌, refl, sym, ◌∙◌, ap}
+use mathlib.Core.Path.{◌≡◌, refl, sym, ap}
 use mathlib.Core.Bool.{Bool, true, false, cond, not, ◌&&◌}
 use mathlib.Core.List.{List}
 use Prim.Native.Nat.{ℕ, ◌/◌, ◌%◌, ◌^◌, ◌<◌, ◌≤◌}
@@ -9,13 +9,13 @@ use mir.Syntax.{w32}
 use mir.Val.{Fits}
 use lib.Dec.{eqb, ltb}
 use lib.ListN.{length, get_or}
-use borrow.Author.Tests.{lt-ltb, le-ltb, eqb-true, ltb-true}
+use borrow.Author.Tests.{lt-ltb, le-ltb}
 use Rattle.part.specs.Outcome.Outcome.{accepted, refused}
 use Rattle.part.specs.Device.{known}
 use Rattle.part.specs.Place.{has_place, fuse_of_place, width_of}
 use Rattle.part.specs.declared.Device.{Device}
 use Rattle.part.specs.declared.Place.{Place}
-use Rattle.part.proofs.Facts.{and_iff}
+use Rattle.part.specs.declared.Refusal.TheVariants.{BitAboveWidth}
 use Rattle.image.specs.Bits.{bit_at, with_bit, gathered}
 use Rattle.settings.specs.Settings.{has_setting}
 use Rattle.settings.specs.Order.{start, count_of, setting_of}
@@ -57,6 +57,9 @@ module _ (d : Device) (x : ℕ) (l : x < start d wire_ands) where
   bit_0 : 0 < bits_of (setting_of d x)
   bit_0 = omega (arith, one_bit)
 
+  fits_in : (pattern : ℕ) → pattern ≤ 1 → ltb pattern (2 ^ bits_of (setting_of d x)) ≡ true
+  fits_in pattern low = rw one_bit (lt-ltb pattern 2 (omega arith))
+
   pub not_two : (layout : Layout) (bytes : List ℕ) (pattern : ℕ) → known d ≡ true → length bytes ≡ bytes_of d layout → 1 < pattern
       → PatternGives d layout bytes x pattern (refused 5 0) bytes
   not_two layout bytes pattern k n m =
@@ -67,6 +70,9 @@ module _ (d : Device) (x : ℕ) (l : x < start d wire_ands) where
       → (index : ℕ) → index ≡ byte_of d layout (fuse_of d (setting_of d x) 0) → index < length bytes
   index_in k layout bytes n index i =
       rw (n, i) (inside d layout (fuse_of d (setting_of d x) 0) k (fuse_below d k (setting_of d x) its 0 bit_0))
+
+  pub bit_in_lem : known d ≡ true → (layout : Layout) (bit : ℕ) → bit ≡ bit_in d layout (fuse_of d (setting_of d x) 0) → bit < 8
+  bit_in_lem k layout bit j = rw j (bit_small d k (setting_of d x) its 0 bit_0 layout)
 
   module _ (k : known d ≡ true) (p : Place) (e : p ≡ place_of (setting_of d x) 0) where
     pub place_there : has_place d p ≡ true
@@ -85,63 +91,58 @@ module _ (d : Device) (x : ℕ) (l : x < start d wire_ands) where
       pub location_in : index < length bytes
       location_in = index_in k layout bytes n index at_index
 
-      pub found : (w above : ℕ) (t : Bool) → w ≡ width_of p.byte → above ≡ get_or bytes index 0 / 2 ^ w → t ≡ is_readout layout
-          → above_in d layout bytes (setting_of d x) ≡ cond (t && not (eqb above 0)) index (bytes_of d layout)
-      found w above t v a r = rw r (above_of_one d layout bytes (setting_of d x) k its one_bit p e index w above at_index v a)
+      pub index_fits : Fits w32 index
+      index_fits = record { fits = omega (arith, location_in, n, bytes_between d layout k) }
+
+      module _ (w above : ℕ) (t : Bool) (v : w ≡ width_of p.byte) (a : above ≡ get_or bytes index 0 / 2 ^ w)
+          (r : t ≡ is_readout layout) where
+        found : (b : Bool) → (t && not (eqb above 0)) ≡ b → above_in d layout bytes (setting_of d x) ≡ cond b index (bytes_of d layout)
+        found b h =
+            rw (← h, r) (above_of_one d layout bytes (setting_of d x) k its one_bit p e index w above at_index v a)
+
+        pub one_above : (t && not (eqb above 0)) ≡ true
+            → (BitAboveWidth index ≡ BitAboveWidth (above_in d layout bytes (setting_of d x)))
+            × (above_in d layout bytes (setting_of d x) < bytes_of d layout)
+        one_above h = let same = found true h in (ap BitAboveWidth (sym same), rw (same, ← n) location_in)
+
+        pub none_above : (t && not (eqb above 0)) ≡ false → above_in d layout bytes (setting_of d x) ≡ bytes_of d layout
+        none_above h = found false h
 
 module _ (d : Device) (x : ℕ) (l : x < start d wire_ands) (k : known d ≡ true) (layout : Layout) (bytes : List ℕ)
-    (n : length bytes ≡ bytes_of d layout)
-    (index bit : ℕ) (t : Bool) (i : index ≡ byte_of d layout (fuse_of d (setting_of d x) 0))
-    (j : bit ≡ bit_in d layout (fuse_of d (setting_of d x) 0))
-    (q : above_in d layout bytes (setting_of d x) ≡ cond t index (bytes_of d layout)) where
-  pub bit_in_lem : bit < 8
-  bit_in_lem = rw j (bit_small d k (setting_of d x) (its d x l) 0 (bit_0 d x l) layout)
+    (n : length bytes ≡ bytes_of d layout) where
+  -- A bit above the width of its byte.
+  module _ (m : above_in d layout bytes (setting_of d x) < bytes_of d layout) where
+    pub read_above : refused 6 (above_in d layout bytes (setting_of d x)) ≡ read_pattern d layout bytes x
+    read_above = reads_above d layout bytes x k n (number_there d x l) (setting_of d x) refl _ refl (rw n m)
 
-  pub there : index < length bytes
-  there = index_in d x l k layout bytes n index i
+    pub set_above : (pattern : ℕ) → pattern ≤ 1
+        → PatternGives d layout bytes x pattern (refused 6 (above_in d layout bytes (setting_of d x))) bytes
+    set_above pattern low =
+        sets_above d layout bytes x k n (number_there d x l) (setting_of d x) refl pattern (fits_in d x l pattern low) _ refl (rw n m)
 
-  pub index_fits : Fits w32 index
-  index_fits = record { fits = omega (arith, there, n, bytes_between d layout k) }
+  -- None: its one bit is read, or put in place.
+  module _ (index bit : ℕ) (i : index ≡ byte_of d layout (fuse_of d (setting_of d x) 0))
+      (j : bit ≡ bit_in d layout (fuse_of d (setting_of d x) 0)) where
+    pub there : index < length bytes
+    there = index_in d x l k layout bytes n index i
 
-  its_pattern : (state : ℕ) → state ≡ bit_at bytes index bit → state ≡ pattern_at d layout bytes (setting_of d x)
-  unfolding pattern_at gathered
-  its_pattern state g = rw (one_bit d x l, ← i, ← j) (omega arith)
+    its_pattern : (state : ℕ) → state ≡ bit_at bytes index bit → state ≡ pattern_at d layout bytes (setting_of d x)
+    unfolding pattern_at gathered
+    its_pattern state g = rw (one_bit d x l, ← i, ← j) (omega arith)
 
-  its_bytes : (pattern : ℕ) (after : List ℕ) → pattern ≤ 1 → after ≡ with_bit bytes index bit pattern
-      → after ≡ with_pattern d layout bytes (setting_of d x) pattern
-  unfolding with_pattern with_bits
-  its_bytes pattern after low g = let own : pattern / 2 ^ 0 % 2 ≡ pattern = omega arith in rw (one_bit d x l, ← i, ← j, own) g
+    its_bytes : (pattern : ℕ) (after : List ℕ) → pattern ≤ 1 → after ≡ with_bit bytes index bit pattern
+        → after ≡ with_pattern d layout bytes (setting_of d x) pattern
+    unfolding with_pattern with_bits
+    its_bytes pattern after low g = let own : pattern / 2 ^ 0 % 2 ≡ pattern = omega arith in rw (one_bit d x l, ← i, ← j, own) g
 
-  above_if : (b : Bool) → t ≡ b → above_in d layout bytes (setting_of d x) ≡ cond b index (bytes_of d layout)
-  above_if b s = q ∙ ap (λ (c : Bool). cond c index (bytes_of d layout)) s
+    module _ (q : above_in d layout bytes (setting_of d x) ≡ bytes_of d layout) where
+      pub read_state : (state : ℕ) → state ≡ bit_at bytes index bit → accepted state ≡ read_pattern d layout bytes x
+      read_state state g =
+          reads_clean d layout bytes x k n (number_there d x l) (setting_of d x) refl (bytes_of d layout) q
+          state (omega (arith, n)) (its_pattern state g)
 
-  pub read_above : t ≡ true → refused 6 index ≡ read_pattern d layout bytes x
-  read_above s = reads_above d layout bytes x k n (number_there d x l) (setting_of d x) refl index (above_if true s) there
-
-  pub read_state : (state : ℕ) → t ≡ false → state ≡ bit_at bytes index bit → accepted state ≡ read_pattern d layout bytes x
-  read_state state s g =
-      reads_clean d layout bytes x k n (number_there d x l) (setting_of d x) refl (bytes_of d layout) (above_if false s)
-      state (omega (arith, n)) (its_pattern state g)
-
-  module _ (pattern : ℕ) (low : pattern ≤ 1) where
-    fits : ltb pattern (2 ^ bits_of (setting_of d x)) ≡ true
-    fits = rw (one_bit d x l) (lt-ltb pattern 2 (omega arith))
-
-    pub set_above : t ≡ true → PatternGives d layout bytes x pattern (refused 6 index) bytes
-    set_above s = sets_above d layout bytes x k n (number_there d x l) (setting_of d x) refl pattern fits index (above_if true s) there
-
-    pub set_state : (after : List ℕ) → t ≡ false → after ≡ with_bit bytes index bit pattern
-        → PatternGives d layout bytes x pattern (accepted tt) after
-    set_state after s g =
-        sets_clean d layout bytes x k n (number_there d x l) (setting_of d x) refl pattern fits (bytes_of d layout) (above_if false s)
-        after (omega (arith, n)) (its_bytes pattern after low g)
-
--- What the operations ask first.
-pub its_literal : (d : Device) (layout : Layout) (size x : ℕ) (t : Bool)
-    → t ≡ (known d && eqb size (bytes_of d layout) && ltb x (start d wire_ands)) → t ≡ true
-    → (known d ≡ true) × (size ≡ bytes_of d layout) × (x < start d wire_ands)
-its_literal d layout size x t e h =
-    let all : (known d && eqb size (bytes_of d layout) && ltb x (start d wire_ands)) ≡ true = sym e ∙ h in
-    let both = (and_iff _ _).0 all in
-    let first = (and_iff _ _).0 both.0 in
-    (first.0, eqb-true size (bytes_of d layout) first.1, ltb-true x (start d wire_ands) both.1)
+      pub set_state : (pattern : ℕ) (after : List ℕ) → pattern ≤ 1 → after ≡ with_bit bytes index bit pattern
+          → PatternGives d layout bytes x pattern (accepted tt) after
+      set_state pattern after low g =
+          sets_clean d layout bytes x k n (number_there d x l) (setting_of d x) refl pattern (fits_in d x l pattern low) (bytes_of d layout)
+          q after (omega (arith, n)) (its_bytes pattern after low g)

@@ -10,8 +10,6 @@ use borrow.Author.Tests.{lt-ltb}
 use Rattle.part.specs.Outcome.Outcome.{accepted}
 use Rattle.part.specs.Device.{known}
 use Rattle.part.specs.declared.Device.{Device}
-use Rattle.settings.specs.Fields.{foes, global_fields, global_index}
-use Rattle.settings.specs.Settings.{has_setting}
 use Rattle.settings.specs.Order.{count_of, number_of, setting_of}
 use Rattle.settings.specs.declared.GlobalField.TheVariants as field
 use Rattle.settings.proofs.Numbering.{setting_inverse}
@@ -20,28 +18,24 @@ use Rattle.setting_bits.specs.declared.Layout.{Layout}
 use Rattle.setting_bits.specs.declared.Layout.TheVariants.{Image, Readout}
 use Rattle.setting_bits.specs.SettingBits.{bytes_of, pattern_at, with_pattern}
 use Rattle.setting_bits.proofs.AboveWidth.{of_global, none_above}
-use Rattle.setting_bits.proofs.Usercode.{usercode}
+use Rattle.setting_bits.proofs.Usercode.{usercode, usercode_there}
 use Rattle.edit.specs.Edit.{above_in}
 use Rattle.edit_by_number.specs.ByNumber.{read_pattern}
 use Rattle.edit_by_number.proofs.Asked.{PatternGives, reads_clean, sets_clean}
-
-pub has_usercode : (d : Device) → has_setting d usercode ≡ true
-unfolding has_setting
-has_usercode d = lt-ltb (global_index (foes d) field.Usercode) (global_fields (foes d)) (omega arith)
 
 clean : (d : Device) (layout : Layout) (bytes : List ℕ) → known d ≡ true → length bytes ≡ bytes_of d layout
     → ((i : ℕ) → get_or bytes i 0 < 2 ^ 8) → above_in d layout bytes usercode ≡ bytes_of d layout
 unfolding above_in
 clean d Image bytes k n small = refl
 clean d Readout bytes k n small =
-    sym (none_above d k usercode (has_usercode d) bytes small n (of_global d k usercode (has_usercode d) field.Usercode refl)) ∙ n
+    sym (none_above d k usercode (usercode_there d) bytes small n (of_global d k usercode (usercode_there d) field.Usercode refl)) ∙ n
 
 module _ (d : Device) (layout : Layout) (bytes : List ℕ) (x count size last : ℕ) (k : known d ≡ true) (e : size ≡ bytes_of d layout)
     (m : length bytes ≡ size)
     (f : count ≡ count_of d) (l : x < count) (g : last ≡ number_of d usercode) (q : x ≡ last) (small : (i : ℕ) → get_or bytes i 0 < 2 ^ 8)
   where
     its : usercode ≡ setting_of d x
-    its = sym (ap (setting_of d) (q ∙ g) ∙ setting_inverse d usercode (has_usercode d))
+    its = sym (ap (setting_of d) (q ∙ g) ∙ setting_inverse d usercode (usercode_there d))
 
     pub reads_code : (p : ℕ) → p ≡ pattern_at d layout bytes usercode → accepted p ≡ read_pattern d layout bytes x
     reads_code p w =

@@ -8,18 +8,18 @@ ghost use Rattle.part.specs.Outcome.{Written};
 ghost use Rattle.setting_bits.specs.declared.Layout.TheVariants.{Image, Readout};
 ghost use Rattle.edit_by_number.specs.ByNumber.{read_pattern, set_pattern, with_numbered};
 
-use part::{Device, DoneAnswer, NumberAnswer};
+use part::{Device, Refusal};
 use setting_bits::Layout;
 use settings::SettingNumber;
 
 mod by_number;
 
 // The pattern of a setting in an image, by its number. Refused: 1, 2, 4.
-pub fn read_pattern_in_image(d: Device, image: &[u8], number: SettingNumber) -> NumberAnswer
+pub fn read_pattern_in_image(d: Device, image: &[u8], number: SettingNumber) -> Result<u32, Refusal>
     ensures { number_outcome result ≡ read_pattern d Image image.now number.0 }
 {
-    if by_number::is_literal(d, Layout::Image, image.len(), number) {
-        return by_number::read_literal(d, Layout::Image, image, number);
+    if let Some(part) = by_number::is_literal(d, Layout::Image, image.len(), number) {
+        return by_number::read_literal(part, Layout::Image, image, number);
     }
     by_number::read_numbered(d, Layout::Image, image, number)
 }
@@ -30,22 +30,26 @@ pub fn set_pattern_in_image(
     image: &mut [u8],
     number: SettingNumber,
     pattern: u32,
-) -> DoneAnswer
+) -> Result<(), Refusal>
     ensures { Written (set_pattern d Image image.old number.0 pattern) (done_outcome result)
         (with_numbered d Image image.old number.0 pattern) image.old image.new }
 {
-    if by_number::is_literal(d, Layout::Image, image.len(), number) {
-        return by_number::set_literal(d, Layout::Image, image, number, pattern);
+    if let Some(part) = by_number::is_literal(d, Layout::Image, image.len(), number) {
+        return by_number::set_literal(part, Layout::Image, image, number, pattern);
     }
     by_number::set_numbered(d, Layout::Image, image, number, pattern)
 }
 
 // The pattern of a setting in a readout, by its number. Refused: 1, 2, 4, 6.
-pub fn read_pattern_in_readout(d: Device, readout: &[u8], number: SettingNumber) -> NumberAnswer
+pub fn read_pattern_in_readout(
+    d: Device,
+    readout: &[u8],
+    number: SettingNumber,
+) -> Result<u32, Refusal>
     ensures { number_outcome result ≡ read_pattern d Readout readout.now number.0 }
 {
-    if by_number::is_literal(d, Layout::Readout, readout.len(), number) {
-        return by_number::read_literal(d, Layout::Readout, readout, number);
+    if let Some(part) = by_number::is_literal(d, Layout::Readout, readout.len(), number) {
+        return by_number::read_literal(part, Layout::Readout, readout, number);
     }
     by_number::read_numbered(d, Layout::Readout, readout, number)
 }
@@ -56,13 +60,13 @@ pub fn set_pattern_in_readout(
     readout: &mut [u8],
     number: SettingNumber,
     pattern: u32,
-) -> DoneAnswer
+) -> Result<(), Refusal>
     ensures { Written (set_pattern d Readout readout.old number.0 pattern) (done_outcome result)
         (with_numbered d Readout readout.old number.0 pattern) readout.old
         readout.new }
 {
-    if by_number::is_literal(d, Layout::Readout, readout.len(), number) {
-        return by_number::set_literal(d, Layout::Readout, readout, number, pattern);
+    if let Some(part) = by_number::is_literal(d, Layout::Readout, readout.len(), number) {
+        return by_number::set_literal(part, Layout::Readout, readout, number, pattern);
     }
     by_number::set_numbered(d, Layout::Readout, readout, number, pattern)
 }
