@@ -25,8 +25,8 @@ fn without_lowest(x: u64) -> u64
     x & (x - 1)
 }
 
-// The bytes of the lines of the ones of a word. A while here and in `put_word`: what is left of the word is all that the
-// loop walks, and a for over its bits would test all 64.
+// The bytes of the lines of the ones of a word. A while here and in `put_word`: the loop walks what is left of a word,
+// and a for over its bits would test all 64.
 fn word_bytes(part: KnownDevice, from: u32, x: u64) -> usize
     requires { (from ≤ 1000000) × (AllBelow (fuse_count part.device) (ones_from from x 64)) }
     ensures { (result ≡ lines_bytes part.device (ones_from from x 64)) × (result ≤ 4096) }

@@ -6,7 +6,7 @@ ghost use Rattle.std.specs.Prelude.{◌≤◌, ◌++◌, ◌/◌, ◌%◌, ◌^�
 ghost use Rattle.std.specs.Io.KnownBytes.{Appends};
 ghost use Rattle.std.specs.Fmt.{decimal};
 
-use part::{Device, Sizes, SizesAnswer};
+use part::{Device, Sizes};
 use std::io;
 use std::io::Write;
 
@@ -32,16 +32,12 @@ pub const SMALLEST: Device = Device {
 
 // The sizes of a device, or those of the smallest where there is none.
 pub fn sizes(d: Device) -> Sizes {
-    let answer = part::sizes_of(d);
-    match answer {
-        SizesAnswer::Of(s) => s,
-        SizesAnswer::Refused(_) => Sizes {
-            fuses: 18144,
-            image_bytes: 2268,
-            readout_bytes: 2520,
-            text_bytes: 25732,
-        },
-    }
+    part::sizes_of(d).unwrap_or(Sizes {
+        fuses: 18144,
+        image_bytes: 2268,
+        readout_bytes: 2520,
+        text_bytes: 25732,
+    })
 }
 
 const PRIME: u64 = 4294967291;
@@ -67,18 +63,14 @@ pub fn fill(bytes: &mut [u8], seed: u64) {
 
 // The same byte at each place of a slice.
 pub fn fill_with(bytes: &mut [u8], value: u8) {
-    for byte in bytes {
-        *byte = value;
-    }
+    bytes.fill(value);
 }
 
 // The digest of the bytes of a slice.
 pub fn digest_of(bytes: &[u8]) -> u64 {
-    let mut digest: u64 = 0;
-    for byte in bytes {
-        digest = taken_in(digest, *byte as u64);
-    }
-    digest
+    bytes
+        .iter()
+        .fold(0, |digest, byte| taken_in(digest, u64::from(*byte)))
 }
 
 // A word of the C interface: its refusal, or its result.
@@ -117,17 +109,11 @@ pub fn end_line<W: Write>(out: &mut W) -> io::Result<()>
 pub fn at_most(n: usize, limit: usize) -> usize
     ensures { result ≤ limit }
 {
-    if n < limit {
-        return n;
-    }
-    limit
+    n.min(limit)
 }
 
 pub fn one_less(n: u32) -> u32 {
-    if n == 0 {
-        return 0;
-    }
-    n - 1
+    n.saturating_sub(1)
 }
 
 // One less than a length at step 0, the length at step 1, one more at step 2; or the limit, where that is less.
