@@ -14,7 +14,8 @@ use settings::{BlockField, GlobalField, MacrocellField, Polarity, Setting};
 
 const FIRST_MACROCELL_ROW: u32 = 12;
 
-// The index of the last macrocell field that starts at or before a row, from row 12 on.
+// The index of the last macrocell field that starts at or before a row, from row 12 on. A table is one read; to look
+// the field up among the first rows would be a loop.
 static FIELD_INDEX_AT_ROW: [u32; 43] = [
     0, 0, 1, 1, 2, 2, 3, 3, 4, 4, 5, 6, 7, 8, 9, 10, 10, 11, 11, 11, 11, 11, 11, 12, 13, 13, 13,
     13, 14, 15, 16, 17, 18, 18, 19, 19, 20, 21, 22, 23, 24, 25, 26,

@@ -53,8 +53,8 @@ fn located(d: KnownDevice, place: Place) -> FuseAt
     }
 }
 
-// The fuse of a bit of a setting that the device has, with its address and its bit; `None` where the bit is at or over the
-// setting's width.
+// The fuse of a bit of a setting that the device has, with its address and its bit; `None` where the bit is at or over
+// the setting's width.
 fn bit_at(there: DeviceSetting, bit: u32) -> Option<FuseAt>
     ensures { accepted (option_of located_fuse result) ≡ located_bit there.device.device there.setting bit }
 {

@@ -1,5 +1,5 @@
 // The fuse of a bit of a setting with its address, by the position of the setting in its group.
-// A function here requires that the device has the setting.
+// A function here requires that the number or the position is one of the group.
 ghost use Rattle.std.specs.Prelude.{◌≡◌, ◌<◌};
 ghost use Rattle.std.proofs.Math.Option.Option.{some};
 ghost use Rattle.part.specs.Outcome.Outcome.{accepted};
@@ -43,7 +43,8 @@ pub fn wire_and(d: KnownDevice, x: u32) -> FuseAt
 // A bit of the macrocell field at a position.
 pub fn field_bit(d: KnownDevice, x: u32, bit: u32) -> Option<FuseAt>
     requires { x < size d.device macrocell_settings }
-    ensures { accepted (option_of located_fuse result) ≡ located_bit d.device (in_group d.device macrocell_settings x) bit }
+    ensures { accepted (option_of located_fuse result)
+        ≡ located_bit d.device (in_group d.device macrocell_settings x) bit }
 {
     let fields = divided(x, MACROCELL_FIELDS, FIELD_FACTOR, FIELD_SHIFT);
     let rows = field_rows(fields.rest);

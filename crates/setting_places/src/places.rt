@@ -132,21 +132,12 @@ pub fn macrocell_place(block: u32, row: u32, macrocell: u32) -> Place
     main_place(block, row, macrocell % 9, 6 + macrocell / 9)
 }
 
-// Which of an input's two rows a polarity has: the row of input 0.
-fn row_in_pair(polarity: Polarity) -> u32
-    ensures { result ≡ literal_row 0 polarity }
-{
-    match polarity {
-        Polarity::P => 1,
-        Polarity::N => 0,
-    }
-}
-
+// The row of a literal: of an input's two rows N has the first, though P is listed first.
 fn literal_row(input: u32, polarity: Polarity) -> u32
     requires { input < inputs }
     ensures { result ≡ literal_row input polarity }
 {
-    2 * input + row_in_pair(polarity)
+    2 * input + (1 - polarity.index())
 }
 
 // The place of a literal, by its number: 72 literals to a term, and the terms of a block run through the 15 columns,

@@ -77,7 +77,8 @@ pub fn has_setting(d: Device, s: Setting) -> bool
     }
 }
 
-// The place of field k of so many that begin at `first`.
+// The place of field k of so many that begin at `first`. One that there is not stands past the end, as the definition
+// has it: an option would be taken apart again by each test of an index.
 fn listed_at(k: u32, count: u32, first: u32, past: u32) -> u32
     requires { (count ≤ 27) × (first ≤ 27) }
     ensures { result ≡ listed k count first past }
@@ -88,7 +89,8 @@ fn listed_at(k: u32, count: u32, first: u32, past: u32) -> u32
     past
 }
 
-// Each kind of field and its index in the listing order, both ways.
+// Each kind of field and its index in the listing order, both ways. The way back is no `TryFrom`: each caller has a
+// remainder or a row, at which it cannot fail.
 impl Polarity {
     pub fn index(self) -> u32
         ensures { result ≡ polarity_index self }

@@ -1,5 +1,5 @@
 // The number of a setting and the setting of a number: groups, the first number of each, positions in them.
-// For the crates above: a function here may require that the device is known or has the setting.
+// For the crates above: a function here may require that the number or the position is one that the device has.
 ghost use Rattle.std.specs.Prelude.{◌≡◌, map, ◌+◌, ◌*◌, ◌/◌, ◌^◌, ◌<◌};
 ghost use Rattle.part.specs.Device.{blocks_of};
 ghost use Rattle.settings.specs.Fields.{macrocells};
@@ -140,31 +140,31 @@ pub struct WireAndIndices {
     pub macrocell: u32,
 }
 
-// The factors that divide the position of a wire-AND by the wire-ANDs of an input, for each block count, with the shift
-// 32.
-const INPUT_FACTOR_2: u64 = (1 << 32) / (2 * MACROCELLS as u64) + 1;
+impl From<WireAndIndices> for Setting {
+    ghost from_gives = { λ at s. s ≡ WireAnd at.block at.input at.source at.macrocell };
 
-const INPUT_FACTOR_4: u64 = (1 << 32) / (4 * MACROCELLS as u64) + 1;
+    fn from(at: WireAndIndices) -> Setting {
+        Setting::WireAnd {
+            block: at.block,
+            input: at.input,
+            source: at.source,
+            macrocell: at.macrocell,
+        }
+    }
+}
 
-const INPUT_FACTOR_6: u64 = (1 << 32) / (6 * MACROCELLS as u64) + 1;
-
-const INPUT_FACTOR_8: u64 = (1 << 32) / (8 * MACROCELLS as u64) + 1;
-
-const INPUT_FACTOR_12: u64 = (1 << 32) / (12 * MACROCELLS as u64) + 1;
-
-const INPUT_FACTOR_16: u64 = (1 << 32) / (16 * MACROCELLS as u64) + 1;
-
+// The factor that divides the position of a wire-AND by the wire-ANDs of an input, with the shift 32: a constant for
+// each block count, since a quotient of what is known only at the call would be a division.
 fn input_factor(d: KnownDevice) -> u64
     ensures { result ≡ 2 ^ 32 / (blocks_of d.device * macrocells) + 1 }
 {
-    let n = d.blocks();
-    match n {
-        2 => INPUT_FACTOR_2,
-        4 => INPUT_FACTOR_4,
-        6 => INPUT_FACTOR_6,
-        8 => INPUT_FACTOR_8,
-        12 => INPUT_FACTOR_12,
-        _ => INPUT_FACTOR_16,
+    match d.blocks() {
+        2 => (1 << 32) / (2 * MACROCELLS as u64) + 1,
+        4 => (1 << 32) / (4 * MACROCELLS as u64) + 1,
+        6 => (1 << 32) / (6 * MACROCELLS as u64) + 1,
+        8 => (1 << 32) / (8 * MACROCELLS as u64) + 1,
+        12 => (1 << 32) / (12 * MACROCELLS as u64) + 1,
+        _ => (1 << 32) / (16 * MACROCELLS as u64) + 1,
     }
 }
 
@@ -197,19 +197,6 @@ fn literal_at(d: KnownDevice, x: u32) -> Setting
         term: x % MACROCELL_LITERALS / TERM_LITERALS,
         input: in_term / 2,
         polarity,
-    }
-}
-
-fn wire_and_at(d: KnownDevice, x: u32) -> Setting
-    requires { x < size d.device wire_ands }
-    ensures { result ≡ in_group d.device wire_ands x }
-{
-    let at = wire_and_indices(d, x);
-    Setting::WireAnd {
-        block: at.block,
-        input: at.input,
-        source: at.source,
-        macrocell: at.macrocell,
     }
 }
 
@@ -263,7 +250,7 @@ fn in_its_group(d: KnownDevice, number: SettingNumber) -> Setting
     }
     let macrocells = start_of_macrocells(d);
     if x < macrocells {
-        return wire_and_at(d, x - wire_ands);
+        return Setting::from(wire_and_indices(d, x - wire_ands));
     }
     let blocks = start_of_blocks(d);
     if x < blocks {

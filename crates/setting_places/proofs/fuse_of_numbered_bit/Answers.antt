@@ -27,7 +27,8 @@ module _ (d : Device) (x bit : ℕ) (o : Outcome (Option LocatedFuse)) (k : know
     for_literal f = for_setting d x bit o k (setting_of d x) (omega (arith, ends d literals)) refl f
 
     no_literal_bit : 0 < bit → o ≡ accepted none → o ≡ located_by_number d x bit
-    no_literal_bit h f = for_literal (f ∙ no_second_bit d (setting_of d x) k (literal_there d x (omega arith)) (literal_bits d x (omega arith)) bit h)
+    no_literal_bit h f =
+        for_literal (f ∙ no_second_bit d (setting_of d x) k (literal_there d x (omega arith)) (literal_bits d x (omega arith)) bit h)
 
     at_literal : bit ≤ 0 → o ≡ located_bit d (setting_of d x) 0 → o ≡ located_by_number d x bit
     at_literal h f = let same : 0 ≡ bit = omega arith in for_literal (f ∙ ap (located_bit d (setting_of d x)) same)
@@ -36,10 +37,12 @@ module _ (d : Device) (x bit : ℕ) (o : Outcome (Option LocatedFuse)) (k : know
   module _ (a b : ℕ) (e : a ≡ start d wire_ands) (f : b ≡ start d macrocell_settings) (low : a ≤ x) (high : x < b) where
     for_wire_and : o ≡ located_bit d (in_group d wire_ands (x - a)) bit → o ≡ located_by_number d x bit
     for_wire_and g =
-        for_setting d x bit o k (in_group d wire_ands (x - a)) (omega (arith, ends d wire_ands)) (among_wire_ands d x a b _ e f low high refl) g
+        for_setting d x bit o k (in_group d wire_ands (x - a)) (omega (arith, ends d wire_ands))
+        (among_wire_ands d x a b _ e f low high refl) g
 
     no_wire_and_bit : 0 < bit → o ≡ accepted none → o ≡ located_by_number d x bit
-    no_wire_and_bit h g = for_wire_and (g ∙ no_second_bit d _ k (has_in_group d wire_ands (x - a) (omega arith)) (wire_and_bits d (x - a)) bit h)
+    no_wire_and_bit h g =
+        for_wire_and (g ∙ no_second_bit d _ k (has_in_group d wire_ands (x - a) (omega arith)) (wire_and_bits d (x - a)) bit h)
 
     at_wire_and : bit ≤ 0 → o ≡ located_bit d (in_group d wire_ands (x - a)) 0 → o ≡ located_by_number d x bit
     at_wire_and h g = let same : 0 ≡ bit = omega arith in for_wire_and (g ∙ ap (located_bit d (in_group d wire_ands (x - a))) same)
