@@ -21,8 +21,9 @@ use Rattle.jedec_image.proofs.WrittenStates.{written_bits}
 use Rattle.jedec_image.proofs.ListedImages.{Holds, start_holds, put_listed, last_more, last_placed, still_misplaced, now_misplaced}
 use Rattle.jedec_progress.specs.Progress.{optional_number, may_stand, misplaced_after, after_field}
 use Rattle.jedec_progress.specs.Progress.{ProgressKnows}
-use Rattle.jedec_progress.specs.declared.progress.OptionalNumber.{OptionalNumber}
-use Rattle.jedec_progress.specs.declared.progress.OptionalNumber.TheVariants as optional-number
+use Rattle.std.specs.Prelude as code
+use Rattle.std.specs.Prelude.{unwrap_or}
+use Rattle.jedec_judge.specs.declared.FuseList.{FuseList}
 use Rattle.jedec_progress.specs.declared.progress.Progress.{Progress}
 use Rattle.jedec_reader.proofs.GivenMore.{given_below}
 
@@ -30,17 +31,17 @@ pub in_order_lem : (fuses : ℕ) (p : Progress) (k : Given) (image rest : List �
     → may_stand p s ≡ in_order k (judged_after rest s)
 in_order_lem fuses p k image rest (says.Count n) g = rw g.count
 in_order_lem fuses p k image rest (says.Start x) g = rw (g.count, g.start, g.listed)
-in_order_lem fuses p k image rest (says.List first skip number bits) g = rw (g.count, g.sum)
+in_order_lem fuses p k image rest (says.List l) g = rw (g.count, g.sum)
 in_order_lem fuses p k image rest (says.Sum x) g = rw (g.count, g.sum)
 in_order_lem fuses p k image rest says.Skipped g = refl
 in_order_lem fuses p k image rest says.Bad g = refl
 
-list_space : (fuses end at first number : ℕ) (before : OptionalNumber)
-    → misplaced_after fuses before end at first number ≡ optional-number.None → first + number ≤ fuses
-list_space fuses end at first number (optional-number.Some x) e = let z : ◌≡◌ {A = ℕ} 0 1 = cc in absurd (omega arith)
-list_space fuses end at first number optional-number.None e =
+list_space : (fuses end at first number : ℕ) (before : code.Option ℕ)
+    → misplaced_after fuses before end at first number ≡ code.None → first + number ≤ fuses
+list_space fuses end at first number (code.Some x) e = let z : ◌≡◌ {A = ℕ} 0 1 = cc in absurd (omega arith)
+list_space fuses end at first number code.None e =
     compared fuses (first + number)
-    (λ l. let bad : optional-number.Some at ≡ optional-number.None = rw (lt-ltb fuses (first + number) l, or-true) at e in
+    (λ l. let bad : code.Some at ≡ code.None = rw (lt-ltb fuses (first + number) l, or-true) at e in
     let z : ◌≡◌ {A = ℕ} 0 1 = cc in absurd (omega arith))
     (λ m. m)
 
@@ -48,8 +49,8 @@ pub put_fits : (fuses : ℕ) (p : Progress) (at : ℕ) (rest : List ℕ) (s : Fi
     → PutFits fuses rest s (after_field fuses p at s).misplaced
 put_fits fuses p at rest (says.Count n) f = tt
 put_fits fuses p at rest (says.Start x) f = f
-put_fits fuses p at rest (says.List first skip number bits) f =
-    λ m. record { list = f; fits = list_space fuses p.end at first number p.misplaced m }
+put_fits fuses p at rest (says.List l) f =
+    λ m. record { list = f; fits = list_space fuses (unwrap_or p.end 0) at l.first l.count p.misplaced m }
 put_fits fuses p at rest (says.Sum x) f = tt
 put_fits fuses p at rest says.Skipped f = tt
 put_fits fuses p at rest says.Bad f = tt
@@ -62,19 +63,19 @@ any_listed : (lists : List Listed) (l : Listed) → true ≡ has_any (lists ++ (
 any_listed [] l = refl
 any_listed (a ∷ lists) l = refl
 
-no_number : (s : OptionalNumber) → optional_number s ≡ none → s ≡ optional-number.None
-no_number optional-number.None e = refl
-no_number (optional-number.Some x) e = let z : ◌≡◌ {A = ℕ} 0 1 = cc in absurd (omega arith)
+no_number : (s : code.Option ℕ) → optional_number s ≡ none → s ≡ code.None
+no_number code.None e = refl
+no_number (code.Some x) e = let z : ◌≡◌ {A = ℕ} 0 1 = cc in absurd (omega arith)
 
 -- One L field more is misplaced exactly if the reader finds it so.
 module _ (fuses : ℕ) (lists : List Listed) (l : Listed) where
-  faulty_after : (s : OptionalNumber) (end : ℕ) → end ≡ last_end 0 lists → optional_number s ≡ misplaced fuses 0 lists
+  faulty_after : (s : code.Option ℕ) (end : ℕ) → end ≡ last_end 0 lists → optional_number s ≡ misplaced fuses 0 lists
       → optional_number (misplaced_after fuses s end l.at l.first (length l.states)) ≡ misplaced fuses 0 (lists ++ (l ∷ []))
-  faulty_after (optional-number.Some x) end e f = sym (still_misplaced fuses l 0 lists x (sym f))
-  faulty_after optional-number.None end e f =
+  faulty_after (code.Some x) end e f = sym (still_misplaced fuses l 0 lists x (sym f))
+  faulty_after code.None end e f =
       rw e (go (ltb l.first (last_end 0 lists) || ltb fuses (end_of l))) ∙ sym (now_misplaced fuses l 0 lists (sym f))
     where
-      go : (t : Bool) → optional_number (cond t (optional-number.Some l.at) optional-number.None) ≡ cond t (some l.at) none
+      go : (t : Bool) → optional_number (cond t (code.Some l.at) code.None) ≡ cond t (some l.at) none
       go true = refl
       go false = refl
 
@@ -109,18 +110,18 @@ module _ (fuses : ℕ) (p : Progress) (k : Given) (image rest : List ℕ) (at : 
         holds = λ m. rw empty;
       }
 
-  list_after : (first skip number bits : ℕ) → ListFits rest skip number bits → After (says.List first skip number bits)
-  list_after first skip number bits f =
-      let l : Listed = record { at = at; first = first; states = states_of (drop skip rest) } in
-      let faulty : optional_number (misplaced_after fuses p.misplaced p.end at first number)
+  list_after : (s : FuseList) → ListFits rest s → After (says.List s)
+  list_after s f =
+      let l : Listed = record { at = at; first = s.first; states = states_of (drop s.skip rest) } in
+      let faulty : optional_number (misplaced_after fuses p.misplaced (unwrap_or p.end 0) at s.first s.count)
       ≡ misplaced fuses 0 (k.lists ++ (l ∷ [])) =
-      rw (← f.many) (faulty_after fuses k.lists l p.misplaced p.end g.end g.faulty) in
+      rw (← f.many) (faulty_after fuses k.lists l p.misplaced (unwrap_or p.end 0) g.end g.faulty) in
       let held : misplaced fuses 0 (k.lists ++ (l ∷ [])) ≡ none
-      → Holds fuses (start_state k.start) (k.lists ++ (l ∷ [])) (with_states image first (states_of (drop skip rest))) =
+      → Holds fuses (start_state k.start) (k.lists ++ (l ∷ [])) (with_states image s.first (states_of (drop s.skip rest))) =
       λ m.
       let before : misplaced fuses 0 k.lists ≡ none = none_before fuses k.lists l m in
       put_listed fuses (start_state k.start) k.lists l image (record { is = g.holds before; bits = g.bits before })
-      (written_bits (drop skip rest) f.found) m before in
+      (written_bits (drop s.skip rest) f.found) m before in
       record {
         count = g.count;
         start = g.start;
@@ -133,7 +134,7 @@ module _ (fuses : ℕ) (p : Progress) (k : Given) (image rest : List ℕ) (at : 
             (given_below fuses k.lists l before (last_placed fuses l 0 k.lists before m).0 p.missing (g.missing before));
         sum = g.sum;
         bits = λ m. (held m).bits;
-        holds = λ m. rw (no_number (misplaced_after fuses p.misplaced p.end at first number) (faulty ∙ m)) (held m).is;
+        holds = λ m. rw (no_number (misplaced_after fuses p.misplaced (unwrap_or p.end 0) at s.first s.count) (faulty ∙ m)) (held m).is;
       }
 
   pub given_after : (s : FieldSays) → SaysFits rest s → in_order k (judged_after rest s) ≡ true → After s
@@ -150,7 +151,7 @@ module _ (fuses : ℕ) (p : Progress) (k : Given) (image rest : List ℕ) (at : 
         holds = g.holds;
       }
   given_after (says.Start x) f e = start_after x f e
-  given_after (says.List first skip number bits) f e = list_after first skip number bits f
+  given_after (says.List s) f e = list_after s f
   given_after (says.Sum x) f e =
       record {
         count = g.count;

@@ -19,6 +19,7 @@ use Rattle.jedec_judge.specs.declared.FieldSays.{FieldSays}
 use Rattle.jedec_judge.specs.declared.FieldSays.TheVariants as says
 use Rattle.jedec_fields.specs.declared.NextSays.{NextSays}
 use Rattle.jedec_fields.specs.declared.NextSays.TheVariants as next
+use Rattle.std.specs.Prelude.{Option, Some, None}
 use Rattle.jedec.specs.Form.{last_end}
 use Rattle.jedec.proofs.States.{image_length}
 use Rattle.jedec_image.proofs.ListedImages.{start_holds}
@@ -79,15 +80,16 @@ module _ (fuses : ℕ) (text : List ℕ) (from : ℕ) (image₀ image : List ℕ
   pub of_size : length image ≡ (fuses + 7) / 8
   of_size = r.size
 
-  module _ (n : NextSays) (s : Stands text at n) where
-    -- The outcome is told by what stands next.
-    by_next : (m : NextSays) → n ≡ m → of_rest fuses text r.k (cut_of text m) ≡ of_cut fuses text (fields_at from (drop from text))
-    by_next m w = ap (of_rest fuses text r.k) (ap (cut_of text) (sym w) ∙ s.cut) ∙ r.rest
+  -- The outcome is told by what stands next.
+  by_next : (o : Option NextSays) → Stands text at o
+      → of_rest fuses text r.k (cut_of text o) ≡ of_cut fuses text (fields_at from (drop from text))
+  by_next o s = ap (of_rest fuses text r.k) s.cut ∙ r.rest
 
-    pub early : n ≡ next.Early → TextRead (of_cut fuses text (fields_at from (drop from text))) (refused 7 (length text)) image
-    unfolding all_fields
-    early w = refused_reads _ 7 (length text) image (sym (by_next next.Early w))
+  pub early : Stands text at None → TextRead (of_cut fuses text (fields_at from (drop from text))) (refused 7 (length text)) image
+  unfolding all_fields
+  early s = refused_reads _ 7 (length text) image (sym (by_next None s))
 
+  module _ (n : NextSays) (s : Stands text at (Some n)) where
     pub etx_there : (etx : ℕ) → n ≡ next.End etx → etx < length text
     etx_there etx w = rw w at s.inside
 
@@ -95,11 +97,16 @@ module _ (fuses : ℕ) (text : List ℕ) (from : ℕ) (image₀ image : List ℕ
         → ((k : Given) → ProgressKnows fuses p k image → TextRead (with_end fuses text k (some etx)) answer image)
         → TextRead (of_cut fuses text (fields_at from (drop from text))) answer image
     unfolding all_fields
-    the_end etx answer w f = rw (← by_next (next.End etx) w) (f r.k r.given)
+    the_end etx answer w f =
+        let t : Stands text at (Some (next.End etx)) = rw w at s in
+        rw (← by_next (Some (next.End etx)) t) (f r.k r.given)
 
     module _ (start star : ℕ) (fs : FieldSays) (w : n ≡ next.Field start star fs) where
-      there : Inside text at (next.Field start star fs)
-      there = rw w at s.inside
+      stands : Stands text at (Some (next.Field start star fs))
+      stands = rw w at s
+
+      there : Inside text at (Some (next.Field start star fs))
+      there = stands.inside
 
       pub start_first : start ≤ star
       start_first = there.1
@@ -120,7 +127,7 @@ module _ (fuses : ℕ) (text : List ℕ) (from : ℕ) (image₀ image : List ℕ
       field = take (star - start) (drop start text)
 
       j : Says (drop 1 field) (judge field) fs
-      j = rw w at s.judged
+      j = stands.judged
 
       order : may_stand p fs ≡ in_order r.k (judge field)
       order = in_order_lem fuses p r.k image (drop 1 field) fs r.given ∙ ap (in_order r.k) j.is
@@ -130,7 +137,7 @@ module _ (fuses : ℕ) (text : List ℕ) (from : ℕ) (image₀ image : List ℕ
       unfolding all_fields
       a_bad_field t e h =
           let bad : in_order r.k (judge field) ≡ false = sym order ∙ sym e ∙ h in
-          refused_reads _ 7 start image (sym (by_next (next.Field start star fs) w) ∙ rw bad)
+          refused_reads _ 7 start image (sym (by_next (Some (next.Field start star fs)) stands) ∙ rw bad)
 
       pub few_states : length text ≤ longest → FewStates fs
       few_states l = few fs j.fits
@@ -138,7 +145,7 @@ module _ (fuses : ℕ) (text : List ℕ) (from : ℕ) (image₀ image : List ℕ
           few : (x : FieldSays) → SaysFits (drop 1 (take (star - start) (drop start text))) x → FewStates x
           few (says.Count n) f = tt
           few (says.Start x) f = tt
-          few (says.List first skip number bits) f = omega (
+          few (says.List list) f = omega (
             arith,
             f.few,
             length-drop 1 (take (star - start) (drop start text)),
@@ -169,5 +176,5 @@ module _ (fuses : ℕ) (text : List ℕ) (from : ℕ) (image₀ image : List ℕ
               size = long ∙ r.size;
               same = long ∙ r.same;
               inside = omega (arith, there.2);
-              rest = (rw good at (by_next (next.Field start star fs) w));
+              rest = (rw good at (by_next (Some (next.Field start star fs)) stands));
             }

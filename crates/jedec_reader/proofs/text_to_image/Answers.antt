@@ -11,7 +11,8 @@ use Rattle.part.specs.Outcome.{Outcome, written, Written}
 use Rattle.part.specs.Outcome.Outcome.{refused}
 use Rattle.part.specs.Device.{known, fuse_count, image_bytes}
 use Rattle.part.specs.declared.Device.{Device}
-use Rattle.part.proofs.Devices.{is_known, is_unknown, fuses_small}
+use Rattle.part.proofs.Devices.{fuses_small}
+use Rattle.part.proofs.Refused.{written_with}
 use Rattle.part.proofs.Checks.{no_device, the_device, other_length, the_length}
 use Rattle.part.proofs.Targets.{says}
 use Rattle.jedec.specs.Meaning.{meaning}
@@ -66,20 +67,20 @@ module _ (d : Device) (x : ℕ) (e : x ≡ image_bytes d) where
   unfolding image_bytes
   buffer_size made fuses k l f = rw f (sym (so_long made k l) ∙ e)
 
-pub returns-then-not-is_known : goal.returns-then-not-is_known
-returns-then-not-is_known c = search (rules, is_unknown, unknown)
+pub returns-in_err-part : goal.returns-in_err-part
+returns-in_err-part c = search (rules, written_with, unknown)
 
 pub returns-then-image-bytes : goal.returns-then-image-bytes
-returns-then-image-bytes c = search (rules, is_known, wrong_length)
+returns-then-image-bytes c = rw (← c.in_ok-part.ensures) (search (rules, wrong_length))
 
 pub slice_bounds-made-end : goal.slice_bounds-made-end
-slice_bounds-made-end c = search (rules, is_known, in_space)
+slice_bounds-made-end c = search (rules, in_space)
 
 pub slice_bounds-read_beside-end : goal.slice_bounds-read_beside-end
-slice_bounds-read_beside-end c = search (rules, is_known, so_long)
+slice_bounds-read_beside-end c = search (rules, so_long)
 
 pub read_beside-requires : goal.read_beside-requires
-read_beside-requires c = (search (rules, is_known, buffer_size), search (rules, image_size))
+read_beside-requires c = (search (rules, buffer_size), search (rules, image_size))
 
 pub returns : goal.returns
-returns c = search (rules, is_known, a_text)
+returns c = rw (← c.in_ok-part.ensures) (search (rules, a_text))

@@ -20,6 +20,7 @@ use Rattle.jedec_end.specs.End.{TextRead}
 use Rattle.jedec_end.proofs.Ends.{refused_reads}
 use borrow.Author.Rules.{rules}
 use Rattle.jedec_reader.proofs.walk.read_text.Goals as goal
+use Rattle.jedec_reader.proofs.walk.read_text.Goals.{then-text-eq0-via-then-text-eq0, then-text-eq0-via-else-text-eq0+then-text-ne-STX}
 
 module _ (fuses : ℕ) where
   too_long : (text image : List ℕ) → longest < length text → TextRead (meaning fuses text) (refused 7 longest) image
@@ -54,6 +55,12 @@ design_rest text zero l = absurd (omega arith)
 design_rest [] (suc s) l = sym (take-nil (suc s - 1))
 design_rest (b ∷ text) (suc s) l = let e : suc s - 1 ≡ s = omega arith in rw e
 
+no_star : (fuses : ℕ) (text image : List ℕ) → length text ≤ longest → (length text ≡ 0 → ⊥) → get_or text 0 0 ≡ 2
+    → 0 + until_star (drop 0 text) ≡ length text → TextRead (meaning fuses text) (refused 7 (length text)) image
+no_star fuses text image l n h e =
+    let u : Uncut text = pieces_none text (omega (arith, sym (zero-add (until_star text)) ∙ e)) in
+    refused_reads _ 7 (length text) image (after_stx fuses text l n h ∙ rw u.ended)
+
 module _ (fuses : ℕ) (text image : List ℕ) (l : length text ≤ longest) (n : length text ≡ 0 → ⊥) (h : get_or text 0 0 ≡ 2) (star : ℕ)
     (e : star ≡ 0 + until_star (drop 0 text)) where
   is : star ≡ until_star text
@@ -62,12 +69,7 @@ module _ (fuses : ℕ) (text image : List ℕ) (l : length text ≤ longest) (n 
   past_stx : 1 ≤ star
   past_stx = rw is (past_first text n h)
 
-  no_star : star ≡ length text → TextRead (meaning fuses text) (refused 7 (length text)) image
-  no_star f =
-      let u : Uncut text = pieces_none text (omega (arith, is)) in
-      refused_reads _ 7 (length text) image (after_stx fuses text l n h ∙ rw u.ended)
-
-  module _ (m : star ≤ length text) (f : star ≡ length text → ⊥) (t : Bool) (g : t ≡ holds_mark (take (star - 1) (drop 1 text))) where
+  module _ (m : star < length text) (t : Bool) (g : t ≡ holds_mark (take (star - 1) (drop 1 text))) where
     cut : Cuts text star
     cut = let less : until_star text < length text = omega (arith, is) in rw is (pieces_star text less)
 
@@ -83,29 +85,30 @@ module _ (fuses : ℕ) (text image : List ℕ) (l : length text ≤ longest) (n 
     unfolding fields_at
     then_fields answer v r =
         let whole : meaning fuses text ≡ of_cut fuses text (fields_at (star + 1) (drop (star + 1) text)) =
-        after_stx fuses text l n h ∙ rw (cut.ended, marked, v, cut.rest, length-take-le star text m, add-one star) in
+        after_stx fuses text l n h ∙ rw (cut.ended, marked, v, cut.rest, length-take-le star text (omega arith), add-one star) in
         rw whole r
 
 pub returns-then-text-gt-LONGEST_LENGTH : goal.returns-then-text-gt-LONGEST_LENGTH
 returns-then-text-gt-LONGEST_LENGTH c = search (rules, too_long)
 
 pub returns-then-text-eq0 : goal.returns-then-text-eq0
-returns-then-text-eq0 c = search (rules, nothing_there)
+returns-then-text-eq0 c =
+    elim c.then-text-eq0.branch [
+      | then-text-eq0-via-then-text-eq0 w ↦ search (rules, nothing_there)
+      | then-text-eq0-via-else-text-eq0+then-text-ne-STX w ↦ search (rules, no_stx)
+    ]
 
-pub returns-then-text-ne-STX : goal.returns-then-text-ne-STX
-returns-then-text-ne-STX c = search (rules, no_stx)
-
-pub returns-then-star-text : goal.returns-then-star-text
-returns-then-star-text c = search (rules, no_star)
+pub returns-in_default : goal.returns-in_default
+returns-in_default c = search (rules, no_star, c.in_default.ensures)
 
 pub slice_bounds-holds_mark-count : goal.slice_bounds-holds_mark-count
-slice_bounds-holds_mark-count c = search (rules, past_stx)
+slice_bounds-holds_mark-count c = search (rules, past_stx, c.in-Some.ensures)
 
 pub slice_bounds-holds_mark-start : goal.slice_bounds-holds_mark-start
-slice_bounds-holds_mark-start c = search (rules, past_stx)
+slice_bounds-holds_mark-start c = search (rules, past_stx, c.in-Some.ensures)
 
 pub returns-then-holds_mark : goal.returns-then-holds_mark
-returns-then-holds_mark c = search (rules, a_mark)
+returns-then-holds_mark c = search (rules, a_mark, c.in-Some.ensures)
 
 pub returns : goal.returns
-returns c = search (rules, then_fields)
+returns c = search (rules, then_fields, c.in-Some.ensures)

@@ -5,8 +5,8 @@ use lib.ListN.{length}
 use Rattle.jedec_reader.proofs.Walks.{Walks}
 use Rattle.jedec_reader.proofs.walk.walk.Given as goal
 
-abbrev pub invariant-loop-length : goal.invariant-loop-length
-invariant-loop-length l = Walks l.fuses l.text l.from l.initial.image l.image l.p l.at
+abbrev pub invariant-loop-next : goal.invariant-loop-next
+invariant-loop-next l = Walks l.fuses l.text l.from l.initial.image l.image l.p l.at
 
-abbrev pub decreases-loop-length : goal.decreases-loop-length
-decreases-loop-length l = length l.text - l.at
+abbrev pub decreases-loop-next : goal.decreases-loop-next
+decreases-loop-next l = length l.text - l.at
