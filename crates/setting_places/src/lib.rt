@@ -108,14 +108,14 @@ pub fn fuse_of_numbered_bit(
         if 0 < bit {
             return Ok(None);
         }
-        return Ok(Some(numbered::literal(part, number)));
+        return Ok(Some(numbered::literal_bit(part, number)));
     }
     let macrocells = start_of_macrocells(part);
     if x < macrocells {
         if 0 < bit {
             return Ok(None);
         }
-        return Ok(Some(numbered::wire_and(part, x - wire_ands)));
+        return Ok(Some(numbered::wire_and_bit(part, x - wire_ands)));
     }
     let blocks = start_of_blocks(part);
     if x < blocks {

@@ -21,8 +21,8 @@ const FIELD_SHIFT: u32 = 18;
 
 const FIELD_FACTOR: u64 = (1 << FIELD_SHIFT) / MACROCELL_FIELDS as u64 + 1;
 
-// The fuse of a literal, which has one bit, by its number.
-pub fn literal(d: KnownDevice, number: SettingNumber) -> FuseAt
+// The bit of a literal, which has one, by its number.
+pub fn literal_bit(d: KnownDevice, number: SettingNumber) -> FuseAt
     requires { number.0 < start d.device wire_ands }
     ensures { accepted (some (located_fuse result)) ≡ located_bit d.device (setting_of d.device number.0) 0 }
 {
@@ -30,8 +30,8 @@ pub fn literal(d: KnownDevice, number: SettingNumber) -> FuseAt
     located(d, place)
 }
 
-// The fuse of the wire-AND at a position, which has one bit.
-pub fn wire_and(d: KnownDevice, x: u32) -> FuseAt
+// The bit of the wire-AND at a position, which has one.
+pub fn wire_and_bit(d: KnownDevice, x: u32) -> FuseAt
     requires { x < size d.device wire_ands }
     ensures { accepted (some (located_fuse result)) ≡ located_bit d.device (in_group d.device wire_ands x) 0 }
 {

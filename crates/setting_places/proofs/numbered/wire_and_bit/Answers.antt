@@ -1,4 +1,4 @@
--- `wire_and` meets its contract: the setting at the position is a wire-AND, which has one bit.
+-- `wire_and_bit` meets its contract: the setting at the position is a wire-AND, which has one bit.
 -- Assumes nothing.
 use mathlib.Core.Path.{◌≡◌}
 use Prim.Native.Nat.{ℕ}
@@ -11,7 +11,7 @@ use Rattle.settings.proofs.Among.{has_in_group}
 use Rattle.setting_places.specs.Places.{place_of}
 use Rattle.setting_places.proofs.AtPlace.{wire_and_bits, there_once, at_one_place}
 use borrow.Author.Rules.{rules}
-use Rattle.setting_places.proofs.numbered.wire_and.Goals as goal
+use Rattle.setting_places.proofs.numbered.wire_and_bit.Goals as goal
 
 its_place : (d : Device) (x block j k l : ℕ) (p : Place) → WireAnd block j k l ≡ in_group d wire_ands x
     → p ≡ place_of (WireAnd block j k l) 0 → p ≡ place_of (in_group d wire_ands x) 0
