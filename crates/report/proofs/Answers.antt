@@ -18,14 +18,11 @@ use Rattle.part.specs.Answer.{refusal_number, refusal_value, number_outcome, don
 use Rattle.part.specs.Device.{known, blocks_of, fuse_count, image_bytes, decimal_digits}
 use Rattle.part.proofs.Devices.{digits_small}
 use Rattle.part.specs.declared.Device.{Device}
-use Rattle.part.specs.declared.NumberAnswer.{NumberAnswer}
-use Rattle.part.specs.declared.NumberAnswer.TheVariants as number-answer
+use Rattle.std.specs.Prelude.{Result, Ok, Err}
 use Rattle.part.specs.declared.Refusal.{Refusal}
 use Rattle.image.specs.Image.{sum16, zeros_below}
 use Rattle.part.proofs.Checks.{the_device, the_length}
 use Rattle.part.proofs.Targets.{says}
-use Rattle.part.specs.declared.DoneAnswer.{DoneAnswer}
-use Rattle.part.specs.declared.DoneAnswer.TheVariants as answer
 use Rattle.jedec.specs.Characters.{lf, decimal_digit, hex_digit, count_digits, four_hex}
 use Rattle.jedec.specs.Cut.{pieces}
 use Rattle.jedec.specs.Meaning.{meaning}
@@ -48,20 +45,21 @@ refused_lines : (d : Device) (o : Outcome (List ℕ)) (n v : ℕ) → refused n 
 refused_lines d (accepted x) n v e = cc
 refused_lines d (refused m w) n v e = cc
 
-module _ (d : Device) (text before image : List ℕ) (k : known d ≡ true) (l : length before ≡ image_bytes d) (a : DoneAnswer)
+module _ (d : Device) (text before image : List ℕ) (k : known d ≡ true) (l : length before ≡ image_bytes d)
+    (a : Result (Unit {0}) Refusal)
     (w : Written (to_image_from_text d text before) (done_outcome a) (image_in d text) before image) (out after : List ℕ) (end : ℕ) where
   read : to_image_from_text d text before ≡ verdict (meaning (fuse_count d) text)
   unfolding to_image_from_text
   read = the_device d _ k ∙ the_length (length before) (image_bytes d) _ (image_bytes d) refl l
 
-  pub of_image : a ≡ answer.Done → Put out after 0 (count_lines d image) end
+  pub of_image : a ≡ Ok tt → Put out after 0 (count_lines d image) end
       → Put out after 0 (lines_of d (meaning (fuse_count d) text)) end
   unfolding image_in
   of_image e p =
       let done : to_image_from_text d text before ≡ accepted tt = sym w.answers ∙ ap done_outcome e in
       rw (image_lines d (meaning (fuse_count d) text) image (sym done ∙ read) (rw done at w.holds)) at p
 
-  pub of_refusal : (r : Refusal) (n v : ℕ) → a ≡ answer.Refused r → n ≡ refusal_number r → v ≡ refusal_value r
+  pub of_refusal : (r : Refusal) (n v : ℕ) → a ≡ Err r → n ≡ refusal_number r → v ≡ refusal_value r
       → Put out after 0 (refusal_line n v) end → Put out after 0 (lines_of d (meaning (fuse_count d) text)) end
   of_refusal r n v e en ev p =
       let said : refused n v ≡ verdict (meaning (fuse_count d) text) = rw (en, ev) (ap done_outcome (sym e)) ∙ w.answers ∙ read in
@@ -184,9 +182,9 @@ bytes_fit bytes buffer n e = go (ltb (length buffer) (length bytes)) refl e
     go true f g = absurd (let z : ◌≡◌ {A = ℕ} 0 1 = cc in omega arith)
     go false f g = let is : n ≡ length bytes = cc in omega (arith, ltb-false (length buffer) (length bytes) f)
 
-module _ (text buffer after : List ℕ) (l : length after ≡ length buffer) (a : NumberAnswer)
+module _ (text buffer after : List ℕ) (l : length after ≡ length buffer) (a : Result ℕ Refusal)
     (w : Written (bytes_put (report_of text) buffer) (number_outcome a) (at_start (report_of text) buffer) buffer after) (n : ℕ)
-    (e : a ≡ number-answer.Number n) where
+    (e : a ≡ Ok n) where
   pub in_space : n ≤ length after
   in_space = rw l (bytes_fit (report_of text) buffer n (ap number_outcome (sym e) ∙ w.answers))
 

@@ -2,7 +2,7 @@
 -- Assumes nothing.
 use mathlib.Core.Path.{◌≡◌, refl, sym, ◌∙◌, ap}
 use mathlib.Core.Bool.{true}
-use mathlib.Core.List.{List, [], ◌∷◌}
+use mathlib.Core.List.{List}
 use mathlib.Core.Option.{Option, or_else}
 use mathlib.Core.Option.Option.{none, some}
 use Prim.Native.Nat.{ℕ, suc, ◌+◌, ◌-◌, ◌^◌, ◌≤◌, ◌<◌}
@@ -11,9 +11,8 @@ use native.Mathlib.Nat.{zero-add}
 use native.Mathlib.Numerals.{add-one}
 use lib.ListN.{length, take, drop}
 use lib.Seq.{length-take-le}
-use types.Run.{OneOf, miss}
-use denote.Enum.Declared.{tag_of}
 use borrow.Author.Tests.{eq-eqb, ne_eqb}
+use Rattle.std.specs.Prelude as code
 use Rattle.part.specs.Device.{known, fuse_count}
 use Rattle.jedec.specs.Cut.{pieces, Cut, fields_from}
 use Rattle.jedec.specs.Judge.{judge}
@@ -23,7 +22,6 @@ use Rattle.jedec_judge.specs.declared.FieldSays.{FieldSays}
 use Rattle.jedec_judge.specs.declared.FieldSays.TheVariants as says
 use Rattle.jedec_fields.specs.declared.NextSays.{NextSays}
 use Rattle.jedec_fields.specs.declared.NextSays.TheVariants as next
-use Rattle.jedec_judge.specs.contracts.FieldSays.{the_type}
 use Rattle.jedec_fields.proofs.Fields.{Cuts, pieces_star, Uncut, pieces_none}
 use Rattle.report.specs.Report.{of_blocks, fuse_count_in, first_count, blocks_by, blocks_for}
 
@@ -38,12 +36,14 @@ reads_four count x e f = sym (rw (eq-eqb count (fuse_count (of_blocks 4)) (f ∙
 pub reads_other : (count x : ℕ) → x ≡ fuse_count (of_blocks 4) → (count ≡ x → ⊥) → 2 ≡ blocks_by (some count)
 reads_other count x e f = sym (rw (ne_eqb count (fuse_count (of_blocks 4)) (λ g. f (g ∙ sym e))))
 
--- A field that is no QF field, as the code tells it: by the number of its kind.
-no_qf : (after : List ℕ) (fs : FieldSays) → OneOf (1 ∷ 2 ∷ 3 ∷ 4 ∷ 5 ∷ []) (tag_of the_type fs)
-    → fuse_count_in (judged_after after fs) ≡ none
-no_qf after (says.Count n) h = absurd (miss (1 ∷ 2 ∷ 3 ∷ 4 ∷ 5 ∷ []) 0 tt h)
+-- A field that is no QF field.
+abbrev NoCount : FieldSays → Type 0
+NoCount fs = (n : ℕ) → fs ≡ says.Count n → ⊥
+
+no_qf : (after : List ℕ) (fs : FieldSays) → NoCount fs → fuse_count_in (judged_after after fs) ≡ none
+no_qf after (says.Count n) h = absurd (h n refl)
 no_qf after (says.Start s) h = refl
-no_qf after (says.List first skip many bits) h = refl
+no_qf after (says.List l) h = refl
 no_qf after (says.Sum x) h = refl
 no_qf after says.Skipped h = refl
 no_qf after says.Bad h = refl
@@ -53,20 +53,20 @@ abbrev pub first : Cut → Option ℕ
 first cut = first_count cut.fields
 
 module _ (text : List ℕ) (from at : ℕ) (e : first (fields_at at (drop at text)) ≡ first (fields_at from (drop from text)))
-    (n : NextSays) (s : Stands text at n) where
-  by_next : (m : NextSays) → n ≡ m → first (cut_of text m) ≡ first (fields_at from (drop from text))
-  by_next m w = ap (λ (k : NextSays). first (cut_of text k)) (sym w) ∙ ap first s.cut ∙ e
+    (n : code.Option NextSays) (s : Stands text at n) where
+  by_next : (m : code.Option NextSays) → n ≡ m → first (cut_of text m) ≡ first (fields_at from (drop from text))
+  by_next m w = ap (λ (k : code.Option NextSays). first (cut_of text k)) (sym w) ∙ ap first s.cut ∙ e
 
-  pub text_ends : n ≡ next.Early → 2 ≡ blocks_by (first_count (fields_at from (drop from text)).fields)
+  pub text_ends : n ≡ code.None → 2 ≡ blocks_by (first_count (fields_at from (drop from text)).fields)
   unfolding first_count
-  text_ends w = ap blocks_by (by_next next.Early w)
+  text_ends w = ap blocks_by (by_next code.None w)
 
-  pub fields_end : (etx : ℕ) → n ≡ next.End etx → 2 ≡ blocks_by (first_count (fields_at from (drop from text)).fields)
+  pub fields_end : (etx : ℕ) → n ≡ code.Some (next.End etx) → 2 ≡ blocks_by (first_count (fields_at from (drop from text)).fields)
   unfolding first_count
-  fields_end etx w = ap blocks_by (by_next (next.End etx) w)
+  fields_end etx w = ap blocks_by (by_next (code.Some (next.End etx)) w)
 
-  module _ (start star : ℕ) (fs : FieldSays) (w : n ≡ next.Field start star fs) where
-    there : Inside text at (next.Field start star fs)
+  module _ (start star : ℕ) (fs : FieldSays) (w : n ≡ code.Some (next.Field start star fs)) where
+    there : Inside text at (code.Some (next.Field start star fs))
     there = rw w at s.inside
 
     pub next_there : star + 1 ≤ length text
@@ -90,31 +90,27 @@ module _ (text : List ℕ) (from at : ℕ) (e : first (fields_at at (drop at tex
     a_count count r g h =
         let reads : fuse_count_in (judge field) ≡ some count =
         ap fuse_count_in (sym judged.is) ∙ ap (λ (k : FieldSays). fuse_count_in (judged_after (drop 1 field) k)) g in
-        h ∙ ap blocks_by (rw reads at (by_next (next.Field start star fs) w))
+        h ∙ ap blocks_by (rw reads at (by_next (code.Some (next.Field start star fs)) w))
 
-    pub no_count : OneOf (1 ∷ 2 ∷ 3 ∷ 4 ∷ 5 ∷ []) (tag_of the_type fs)
-        → first (fields_at (star + 1) (drop (star + 1) text)) ≡ first (fields_at from (drop from text))
+    pub no_count : NoCount fs → first (fields_at (star + 1) (drop (star + 1) text)) ≡ first (fields_at from (drop from text))
     unfolding first_count or_else
     no_count h =
         let reads : fuse_count_in (judge field) ≡ none = ap fuse_count_in (sym judged.is) ∙ no_qf (drop 1 field) fs h in
-        rw reads at (by_next (next.Field start star fs) w)
+        rw reads at (by_next (code.Some (next.Field start star fs)) w)
 
 -- The fields of a text start behind its first `*`.
-module _ (text : List ℕ) (star : ℕ) (e : star ≡ 0 + until_star (drop 0 text)) where
-  is : star ≡ until_star text
-  is = e ∙ zero-add (until_star text)
+pub no_star : (text : List ℕ) → 0 + until_star (drop 0 text) ≡ length text → 2 ≡ blocks_for text
+unfolding blocks_for first_count
+no_star text f = let u : Uncut text = pieces_none text (omega (arith, f)) in rw u.ended
 
-  pub no_star : star ≡ length text → 2 ≡ blocks_for text
-  unfolding blocks_for first_count
-  no_star f = let u : Uncut text = pieces_none text (omega (arith, is)) in rw u.ended
-
-  pub behind_star : (r : ℕ) → star ≤ length text → (star ≡ length text → ⊥)
-      → r ≡ blocks_by (first_count (fields_at (star + 1) (drop (star + 1) text)).fields) → r ≡ blocks_for text
-  unfolding blocks_for fields_at
-  behind_star r m f g =
-      let less : until_star text < length text = omega (arith, is) in
-      let cut : Cuts text star = rw is (pieces_star text less) in
-      let rest = pieces (drop (suc star) text) in
-      let at : length (take star text) + 1 ≡ suc star = rw (length-take-le star text m) (add-one star) in
-      g ∙ rw (add-one star, cut.ended, cut.rest)
-      (ap (λ (k : ℕ). blocks_by (first_count (fields_from k rest.ended rest.rest).fields)) (sym at))
+pub behind_star : (text : List ℕ) (star r : ℕ) → (star ≡ 0 + until_star (drop 0 text)) × (star < length text)
+    → r ≡ blocks_by (first_count (fields_at (star + 1) (drop (star + 1) text)).fields) → r ≡ blocks_for text
+unfolding blocks_for fields_at
+behind_star text star r e g =
+    let is : star ≡ until_star text = e.0 ∙ zero-add (until_star text) in
+    let less : until_star text < length text = omega (arith, is, e.1) in
+    let cut : Cuts text star = rw is (pieces_star text less) in
+    let rest = pieces (drop (suc star) text) in
+    let at : length (take star text) + 1 ≡ suc star = rw (length-take-le star text (omega (arith, e.1)), add-one star) in
+    g ∙ rw (add-one star, cut.ended, cut.rest)
+    (ap (λ (k : ℕ). blocks_by (first_count (fields_from k rest.ended rest.rest).fields)) (sym at))

@@ -2,10 +2,10 @@
 // The definitions stand in specs/Report.antt.
 #![tactic(auto)]
 
-ghost use Rattle.std.specs.Prelude.{◌≡◌, true, ◌≤◌, length, drop};
+ghost use Rattle.std.specs.Prelude.{◌≡◌, ◌≤◌, length, drop};
 ghost use Rattle.std.proofs.Math.Option.Option.{some};
 ghost use Rattle.part.specs.Answer.{number_outcome};
-ghost use Rattle.part.specs.Device.{known, fuse_count, image_bytes};
+ghost use Rattle.part.specs.Device.{fuse_count, image_bytes};
 ghost use Rattle.part.specs.Outcome.{Written};
 ghost use Rattle.jedec.specs.Meaning.{meaning};
 ghost use Rattle.jedec_fields.specs.Fields.{fields_at};
@@ -14,9 +14,11 @@ ghost use Rattle.report.specs.Report.{of_blocks, first_count, blocks_by, blocks_
 ghost use Rattle.report.specs.Report.{report_of, bytes_put, at_start};
 
 use jedec_fields::NextSays;
+use jedec_fields::scan::{next_judged, next_star};
 use jedec_judge::FieldSays;
+use jedec_reader::text_to_image;
 use part::geometry::{MAIN_IMAGE_BYTES, SUBAREA_IMAGE_BYTES};
-use part::{Device, DoneAnswer, NumberAnswer, Refusal};
+use part::{Device, KnownDevice, Refusal};
 use report_lines::lines::{put, put_counts, put_refusal};
 
 // The longest text that the bench program reads, as a refusal's value and as a length.
@@ -28,16 +30,18 @@ const MOST_LENGTH: usize = MOST_BYTES as usize;
 const IMAGE_OF_FOUR: usize = (4 * (MAIN_IMAGE_BYTES + 4 * SUBAREA_IMAGE_BYTES)) as usize;
 
 // The part whose fuse count tells four blocks from two.
-const FOUR: Device = Device {
-    blocks: 4,
-    class: 0,
+const FOUR: KnownDevice = KnownDevice {
+    device: Device {
+        blocks: 4,
+        class: 0,
+    },
 };
 
 // The block count where the first QF field reads a number.
 fn blocks_by(count: u32) -> u32
     ensures { result ≡ blocks_by (some count) }
 {
-    if count == part::geometry::fuse_count(FOUR) {
+    if count == FOUR.fuse_count() {
         return 4;
     }
     2
@@ -49,47 +53,38 @@ fn blocks_from(text: &[u8], from: usize) -> u32
     ensures { result ≡ blocks_by (first_count (fields_at from (drop from text.now)).fields) }
 {
     let mut at = from;
-    loop {
-        let next = jedec_fields::scan::next_judged(text, at);
+    while let Some(next) = next_judged(text, at) {
         match next {
-            NextSays::Early => return 2,
-            NextSays::End(_) => return 2,
-            NextSays::Field {
-                start: _,
-                star,
-                says,
-            } => {
+            NextSays::Field { star, says, .. } => {
                 if let FieldSays::Count(count) = says {
                     return blocks_by(count);
                 }
                 at = star + 1;
             }
+            NextSays::End(_) => return 2,
         }
     }
+    2
 }
 
 // The block count for a text.
 fn blocks_for(text: &[u8]) -> u32
     ensures { result ≡ blocks_for text.now }
 {
-    let star = jedec_fields::scan::next_star(text, 0);
-    if star == text.len() {
-        return 2;
+    match next_star(text, 0) {
+        Some(star) => blocks_from(text, star + 1),
+        None => 2,
     }
-    blocks_from(text, star + 1)
 }
 
 // The lines of a text for a device, by way of its image.
-fn put_lines(d: Device, text: &[u8], image: &mut [u8], out: &mut [u8]) -> usize
-    requires { (known d ≡ true) × (length image.old ≡ image_bytes d) × (64 ≤ length out.old) }
-    ensures { Put out.old out.new 0 (lines_of d (meaning (fuse_count d) text.now)) result }
+fn put_lines(part: KnownDevice, text: &[u8], image: &mut [u8], out: &mut [u8]) -> usize
+    requires { (length image.old ≡ image_bytes part.device) × (64 ≤ length out.old) }
+    ensures { Put out.old out.new 0 (lines_of part.device (meaning (fuse_count part.device) text.now)) result }
 {
-    let answer = jedec_reader::text_to_image(d, text, image);
-    match answer {
-        DoneAnswer::Done => put_counts(d, image, out),
-        DoneAnswer::Refused(r) => {
-            put_refusal(part::refusal_number(r), part::refusal_value(r), out)
-        }
+    match text_to_image(part.device, text, image) {
+        Ok(()) => put_counts(part, image, out),
+        Err(r) => put_refusal(r.number(), r.value(), out),
     }
 }
 
@@ -108,18 +103,20 @@ fn put_report(text: &[u8], out: &mut [u8]) -> usize
     if MOST_LENGTH < text.len() {
         return put_refusal(7, MOST_BYTES, out);
     }
-    let d = Device {
-        blocks: blocks_for(text),
-        class: 0,
+    let part = KnownDevice {
+        device: Device {
+            blocks: blocks_for(text),
+            class: 0,
+        },
     };
-    let bytes = part::geometry::image_bytes(d) as usize;
+    let bytes = part.image_bytes() as usize;
     let mut image = image_buffer();
-    put_lines(d, text, &mut image[..bytes], out)
+    put_lines(part, text, &mut image[..bytes], out)
 }
 
 // What the bench program writes for a text, put at the start of `out`: how many bytes it has. Refused: 12.
 // It is made in bytes of its own, since a refusal changes no byte.
-pub fn report(text: &[u8], out: &mut [u8]) -> NumberAnswer
+pub fn report(text: &[u8], out: &mut [u8]) -> Result<u32, Refusal>
     ensures { Written (bytes_put (report_of text.now) out.old) (number_outcome result)
         (at_start (report_of text.now) out.old) out.old out.new }
 {
@@ -127,8 +124,8 @@ pub fn report(text: &[u8], out: &mut [u8]) -> NumberAnswer
     let n = put_report(text, &mut lines);
     let needed = n as u32;
     if out.len() < n {
-        return NumberAnswer::Refused(Refusal::BufferTooShort(needed));
+        return Err(Refusal::BufferTooShort(needed));
     }
     put(&lines[..n], out, 0);
-    NumberAnswer::Number(needed)
+    Ok(needed)
 }

@@ -7,8 +7,8 @@ use Rattle.jedec_fields.specs.Fields.{fields_at}
 use Rattle.report.proofs.Choice.{first}
 use Rattle.report.proofs.blocks_from.Given as goal
 
-abbrev pub invariant-loop-star : goal.invariant-loop-star
-invariant-loop-star l = (l.at ≤ length l.text) × (first (fields_at l.at (drop l.at l.text)) ≡ first (fields_at l.from (drop l.from l.text)))
+abbrev pub invariant-loop-next : goal.invariant-loop-next
+invariant-loop-next l = (l.at ≤ length l.text) × (first (fields_at l.at (drop l.at l.text)) ≡ first (fields_at l.from (drop l.from l.text)))
 
-abbrev pub decreases-loop-star : goal.decreases-loop-star
-decreases-loop-star l = length l.text - l.at
+abbrev pub decreases-loop-next : goal.decreases-loop-next
+decreases-loop-next l = length l.text - l.at

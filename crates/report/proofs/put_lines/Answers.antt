@@ -4,8 +4,8 @@ use Rattle.report.proofs.Answers.{of_image, of_refusal}
 use borrow.Author.Rules.{rules}
 use Rattle.report.proofs.put_lines.Goals as goal
 
-pub returns-in-Done : goal.returns-in-Done
-returns-in-Done c = search (rules, of_image, of_refusal)
+pub returns-in-Ok : goal.returns-in-Ok
+returns-in-Ok c = search (rules, of_image)
 
-pub returns-in-Refused : goal.returns-in-Refused
-returns-in-Refused c = search (rules, of_image, of_refusal)
+pub returns-in-Err : goal.returns-in-Err
+returns-in-Err c = search (rules, of_refusal)

@@ -7,8 +7,8 @@ use Rattle.report.proofs.put_report.Goals as goal
 pub returns-then-text-gt-MOST_LENGTH : goal.returns-then-text-gt-MOST_LENGTH
 returns-then-text-gt-MOST_LENGTH c = search (rules, too_long)
 
-pub image_bytes-bytes-requires : goal.image_bytes-bytes-requires
-image_bytes-bytes-requires c = search (rules, device_known)
+pub invariant_of-part : goal.invariant_of-part
+invariant_of-part c = record { is_known = search (rules, device_known) }
 
 pub slice_bounds-image-end : goal.slice_bounds-image-end
 slice_bounds-image-end c = search (rules, image_fits)
@@ -17,7 +17,7 @@ pub slice_bounds-put_lines-end : goal.slice_bounds-put_lines-end
 slice_bounds-put_lines-end c = search (rules, image_part)
 
 pub put_lines-requires : goal.put_lines-requires
-put_lines-requires c = (search (rules, device_known), search (rules, image_size), search rules)
+put_lines-requires c = (search (rules, image_size), search rules)
 
 pub returns : goal.returns
 returns c = search (rules, not_too_long)
