@@ -1,23 +1,16 @@
--- What the code's test of a setting says, for the operations that ask for one.
+-- The refusals 1 and 4 of an operation, and its answer where there is none, by the definitions that all operations on settings share.
 -- Assumes nothing.
-use mathlib.Core.Path.{◌≡◌, sym, ◌∙◌}
-use mathlib.Core.Bool.{Bool, true, false}
+use mathlib.Core.Path.{◌≡◌}
+use mathlib.Core.Bool.{true, false}
 use Rattle.part.specs.Outcome.{Outcome}
 use Rattle.part.specs.Outcome.Outcome.{refused}
 use Rattle.part.specs.Device.{known}
 use Rattle.part.specs.Sizes.{if_known}
-use Rattle.settings.specs.Operations.{if_setting}
 use Rattle.part.specs.declared.Device.{Device}
 use Rattle.settings.specs.Settings.{has_setting}
+use Rattle.settings.specs.Operations.{if_setting}
 use Rattle.settings.specs.declared.Setting.{Setting}
 
-pub has : (d : Device) (s : Setting) (t : Bool) → t ≡ has_setting d s → t ≡ true → has_setting d s ≡ true
-has d s t e h = sym e ∙ h
-
-pub has_not : (d : Device) (s : Setting) (t : Bool) → t ≡ has_setting d s → t ≡ false → has_setting d s ≡ false
-has_not d s t e h = sym e ∙ h
-
--- The refusals of such an operation.
 pub no_device : {A : Type 0} (d : Device) (o : Outcome A) → known d ≡ false → refused 1 0 ≡ if_known d o
 no_device d o k = rw k
 
