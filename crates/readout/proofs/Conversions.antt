@@ -2,12 +2,11 @@
 -- number by bytes gives its image.
 use mathlib.Core.Path.{◌≡◌, sym, ◌∙◌, subst}
 use mathlib.Core.Bool.{true}
-use mathlib.Core.List.{List, append-nil}
+use mathlib.Core.List.{List}
 use Prim.Native.Nat.{ℕ, ◌+◌, ◌*◌, ◌/◌, ◌^◌, ◌<◌}
 use native.Mathlib.Omega.{arith}
-use native.Mathlib.Nat.{zero-add, le_of_eq}
-use lib.ListN.{length, get_or, replicate, length-replicate, drop_of_length-le}
-use lib.Seq.{sets, sets-eq, ext_get_or}
+use lib.ListN.{length, get_or, replicate, length-replicate}
+use lib.Seq.{ext_get_or}
 use Rattle.cells.specs.Cells.{cut, join, number}
 use Rattle.cells.proofs.Laws.{cut_at, cut_length, total_repeat}
 use Rattle.part.specs.Device.{known, fuse_count, image_bytes, readout_bytes}
@@ -43,12 +42,6 @@ readout_cut d image k e =
     (λ bit hb. sym (bit_high (number image) first bit)
     ∙ number_bit image (first + bit) (omega (arith, fuse_below d index bit below hb, image_whole d k)))
     ∙ sym (tabulate_at (readout_bytes d) _ index below)))
-
--- Stores that fill a slice leave nothing of what it held.
-pub sets_whole : (out cells : List ℕ) → length out ≡ length cells → sets out 0 cells ≡ cells
-sets_whole out cells e =
-    sets-eq cells out 0 (omega arith)
-    ∙ rw (zero-add (length cells), drop_of_length-le out (le_of_eq e)) (append-nil cells)
 
 -- The state of a fuse in a readout is a bit of the number that its bytes join to.
 pub readout_number_bit : (d : Device) (readout : List ℕ) → known d ≡ true → (fuse : ℕ) → fuse < fuse_count d

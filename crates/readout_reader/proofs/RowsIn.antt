@@ -2,19 +2,20 @@
 -- Assumes nothing.
 use mathlib.Core.Path.{◌≡◌, refl, sym, ◌∙◌, ap, ap₂, subst}
 use mathlib.Core.List.{List, ◌++◌}
-use Prim.Native.Nat.{ℕ, ◌+◌, ◌*◌, ◌/◌, ◌^◌, ◌≤◌, ◌<◌}
+use Prim.Native.Nat.{ℕ, ◌+◌, ◌*◌, ◌-◌, ◌/◌, ◌^◌, ◌≤◌, ◌<◌}
 use native.Mathlib.Omega.{arith}
-use native.Mathlib.Nat.{add_comm, add-zero, div-eq_of_lt}
-use lib.ListN.{length, drop, replicate, length-replicate}
+use native.Mathlib.Nat.{add_comm, add-zero, div-eq_of_lt, mul_assoc}
+use borrow.Rule.Slice.PartMut.{put_mid}
+use lib.ListN.{length, take, drop, replicate, length-replicate, length-drop}
 use lib.Seq.{sets, drop-drop}
 use Rattle.cells.specs.Cells.{cut, join, total, repeat}
-use Rattle.cells.proofs.Laws.{cut_length, cut_sets, join_append, join_small, sets_append, total_append}
-use Rattle.part.specs.Device.{main_columns, main_fuses, main_bytes, wire_and_columns, wire_and_row_fuses}
+use Rattle.cells.proofs.Laws.{cut_length, cut_sets, join_append, join_small, total_append, total_repeat, length_repeat}
+use Rattle.part.specs.Device.{main_columns, main_bytes, wire_and_columns, wire_and_row_fuses}
 use Rattle.part.specs.declared.Area.TheVariants.{Main, WireAnd}
 use Rattle.part.specs.declared.Device.{Device}
 use Rattle.readout_rows.specs.Widths.{row_widths, pair_widths, block_widths, widths, whole_bytes, bytes_in}
-use Rattle.readout_rows.proofs.RowSizes.{main_pairs, wire_and_pairs, pairs_of_block, main_pairs_size, block_whole}
-use Rattle.readout_rows.proofs.Stores.{Stored, begun, after_step, ended}
+use Rattle.readout_rows.proofs.RowSizes.{main_pair, wire_and_pair, block_size, main_pairs, wire_and_pairs, pairs_of_block, main_pairs_size}
+use Rattle.readout_rows.proofs.Stores.{Filled, none_filled, filled_step, filled_all, turn_within, repeat_more, join_few_cells, sets_whole}
 use Rattle.readout_reader.proofs.Carried.{of_cells, bytes_in_parts, step_over, step_stored}
 
 -- A row of the main area: eight cells of 8 bits, one more, and six of 6 bits.
@@ -106,65 +107,97 @@ bytes_length : (ws cells : List ℕ) → length (bytes_in ws cells) ≡ whole_by
 unfolding bytes_in
 bytes_length ws cells = cut_length (replicate (whole_bytes ws) 8) (join ws cells) ∙ length-replicate {A = ℕ} (whole_bytes ws) 8
 
--- The image bytes of `count` times the widths `ws`, from a byte of a readout on.
-unfoldable pub bytes_of : (ws readout : List ℕ) (count at : ℕ) → List ℕ
-bytes_of ws readout count at = bytes_in (repeat count ws) (drop at readout)
+-- Two rows fill their slice.
+rows_filled : (ws readout out next : List ℕ) → length out ≡ whole_bytes ws → next ≡ sets out 0 (bytes_in ws readout) → next ≡ bytes_in ws readout
+rows_filled ws readout out next size e = e ∙ sets_whole out (bytes_in ws readout) (size ∙ sym (bytes_length ws readout))
+
+pub main_rows_filled : (readout o0 o1 o2 : List ℕ) (carry : ℕ) → length o0 ≡ 27
+    → carry ≡ (join (row_widths Main) readout * 2 ^ 0 + 0) / 2 ^ ((9 + 4) * 8)
+    → o1 ≡ sets o0 0 (cut (replicate (9 + 4) 8) (join (row_widths Main) readout * 2 ^ 0 + 0))
+    → o2 ≡ sets o1 13 (cut (replicate (9 + 5) 8) (join (row_widths Main) (drop main_columns readout) * 2 ^ 4 + carry))
+    → o2 ≡ bytes_in (pair_widths Main) readout
+main_rows_filled readout o0 o1 o2 carry size d1 e1 e2 =
+    rows_filled (pair_widths Main) readout o0 o2 (size ∙ sym (main_pair Main refl).0) (main_rows_lem readout o0 o1 o2 0 0 carry d1 e1 e2)
+
+pub wire_and_rows_filled : (readout o0 o1 o2 : List ℕ) (one two top : ℕ) → length o0 ≡ 9
+    → one ≡ join (row_widths WireAnd) readout → two ≡ join (row_widths WireAnd) (drop wire_and_columns readout)
+    → top ≡ (two * 2 ^ wire_and_row_fuses + one) / 2 ^ (8 * 8)
+    → o1 ≡ sets o0 0 (cut (replicate 8 8) (two * 2 ^ wire_and_row_fuses + one))
+    → o2 ≡ sets o1 8 (cut (replicate 1 8) top) → o2 ≡ bytes_in (pair_widths WireAnd) readout
+wire_and_rows_filled readout o0 o1 o2 one two top size e1 e2 e3 e4 e5 =
+    rows_filled (pair_widths WireAnd) readout o0 o2 (size ∙ sym (wire_and_pair WireAnd refl).0)
+    (wire_and_rows_lem readout o0 o1 o2 0 0 one two top e1 e2 e3 e4 e5)
+
+-- Some bytes of a readout, as many as there are widths.
+part_in : (readout ws : List ℕ) (p n : ℕ) → n ≡ length ws → p + n ≤ length readout
+    → bytes_in ws (take n (drop p readout)) ≡ bytes_in ws (drop p readout)
+unfolding bytes_in
+part_in readout ws p n e h =
+    ap (cut (replicate (whole_bytes ws) 8)) (join_few_cells ws (drop p readout) n (omega arith) (omega (arith, length-drop p readout)))
+
+repeat_whole : (k : ℕ) (ws : List ℕ) → total ws ≡ whole_bytes ws * 8 → total (repeat k ws) ≡ whole_bytes (repeat k ws) * 8
+unfolding whole_bytes
+repeat_whole k ws t = times (total (repeat k ws)) k (total ws / 8) (total_repeat k ws ∙ ap (λ (n : ℕ). k * n) t)
+  where
+    times : (x k w : ℕ) → x ≡ k * (w * 8) → x ≡ x / 8 * 8
+    times x k w e = omega (arith, e, mul_assoc k w 8)
+
+-- The image bytes of k times the widths `ws` of a readout.
+unfoldable pub bytes_of : (ws readout : List ℕ) (k : ℕ) → List ℕ
+bytes_of ws readout k = bytes_in (repeat k ws) readout
 
 -- What holds in the loop that stores them.
-abbrev pub StoredIn : (ws readout before out : List ℕ) (at byte count k : ℕ) → Type 0
-StoredIn ws readout = Stored (bytes_of ws readout) (length ws) (whole_bytes ws)
+abbrev pub FilledIn : (ws readout out : List ℕ) (count k : ℕ) → Type 0
+FilledIn ws readout = Filled (bytes_of ws readout) (whole_bytes ws)
 
-pub begun_in : (ws readout out : List ℕ) (at byte count : ℕ) → StoredIn ws readout out out at byte count 0
-begun_in ws readout = begun (bytes_of ws readout) (length ws) (whole_bytes ws)
+pub none_in : (ws readout out : List ℕ) (count : ℕ) → length out ≡ count * whole_bytes ws → FilledIn ws readout out count 0
+unfolding bytes_of repeat bytes_in whole_bytes total cut
+none_in ws readout out count l = none_filled (bytes_of ws readout) (whole_bytes ws) out count l refl
 
-module _ (ws readout before out : List ℕ) (at byte count k : ℕ) (now : StoredIn ws readout before out at byte count k) where
-  pub after_step_in : (next : List ℕ) (bytes whole : ℕ) → k < count → total ws ≡ whole_bytes ws * 8 → bytes ≡ length ws
-      → whole ≡ whole_bytes ws → next ≡ sets out (byte + k * whole) (bytes_in ws (drop (at + k * bytes) readout))
-      → StoredIn ws readout before next at byte count (k + 1)
-  unfolding bytes_of repeat
-  after_step_in next bytes whole h t eb ew e =
-      let cells = drop (at + k * length ws) readout in
-      after_step now (bytes_in ws cells) next h (bytes_length ws cells)
-      (λ n. bytes_append ws (repeat n ws) cells t
-      ∙ ap (λ (l : List ℕ). bytes_in ws cells ++ bytes_in (repeat n ws) l) (drop-drop (length ws) (at + k * length ws) readout))
-      (rw (eb, ew) at e)
+module _ (ws readout out : List ℕ) (count k : ℕ) (now : FilledIn ws readout out count k) where
+  pub step_in : (one : List ℕ) (bytes whole : ℕ) → k < count → total ws ≡ whole_bytes ws * 8 → bytes ≡ length ws
+      → whole ≡ whole_bytes ws → length readout ≡ count * length ws
+      → one ≡ bytes_in ws (take (k * bytes + bytes - k * bytes) (drop (k * bytes) readout))
+      → FilledIn ws readout (put_mid (k * whole) (k * whole + whole - k * whole) out one) count (k + 1)
+  unfolding bytes_of
+  step_in one bytes whole h t eb ew l e =
+      let p = k * bytes in
+      let there : length (repeat k ws) ≡ p = length_repeat k ws ∙ ap (λ (n : ℕ). k * n) (sym eb) in
+      let inside : p + bytes ≤ length readout =
+      omega (arith, turn_within k count bytes (length readout) h (omega (arith, ap (λ (n : ℕ). count * n) eb))) in
+      let mine : one ≡ bytes_in ws (drop (length (repeat k ws)) readout) =
+      e ∙ part_in readout ws p (p + bytes - p) (omega arith) (omega arith) ∙ ap (λ (n : ℕ). bytes_in ws (drop n readout)) (sym there) in
+      let all_whole : total (repeat k ws) ≡ whole_bytes (repeat k ws) * 8 =
+      repeat_whole k ws t in
+      filled_step now one (k * whole) (k * whole + whole - k * whole) h (ap (λ (n : ℕ). k * n) ew) (omega arith)
+      (ap length mine ∙ bytes_length ws _)
+      (ap (λ (l : List ℕ). bytes_in l readout) (repeat_more k ws) ∙ bytes_append (repeat k ws) ws readout all_whole
+      ∙ ap (λ (l : List ℕ). bytes_in (repeat k ws) readout ++ l) (sym mine))
 
-  pub ended_in : count ≤ k → out ≡ sets before byte (bytes_in (repeat count ws) (drop at readout))
-  unfolding bytes_of repeat bytes_in whole_bytes total cut
-  ended_in h = ended now h refl
+  pub all_in : k ≤ count → count ≤ k → out ≡ bytes_in (repeat count ws) readout
+  unfolding bytes_of
+  all_in h g = filled_all now h g
 
 -- A block is its pairs of main rows, and its pairs of wire-AND rows behind them.
-pub block_of_pairs : (d : Device) (readout out one two : List ℕ) (at byte : ℕ)
-    → one ≡ sets out byte (bytes_in (repeat main_pairs (pair_widths Main)) (drop at readout))
-    → two ≡ sets one (byte + main_fuses / 8)
-    (bytes_in (repeat (d.blocks * wire_and_pairs) (pair_widths WireAnd)) (drop (at + main_bytes) readout))
-    → two ≡ sets out byte (bytes_in (block_widths d) (drop at readout))
-block_of_pairs d readout out one two at byte e1 e2 =
+pub block_of_pairs : (d : Device) (readout first last one two : List ℕ) → length readout ≡ length (block_widths d)
+    → first ≡ take main_bytes readout → last ≡ drop main_bytes readout
+    → one ≡ bytes_in (repeat main_pairs (pair_widths Main)) first
+    → two ≡ bytes_in (repeat (d.blocks * wire_and_pairs) (pair_widths WireAnd)) last
+    → one ++ two ≡ bytes_in (block_widths d) readout
+block_of_pairs d readout first last one two size ef el e1 e2 =
     let ws = repeat main_pairs (pair_widths Main) in
     let vs = repeat (d.blocks * wire_and_pairs) (pair_widths WireAnd) in
-    let cells = drop at readout in
     let whole : total ws ≡ whole_bytes ws * 8 = omega (arith, main_pairs_size) in
-    let size : length (bytes_in ws cells) ≡ main_fuses / 8 = bytes_length ws cells ∙ main_pairs_size.2 in
-    let there : drop (length ws) cells ≡ drop (at + main_bytes) readout =
-    drop-drop (length ws) at readout ∙ ap (λ (i : ℕ). drop (at + i) readout) main_pairs_size.1 in
-    e2
-    ∙ ap₂ (λ (l : List ℕ) (i : ℕ). sets l (byte + i) (bytes_in vs (drop (at + main_bytes) readout))) e1 (sym size)
-    ∙ sym (sets_append out byte (bytes_in ws cells) (bytes_in vs (drop (at + main_bytes) readout)))
-    ∙ ap (sets out byte)
-    (sym (ap (λ (l : List ℕ). bytes_in l cells) (pairs_of_block d) ∙ bytes_append ws vs cells whole
-    ∙ ap (λ (l : List ℕ). bytes_in ws cells ++ bytes_in vs l) there))
+    let front : bytes_in ws first ≡ bytes_in ws readout =
+    ap (bytes_in ws) ef
+    ∙ part_in readout ws 0 main_bytes (sym main_pairs_size.1) (omega (arith, block_size d)) in
+    let back : bytes_in vs last ≡ bytes_in vs (drop (length ws) readout) =
+    ap (bytes_in vs) (el ∙ ap (λ (n : ℕ). drop n readout) (sym main_pairs_size.1)) in
+    ap₂ ◌++◌ (e1 ∙ front) (e2 ∙ back) ∙ sym (bytes_append ws vs readout whole)
+    ∙ ap (λ (l : List ℕ). bytes_in l readout) (sym (pairs_of_block d))
 
 -- The loop over the blocks of a device.
-module _ (d : Device) (readout before out : List ℕ) (k : ℕ) (now : StoredIn (block_widths d) readout before out 0 0 d.blocks k) where
-  pub after_block_in : (next : List ℕ) (bytes whole : ℕ) → k < d.blocks → bytes ≡ length (block_widths d)
-      → whole ≡ whole_bytes (block_widths d) → next ≡ sets out (k * whole) (bytes_in (block_widths d) (drop (k * bytes) readout))
-      → StoredIn (block_widths d) readout before next 0 0 d.blocks (k + 1)
-  after_block_in next bytes whole h eb ew e =
-      let at : 0 + k * bytes ≡ k * bytes = omega arith in
-      let byte : 0 + k * whole ≡ k * whole = omega arith in
-      after_step_in (block_widths d) readout before out 0 0 d.blocks k now next bytes whole h (block_whole d).1 eb ew (rw (at, byte) e)
-
-pub blocks_ended : (d : Device) (readout before out : List ℕ) (k : ℕ) → StoredIn (block_widths d) readout before out 0 0 d.blocks k
-    → d.blocks ≤ k → out ≡ sets before 0 (bytes_in (widths d) (drop 0 readout))
+pub blocks_in_all : (d : Device) (readout out : List ℕ) (k : ℕ) → FilledIn (block_widths d) readout out d.blocks k → k ≤ d.blocks
+    → d.blocks ≤ k → out ≡ bytes_in (widths d) readout
 unfolding widths
-blocks_ended d readout before out k now h = ended_in (block_widths d) readout before out 0 0 d.blocks k now h
+blocks_in_all d readout out k now h g = all_in (block_widths d) readout out d.blocks k now h g

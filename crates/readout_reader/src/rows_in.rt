@@ -114,90 +114,83 @@ fn main_row_in(
 }
 
 // The 27 image bytes of two main rows of a readout.
-fn main_rows_in(readout: &[u8], at: usize, image: &mut [u8], byte: usize)
-    requires { (at + 2 * main_columns ≤ length readout.now) × (byte + 27 ≤ length image.old) }
-    ensures { image.new
-        ≡ sets image.old byte (bytes_in (pair_widths Main) (drop at readout.now)) }
+fn main_rows_in(readout: &[u8], image: &mut [u8])
+    requires { (length readout.now ≡ 2 * main_columns) × (length image.old ≡ 27) }
+    ensures { image.new ≡ bytes_in (pair_widths Main) readout.now }
 {
-    let carry = main_row_in(readout, at, 0, 0, 0, image, byte, 4);
-    main_row_in(
-        readout,
-        at + sizes::MAIN_COLUMNS,
-        2,
-        carry,
-        4,
-        image,
-        byte + 13,
-        5,
-    );
+    let carry = main_row_in(readout, 0, 0, 0, 0, image, 0, 4);
+    main_row_in(readout, sizes::MAIN_COLUMNS, 2, carry, 4, image, 13, 5);
 }
 
 // The 9 image bytes of two wire-AND rows of a readout.
-fn wire_and_rows_in(readout: &[u8], at: usize, image: &mut [u8], byte: usize)
-    requires { (at + 2 * wire_and_columns ≤ length readout.now) × (byte + 9 ≤ length image.old) }
-    ensures { image.new
-        ≡ sets image.old byte (bytes_in (pair_widths WireAnd) (drop at readout.now)) }
+fn wire_and_rows_in(readout: &[u8], image: &mut [u8])
+    requires { (length readout.now ≡ 2 * wire_and_columns) × (length image.old ≡ 9) }
+    ensures { image.new ≡ bytes_in (pair_widths WireAnd) readout.now }
 {
-    let one = wire_and_row(readout, at, 0);
-    let two = wire_and_row(readout, at + sizes::WIRE_AND_COLUMNS, 3);
-    let top = put_eight(two, one, WIRE_AND_ROW_FUSES, image, byte);
-    put_cells(top, 8, 1, image, byte + 8);
+    let one = wire_and_row(readout, 0, 0);
+    let two = wire_and_row(readout, sizes::WIRE_AND_COLUMNS, 3);
+    let top = put_eight(two, one, WIRE_AND_ROW_FUSES, image, 0);
+    put_cells(top, 8, 1, image, 8);
 }
 
 // The image bytes of two rows of a readout.
-fn pair_in(area: Area, readout: &[u8], at: usize, image: &mut [u8], byte: usize)
-    requires { (at + length (pair_widths area) ≤ length readout.now)
-        × (byte + whole_bytes (pair_widths area) ≤ length image.old) }
-    ensures { image.new
-        ≡ sets image.old byte (bytes_in (pair_widths area) (drop at readout.now)) }
+fn pair_in(area: Area, readout: &[u8], image: &mut [u8])
+    requires { (length readout.now ≡ length (pair_widths area))
+        × (length image.old ≡ whole_bytes (pair_widths area)) }
+    ensures { image.new ≡ bytes_in (pair_widths area) readout.now }
 {
     match area {
-        Area::Main => main_rows_in(readout, at, image, byte),
-        Area::WireAnd => wire_and_rows_in(readout, at, image, byte),
+        Area::Main => main_rows_in(readout, image),
+        Area::WireAnd => wire_and_rows_in(readout, image),
     }
 }
 
 // The image bytes of some pairs of rows of a readout, one after another.
-fn pairs_in(area: Area, readout: &[u8], at: usize, image: &mut [u8], byte: usize, count: usize)
-    requires { (at + count * length (pair_widths area) ≤ length readout.now)
-        × (byte + count * whole_bytes (pair_widths area) ≤ length image.old) }
-    ensures { image.new
-        ≡ sets image.old byte (bytes_in (repeat count (pair_widths area)) (drop at readout.now)) }
+fn pairs_in(area: Area, readout: &[u8], image: &mut [u8], count: usize)
+    requires { (length readout.now ≡ count * length (pair_widths area))
+        × (length image.old ≡ count * whole_bytes (pair_widths area)) }
+    ensures { image.new ≡ bytes_in (repeat count (pair_widths area)) readout.now }
 {
-    let whole = sizes::pair_image_bytes(area);
     let bytes = sizes::pair_readout_bytes(area);
+    let whole = sizes::pair_image_bytes(area);
     for k in 0..count {
-        pair_in(area, readout, at + k * bytes, image, byte + k * whole);
+        let from = k * bytes;
+        let at = k * whole;
+        pair_in(
+            area,
+            &readout[from..from + bytes],
+            &mut image[at..at + whole],
+        );
     }
 }
 
 // The image bytes of a block of a readout.
-fn block_in(part: KnownDevice, readout: &[u8], at: usize, image: &mut [u8], byte: usize)
-    requires { (at + length (block_widths part.device) ≤ length readout.now)
-        × (byte + whole_bytes (block_widths part.device) ≤ length image.old) }
-    ensures { image.new
-        ≡ sets image.old byte (bytes_in (block_widths part.device) (drop at readout.now)) }
+fn block_in(part: KnownDevice, readout: &[u8], image: &mut [u8])
+    requires { (length readout.now ≡ length (block_widths part.device))
+        × (length image.old ≡ whole_bytes (block_widths part.device)) }
+    ensures { image.new ≡ bytes_in (block_widths part.device) readout.now }
 {
-    pairs_in(Area::Main, readout, at, image, byte, sizes::MAIN_PAIRS);
+    let (main, wire_and) = readout.split_at(sizes::MAIN_BYTES);
+    let (main_image, wire_and_image) = image.split_at_mut(sizes::MAIN_IMAGE_BYTES);
+    pairs_in(Area::Main, main, main_image, sizes::MAIN_PAIRS);
     let pairs = part.device.blocks as usize * sizes::WIRE_AND_PAIRS;
-    pairs_in(
-        Area::WireAnd,
-        readout,
-        at + sizes::MAIN_BYTES,
-        image,
-        byte + sizes::MAIN_IMAGE_BYTES,
-        pairs,
-    );
+    pairs_in(Area::WireAnd, wire_and, wire_and_image, pairs);
 }
 
 // The image bytes of all blocks of a readout.
 pub fn blocks_in(part: KnownDevice, readout: &[u8], image: &mut [u8])
     requires { (length readout.now ≡ readout_bytes part.device) × (length image.old ≡ image_bytes part.device) }
-    ensures { image.new ≡ sets image.old 0 (bytes_in (widths part.device) (drop 0 readout.now)) }
+    ensures { image.new ≡ bytes_in (widths part.device) readout.now }
 {
-    let whole = sizes::block_image_bytes(part);
     let bytes = sizes::block_bytes(part);
+    let whole = sizes::block_image_bytes(part);
     for k in 0..part.device.blocks as usize {
-        block_in(part, readout, k * bytes, image, k * whole);
+        let from = k * bytes;
+        let at = k * whole;
+        block_in(
+            part,
+            &readout[from..from + bytes],
+            &mut image[at..at + whole],
+        );
     }
 }

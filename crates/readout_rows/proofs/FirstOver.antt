@@ -5,7 +5,6 @@ use mathlib.Core.Bool.{Bool, true, false, cond}
 use mathlib.Core.List.{List, ◌++◌}
 use Prim.Native.Nat.{ℕ, suc, ◌+◌, ◌-◌, ◌*◌, ◌^◌, ◌≤◌, ◌<◌}
 use native.Mathlib.Omega.{arith}
-use native.Mathlib.Nat.{suc-mul, mul-le-mul_right}
 use lib.Dec.{ltb}
 use lib.ListN.{length, take, drop, length-append, length-drop, take-append-drop}
 use Rattle.std.proofs.Common.{length-take-le}
@@ -16,6 +15,7 @@ use borrow.Author.Tests.{lt-ltb, le-ltb, ltb-true, ltb-false}
 use Rattle.std.specs.Prelude.{Option, Some, None, option_map}
 use Rattle.cells.specs.Cells.{repeat}
 use Rattle.readout_rows.specs.Widths.{cells_within, first_over}
+use Rattle.readout_rows.proofs.Stores.{turn_within}
 use Rattle.readout_rows.proofs.CellsWithin.{within_on, within_found, within_front}
 
 module _ (ws cells : List ℕ) where
@@ -72,10 +72,6 @@ few_over ws cells n e h =
     let same : cells_within ws cells ≡ cells_within ws (take n cells) =
     ap (cells_within ws) (sym (take-append-drop n cells)) ∙ within_front ws (take n cells) (drop n cells) long in
     rw same
-
--- Equal steps of a loop lie in what all of them take.
-pub turn_within : (k count size long : ℕ) → k < count → count * size ≤ long → k * size + size ≤ long
-turn_within k count size long h g = omega (arith, mul-le-mul_right size h, suc-mul k size)
 
 -- Runs of cells of the widths `ws`, looked at one after another. What holds when the first k of `count` have none over
 -- its width: what is found in those that are left is what is found in all.

@@ -120,6 +120,9 @@ pub block_whole : (d : Device)
 unfolding whole_bytes
 block_whole d = omega (arith, (block_size d).0)
 
+pub block_bits : (d : Device) → total (block_widths d) ≡ whole_bytes (block_widths d) * 8
+block_bits d = (block_whole d).1
+
 pub device_whole : (d : Device) → known d ≡ true → d.blocks * whole_bytes (block_widths d) ≡ image_bytes d
 device_whole d k =
     let e : d.blocks * total (block_widths d) ≡ d.blocks * whole_bytes (block_widths d) * 8 =

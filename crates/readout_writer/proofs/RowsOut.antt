@@ -1,23 +1,25 @@
 -- The bytes that the code makes of the words that it takes from an image are the rows cut from the image's number.
 -- Then the loops over pairs of rows and over blocks.
-use mathlib.Core.Path.{◌≡◌, refl, sym, ◌∙◌, ap}
+use mathlib.Core.Path.{◌≡◌, refl, sym, ◌∙◌, ap, ap₂}
 use mathlib.Core.List.{List, ◌++◌}
-use Prim.Native.Nat.{ℕ, ◌+◌, ◌*◌, ◌/◌, ◌^◌, ◌≤◌, ◌<◌}
+use Prim.Native.Nat.{ℕ, ◌+◌, ◌*◌, ◌-◌, ◌/◌, ◌%◌, ◌^◌, ◌≤◌, ◌<◌}
 use native.Mathlib.Omega.{arith}
-use native.Mathlib.Nat.{div-one}
-use lib.ListN.{length, drop, replicate}
+use native.Mathlib.Nat.{div-one, mul_assoc}
+use borrow.Rule.Slice.PartMut.{put_mid}
+use Rattle.std.proofs.Common.{length-take-le, take_all}
+use lib.ListN.{length, take, drop, replicate, length-replicate, length-drop}
 use lib.Pow.{shr-shr}
 use lib.Seq.{sets}
 use Rattle.cells.specs.Cells.{cut, join, total, repeat, number}
-use Rattle.cells.proofs.Laws.{cut_append, cut_length, cut_sets, piece}
-use Rattle.part.specs.Device.{main_columns, main_row_fuses, main_fuses, main_bytes}
+use Rattle.cells.proofs.Laws.{cut_append, cut_length, cut_low, cut_sets, piece, word_at, total_append, total_repeat}
+use Rattle.part.specs.Device.{main_columns, main_row_fuses, main_fuses}
 use Rattle.part.specs.Device.{wire_and_columns, wire_and_row_fuses}
 use Rattle.part.specs.declared.Area.{Area}
 use Rattle.part.specs.declared.Area.TheVariants.{Main, WireAnd}
 use Rattle.part.specs.declared.Device.{Device}
 use Rattle.readout_rows.specs.Widths.{row_widths, pair_widths, block_widths, widths, whole_bytes}
 use Rattle.readout_rows.proofs.RowSizes.{main_pairs, wire_and_pairs, pairs_of_block, main_pairs_size, block_whole}
-use Rattle.readout_rows.proofs.Stores.{Stored, begun, after_step, ended}
+use Rattle.readout_rows.proofs.Stores.{Filled, none_filled, filled_step, filled_all, turn_within, repeat_more, join_few_cells, sets_whole}
 
 -- Cells of a word of eight bytes after its first `skip` bits, where they lie `past` bits after a start.
 from_bit : (image ws : List ℕ) (start past p skip w : ℕ) → p + 8 ≤ length image → skip + total ws ≤ 64 → p * 8 + skip ≡ start + past
@@ -89,60 +91,99 @@ unfolding row_widths total
 wire_and_pair_out area image out one two byte at e e1 e2 =
     rw e (pair_of WireAnd image out one two byte at 1 28 wire_and_columns wire_and_row_fuses refl refl refl e1 e2)
 
--- The cells of `count` times the widths `ws`, cut from an image's number from a byte on.
-unfoldable pub cells_of : (ws image : List ℕ) (count byte : ℕ) → List ℕ
-cells_of ws image count byte = cut (repeat count ws) (number image / 2 ^ (byte * 8))
+-- A pair of rows fills its slice.
+module _ (area : Area) (image out one two : List ℕ) (size : length out ≡ length (pair_widths area)) where
+  filled : two ≡ sets out 0 (cut (pair_widths area) (number image / 2 ^ (0 * 8))) → two ≡ cut (pair_widths area) (number image)
+  filled e =
+      let cells = cut (pair_widths area) (number image) in
+      e ∙ ap (λ (x : ℕ). sets out 0 (cut (pair_widths area) x)) (div-one (number image))
+      ∙ sets_whole out cells (size ∙ sym (cut_length (pair_widths area) (number image)))
+
+  pub main_pair_filled : area ≡ Main → one ≡ sets out 0 (cut (row_widths Main) (number image / 2 ^ 0))
+      → two ≡ sets one main_columns (cut (row_widths Main) (number image / 2 ^ (13 * 8 + 4))) → two ≡ cut (pair_widths area) (number image)
+  main_pair_filled e e1 e2 = filled (main_pair_out area image out one two 0 0 e e1 e2)
+
+  pub wire_and_pair_filled : area ≡ WireAnd → one ≡ sets out 0 (cut (row_widths WireAnd) (number image / 2 ^ 0))
+      → two ≡ sets one wire_and_columns (cut (row_widths WireAnd) (number image / 2 ^ (1 * 8 + 28)))
+      → two ≡ cut (pair_widths area) (number image)
+  wire_and_pair_filled e e1 e2 = filled (wire_and_pair_out area image out one two 0 0 e e1 e2)
+
+-- Cells that are some whole bytes of an image, cut from these bytes alone.
+part_cut : (image ws : List ℕ) (p w n : ℕ) → total ws ≡ w * 8 → p + w ≤ length image → n ≡ w
+    → cut ws (number (take n (drop p image))) ≡ cut ws (number image / 2 ^ (p * 8))
+unfolding number
+part_cut image ws p w n t h e =
+    let long : w ≤ length (drop p image) = omega (arith, length-drop p image) in
+    let size : length (take w (drop p image)) ≡ w = length-take-le w (drop p image) long in
+    let bytes : List ℕ = replicate w 8 in
+    let few : join bytes (take w (drop p image)) ≡ join bytes (drop p image) =
+    join_few_cells bytes (drop p image) w (omega (arith, length-replicate {A = ℕ} w 8)) long in
+    let x = number image / 2 ^ (p * 8) in
+    let bits : w * 8 ≡ 0 + total ws = omega arith in
+    rw (e, size) (ap (cut ws) (few ∙ word_at image p w h ∙ ap (λ (k : ℕ). x % 2 ^ k) bits) ∙ cut_low ws x 0)
+
+-- The cells of k times the widths `ws`, cut from an image's number.
+unfoldable pub cells_of : (ws image : List ℕ) (k : ℕ) → List ℕ
+cells_of ws image k = cut (repeat k ws) (number image)
 
 -- What holds in the loop that stores them.
-abbrev pub StoredOut : (ws image before out : List ℕ) (byte at count k : ℕ) → Type 0
-StoredOut ws image = Stored (cells_of ws image) (whole_bytes ws) (length ws)
+abbrev pub FilledOut : (ws image out : List ℕ) (count k : ℕ) → Type 0
+FilledOut ws image = Filled (cells_of ws image) (length ws)
 
-pub begun_out : (ws image out : List ℕ) (byte at count : ℕ) → StoredOut ws image out out byte at count 0
-begun_out ws image = begun (cells_of ws image) (whole_bytes ws) (length ws)
+pub none_out : (ws image out : List ℕ) (count : ℕ) → length out ≡ count * length ws → FilledOut ws image out count 0
+unfolding cells_of repeat cut
+none_out ws image out count l = none_filled (cells_of ws image) (length ws) out count l refl
 
-module _ (ws image before out : List ℕ) (byte at count k : ℕ) (now : StoredOut ws image before out byte at count k) where
-  pub after_step_out : (next : List ℕ) (whole bytes : ℕ) → k < count → total ws ≡ whole_bytes ws * 8 → whole ≡ whole_bytes ws
-      → bytes ≡ length ws → next ≡ sets out (at + k * bytes) (cut ws (number image / 2 ^ ((byte + k * whole) * 8)))
-      → StoredOut ws image before next byte at count (k + 1)
-  unfolding cells_of repeat
-  after_step_out next whole bytes h t ew eb e =
-      let b = byte + k * whole_bytes ws in
-      let x = number image / 2 ^ (b * 8) in
-      let bits : (b + whole_bytes ws) * 8 ≡ b * 8 + total ws = omega arith in
-      after_step now (cut ws x) next h (cut_length ws x)
-      (λ n. cut_append ws (repeat n ws) x
-      ∙ ap (λ (y : ℕ). cut ws x ++ cut (repeat n ws) y)
-      (shr-shr (number image) (b * 8) (total ws) ∙ ap (λ (j : ℕ). number image / 2 ^ j) (sym bits)))
-      (rw (ew, eb) at e)
+module _ (ws image out : List ℕ) (count k : ℕ) (now : FilledOut ws image out count k) where
+  pub step_out : (one : List ℕ) (whole bytes : ℕ) → k < count → total ws ≡ whole_bytes ws * 8 → whole ≡ whole_bytes ws
+      → bytes ≡ length ws → length image ≡ count * whole_bytes ws
+      → one ≡ cut ws (number (take (k * whole + whole - k * whole) (drop (k * whole) image)))
+      → FilledOut ws image (put_mid (k * bytes) (k * bytes + bytes - k * bytes) out one) count (k + 1)
+  unfolding cells_of
+  step_out one whole bytes h t ew eb l e =
+      let p = k * whole in
+      let there : p ≡ k * whole_bytes ws = ap (λ (n : ℕ). k * n) ew in
+      let inside : p + whole_bytes ws ≤ length image =
+      omega (arith, there, turn_within k count (whole_bytes ws) (length image) h (omega arith)) in
+      let bits : p * 8 ≡ total (repeat k ws) =
+      omega (arith, there, total_repeat k ws, ap (λ (n : ℕ). k * n) t, mul_assoc k (whole_bytes ws) 8) in
+      let mine : one ≡ cut ws (number image / 2 ^ total (repeat k ws)) =
+      e ∙ part_cut image ws p (whole_bytes ws) (p + whole - p) t inside (omega arith)
+      ∙ ap (λ (j : ℕ). cut ws (number image / 2 ^ j)) bits in
+      filled_step now one (k * bytes) (k * bytes + bytes - k * bytes) h (ap (λ (n : ℕ). k * n) eb) (omega arith)
+      (ap length mine ∙ cut_length ws _)
+      (ap (λ (l : List ℕ). cut l (number image)) (repeat_more k ws) ∙ cut_append (repeat k ws) ws (number image)
+      ∙ ap (λ (l : List ℕ). cut (repeat k ws) (number image) ++ l) (sym mine))
 
-  pub ended_out : count ≤ k → out ≡ sets before at (cut (repeat count ws) (number image / 2 ^ (byte * 8)))
-  unfolding cells_of repeat cut
-  ended_out h = ended now h refl
+  pub all_out : k ≤ count → count ≤ k → out ≡ cut (repeat count ws) (number image)
+  unfolding cells_of
+  all_out h g = filled_all now h g
 
 -- A block is its pairs of main rows, and its pairs of wire-AND rows behind them.
-pub block_of_pairs : (d : Device) (image out one two : List ℕ) (byte at : ℕ)
-    → one ≡ sets out at (cut (repeat main_pairs (pair_widths Main)) (number image / 2 ^ (byte * 8)))
-    → two ≡ sets one (at + main_bytes)
-    (cut (repeat (d.blocks * wire_and_pairs) (pair_widths WireAnd)) (number image / 2 ^ ((byte + main_fuses / 8) * 8)))
-    → two ≡ sets out at (cut (block_widths d) (number image / 2 ^ (byte * 8)))
-block_of_pairs d image out one two byte at e1 e2 =
-    let bits : (byte + main_fuses / 8) * 8 ≡ byte * 8 + main_fuses = omega arith in
-    e2
-    ∙ rw (e1, bits, ← shr-shr (number image) (byte * 8) main_fuses, pairs_of_block d)
-    (cut_sets out (repeat main_pairs (pair_widths Main)) (repeat (d.blocks * wire_and_pairs) (pair_widths WireAnd)) at
-    (number image / 2 ^ (byte * 8)) main_bytes main_fuses main_pairs_size.1 main_pairs_size.0)
+pub block_of_pairs : (d : Device) (image first last one two : List ℕ) → length image ≡ whole_bytes (block_widths d)
+    → first ≡ take (main_fuses / 8) image → last ≡ drop (main_fuses / 8) image
+    → one ≡ cut (repeat main_pairs (pair_widths Main)) (number first)
+    → two ≡ cut (repeat (d.blocks * wire_and_pairs) (pair_widths WireAnd)) (number last)
+    → one ++ two ≡ cut (block_widths d) (number image)
+block_of_pairs d image first last one two size ef el e1 e2 =
+    let m = main_fuses / 8 in
+    let n = length image - m in
+    let ws = repeat main_pairs (pair_widths Main) in
+    let vs = repeat (d.blocks * wire_and_pairs) (pair_widths WireAnd) in
+    let bits : total (ws ++ vs) ≡ whole_bytes (block_widths d) * 8 = ap total (sym (pairs_of_block d)) ∙ (block_whole d).1 in
+    let sum : total ws + total vs ≡ whole_bytes (block_widths d) * 8 = sym (total_append ws vs) ∙ bits in
+    let rest : last ≡ take n (drop m image) = el ∙ sym (take_all n (drop m image) (omega (arith, length-drop m image))) in
+    let front : cut ws (number first) ≡ cut ws (number image) =
+    ap (λ (l : List ℕ). cut ws (number l)) ef
+    ∙ part_cut image ws 0 m m (main_pairs_size.0) (omega (arith, main_pairs_size.0)) refl ∙ ap (cut ws) (div-one (number image)) in
+    let back : cut vs (number last) ≡ cut vs (number image / 2 ^ total ws) =
+    ap (λ (l : List ℕ). cut vs (number l)) rest
+    ∙ part_cut image vs m n n (omega (arith, main_pairs_size.0)) (omega (arith, main_pairs_size.0)) refl
+    ∙ ap (λ (j : ℕ). cut vs (number image / 2 ^ j)) (sym main_pairs_size.0) in
+    ap₂ ◌++◌ (e1 ∙ front) (e2 ∙ back) ∙ sym (cut_append ws vs (number image)) ∙ ap (λ (l : List ℕ). cut l (number image)) (sym (pairs_of_block d))
 
 -- The loop over the blocks of a device.
-module _ (d : Device) (image before out : List ℕ) (k : ℕ) (now : StoredOut (block_widths d) image before out 0 0 d.blocks k) where
-  pub after_block_out : (next : List ℕ) (whole bytes : ℕ) → k < d.blocks → whole ≡ whole_bytes (block_widths d)
-      → bytes ≡ length (block_widths d) → next ≡ sets out (k * bytes) (cut (block_widths d) (number image / 2 ^ (k * whole * 8)))
-      → StoredOut (block_widths d) image before next 0 0 d.blocks (k + 1)
-  after_block_out next whole bytes h ew eb e =
-      let at : 0 + k * bytes ≡ k * bytes = omega arith in
-      let byte : 0 + k * whole ≡ k * whole = omega arith in
-      after_step_out (block_widths d) image before out 0 0 d.blocks k now next whole bytes h (block_whole d).1 ew eb (rw (at, byte) e)
-
-pub blocks_ended : (d : Device) (image before out : List ℕ) (k : ℕ) → StoredOut (block_widths d) image before out 0 0 d.blocks k → d.blocks ≤ k
-    → out ≡ sets before 0 (cut (widths d) (number image / 2 ^ (0 * 8)))
+pub blocks_out_all : (d : Device) (image out : List ℕ) (k : ℕ) → FilledOut (block_widths d) image out d.blocks k → k ≤ d.blocks → d.blocks ≤ k
+    → out ≡ cut (widths d) (number image)
 unfolding widths
-blocks_ended d image before out k now h = ended_out (block_widths d) image before out 0 0 d.blocks k now h
+blocks_out_all d image out k now h g = all_out (block_widths d) image out d.blocks k now h g

@@ -36,65 +36,61 @@ fn wire_and_row_out(image: &[u8], byte: usize, shift: u32, out: &mut [u8], at: u
 
 // The bytes of two rows of an image. The second row starts in the middle of a byte: a main row is 13 bytes and 4 bits,
 // and a wire-AND row is 1 byte and 28 bits.
-fn pair_out(area: Area, image: &[u8], byte: usize, out: &mut [u8], at: usize)
-    requires { (byte + whole_bytes (pair_widths area) ≤ length image.now)
-        × (at + length (pair_widths area) ≤ length out.old) }
-    ensures { out.new
-        ≡ sets out.old at (cut (pair_widths area) (number image.now / 2 ^ (byte * 8))) }
+fn pair_out(area: Area, image: &[u8], out: &mut [u8])
+    requires { (length image.now ≡ whole_bytes (pair_widths area))
+        × (length out.old ≡ length (pair_widths area)) }
+    ensures { out.new ≡ cut (pair_widths area) (number image.now) }
 {
     match area {
         Area::Main => {
-            main_row_out(image, byte, 0, out, at);
-            main_row_out(image, byte + 13, 4, out, at + sizes::MAIN_COLUMNS);
+            main_row_out(image, 0, 0, out, 0);
+            main_row_out(image, 13, 4, out, sizes::MAIN_COLUMNS);
         }
         Area::WireAnd => {
-            wire_and_row_out(image, byte, 0, out, at);
-            wire_and_row_out(image, byte + 1, 28, out, at + sizes::WIRE_AND_COLUMNS);
+            wire_and_row_out(image, 0, 0, out, 0);
+            wire_and_row_out(image, 1, 28, out, sizes::WIRE_AND_COLUMNS);
         }
     }
 }
 
 // The bytes of some pairs of rows of an image, one after another.
-fn pairs_out(area: Area, image: &[u8], byte: usize, out: &mut [u8], at: usize, count: usize)
-    requires { (byte + count * whole_bytes (pair_widths area) ≤ length image.now)
-        × (at + count * length (pair_widths area) ≤ length out.old) }
-    ensures { out.new ≡ sets out.old at (cut (repeat count (pair_widths area))
-        (number image.now / 2 ^ (byte * 8))) }
+fn pairs_out(area: Area, image: &[u8], out: &mut [u8], count: usize)
+    requires { (length image.now ≡ count * whole_bytes (pair_widths area))
+        × (length out.old ≡ count * length (pair_widths area)) }
+    ensures { out.new ≡ cut (repeat count (pair_widths area)) (number image.now) }
 {
     let whole = sizes::pair_image_bytes(area);
     let bytes = sizes::pair_readout_bytes(area);
     for k in 0..count {
-        pair_out(area, image, byte + k * whole, out, at + k * bytes);
+        let from = k * whole;
+        let at = k * bytes;
+        pair_out(area, &image[from..from + whole], &mut out[at..at + bytes]);
     }
 }
 
 // The bytes of a block of an image.
-fn block_out(part: KnownDevice, image: &[u8], byte: usize, out: &mut [u8], at: usize)
-    requires { (byte + whole_bytes (block_widths part.device) ≤ length image.now)
-        × (at + length (block_widths part.device) ≤ length out.old) }
-    ensures { out.new
-        ≡ sets out.old at (cut (block_widths part.device) (number image.now / 2 ^ (byte * 8))) }
+fn block_out(part: KnownDevice, image: &[u8], out: &mut [u8])
+    requires { (length image.now ≡ whole_bytes (block_widths part.device))
+        × (length out.old ≡ length (block_widths part.device)) }
+    ensures { out.new ≡ cut (block_widths part.device) (number image.now) }
 {
-    pairs_out(Area::Main, image, byte, out, at, sizes::MAIN_PAIRS);
+    let (main, wire_and) = image.split_at(sizes::MAIN_IMAGE_BYTES);
+    let (main_out, wire_and_out) = out.split_at_mut(sizes::MAIN_BYTES);
+    pairs_out(Area::Main, main, main_out, sizes::MAIN_PAIRS);
     let pairs = part.device.blocks as usize * sizes::WIRE_AND_PAIRS;
-    pairs_out(
-        Area::WireAnd,
-        image,
-        byte + sizes::MAIN_IMAGE_BYTES,
-        out,
-        at + sizes::MAIN_BYTES,
-        pairs,
-    );
+    pairs_out(Area::WireAnd, wire_and, wire_and_out, pairs);
 }
 
 // The bytes of all blocks of an image.
 pub fn blocks_out(part: KnownDevice, image: &[u8], out: &mut [u8])
     requires { (length image.now ≡ image_bytes part.device) × (length out.old ≡ readout_bytes part.device) }
-    ensures { out.new ≡ sets out.old 0 (cut (widths part.device) (number image.now / 2 ^ (0 * 8))) }
+    ensures { out.new ≡ cut (widths part.device) (number image.now) }
 {
     let whole = sizes::block_image_bytes(part);
     let bytes = sizes::block_bytes(part);
     for k in 0..part.device.blocks as usize {
-        block_out(part, image, k * whole, out, k * bytes);
+        let from = k * whole;
+        let at = k * bytes;
+        block_out(part, &image[from..from + whole], &mut out[at..at + bytes]);
     }
 }

@@ -1,8 +1,7 @@
 -- `readout_to_image` meets its contract: the tests of `part_of`, a bit above a width, and the conversion.
 -- Assumes nothing.
-use Rattle.std.proofs.Common.{◌≡◌, refl, sym, ◌∙◌, ap, true, cond, ℕ, ◌^◌, ◌<◌, ◌≤◌, List, length, drop, ltb, Fits, w32, arith, rules}
+use Rattle.std.proofs.Common.{◌≡◌, refl, sym, ◌∙◌, ap, true, cond, ℕ, ◌^◌, ◌<◌, ◌≤◌, List, length, ltb, Fits, w32, arith, rules}
 use Rattle.std.specs.Prelude.{Some, None}
-use lib.Seq.{sets}
 use borrow.Author.Tests.{lt-ltb, le-ltb}
 use Rattle.part.specs.Outcome.{Outcome, written, Written}
 use Rattle.part.specs.Outcome.Outcome.{refused}
@@ -13,8 +12,8 @@ use Rattle.part.proofs.Targets.{tested}
 use Rattle.readout.specs.Readout.{to_image, image_of, first_above}
 use Rattle.readout_rows.specs.Widths.{widths, bytes_in, first_over}
 use Rattle.readout_rows.proofs.FirstOver.{over_found, over_none}
-use Rattle.readout.proofs.Checked.{done, other_first, refused_other, passed_on, exact_image}
-use Rattle.readout.proofs.Conversions.{image_bytes_in_lem, image_length, sets_whole}
+use Rattle.readout.proofs.Checked.{done, other_first, refused_other, passed_on}
+use Rattle.readout.proofs.Conversions.{image_bytes_in_lem}
 use Rattle.readout.proofs.FirstAbove.{first_above_lem}
 use Rattle.readout.proofs.Widths.{widths_length}
 use Rattle.readout.proofs.readout_to_image.Goals as goal
@@ -45,9 +44,6 @@ module _ (d : Device) (readout : List ℕ) (k : known d ≡ true) where
 -- What the device gives that passed the tests.
 module _ (p d : Device) (readout before : List ℕ) (k : known p ≡ true) (same : p ≡ d)
     (h : done ≡ tested d (length before) (image_bytes d) (length readout) (readout_bytes d) done) where
-  image_size : length before ≡ image_bytes p
-  image_size = rw same (exact_image d (length before) (image_bytes d) (length readout) (readout_bytes d) h)
-
   scanned : (answer : Outcome (Unit {0})) (after : List ℕ) → answer ≡ after_scan p readout
       → after ≡ written answer (image_of p readout) before → Written (to_image d readout before) answer (image_of d readout) before after
   unfolding to_image
@@ -62,11 +58,10 @@ module _ (p d : Device) (readout before : List ℕ) (k : known p ≡ true) (same
       → Written (to_image d readout before) (refused 6 i) (image_of d readout) before before
   above_refused i e = scanned (refused 6 i) before (one_above p readout k i e).0 refl
 
-  converted : (after : List ℕ) → None ≡ first_over (widths p) readout → after ≡ sets before 0 (bytes_in (widths p) (drop 0 readout))
+  converted : (after : List ℕ) → None ≡ first_over (widths p) readout → after ≡ bytes_in (widths p) readout
       → Written (to_image d readout before) done (image_of d readout) before after
   converted after e f =
-      scanned done after (no_above p readout k e)
-      (f ∙ rw (image_bytes_in_lem p readout k) (sets_whole before (image_of p readout) (image_size ∙ sym (image_length p readout))))
+      scanned done after (no_above p readout k e) (f ∙ image_bytes_in_lem p readout k)
 
 few : (p : Device) (readout : List ℕ) (i : ℕ) → known p ≡ true → Some i ≡ first_over (widths p) readout → Fits w32 i
 few p readout i k e = omega (arith, (one_above p readout k i e).1, readout_small p k)
