@@ -100,3 +100,6 @@ module _ (d : Device) (k : known d ≡ true) (s : Setting) (h : has_setting d s 
       let below : index < readout_bytes d = rw i (inside d Readout (fuse_of d s 0) k (fuse_below d k s h 0 there)) in
       let test = its_test d k readout s h 0 there p e index at above (readout_bytes d) w v a refl in
       rw (one, ← test, ← i, lt-ltb index (readout_bytes d) below, and_true (not (eqb above 0)))
+
+-- Which settings lie in whole bytes.
+pub ruleset wide = (of_macrocell, of_block_lem, of_global)

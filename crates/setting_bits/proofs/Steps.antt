@@ -18,7 +18,7 @@ use Rattle.part.specs.declared.Place.{Place}
 use Rattle.part.proofs.Facts.{and_iff, compared}
 use Rattle.part.proofs.Laws.{width_small}
 use Rattle.part.proofs.Devices.{by_count, known_count, fuses_small, image_whole, in_device_small}
-use Rattle.part.proofs.Fuses.{of_place}
+use Rattle.part.proofs.Fuses.{of_place, has_byte_lem}
 use Rattle.addresses.proofs.Readouts.{of_byte}
 use Rattle.image.specs.Bits.{bit_at, gathered}
 use Rattle.image.proofs.Bits.{gathered_small}
@@ -128,3 +128,6 @@ module _ (d : Device) (k : known d ≡ true) (readout : List ℕ) (s : Setting) 
       let test : not (eqb above 0) ≡ leb (2 ^ width_at d index) (get_or readout index 0) =
       rw (r, width) (above_iff (get_or readout index 0) (width_at d index)) in
       rw (test, m, its_index)
+
+-- What the location of a place is proved by.
+pub ruleset located = (of_place, has_byte_lem, has_place_lem)

@@ -193,3 +193,6 @@ module _ (d : Device) (k : known d ≡ true) where
           let higher : pattern / 2 ^ (2 * pair) % 4 / 2 ≡ bit_of pattern (2 * pair + 1) =
           rw (next_bit pattern (2 * pair)) (field (pattern / 2 ^ (2 * pair)) 1 1) in
           rw ((upper layout).0, (upper layout).1, ← x, ← y, ← lower, ← higher) g
+
+-- What a pair put in place is proved by.
+pub ruleset by_pairs = (location_in, location_low, pair_put)

@@ -37,6 +37,7 @@ pub fn bytes_of(d: KnownDevice, layout: Layout) -> usize
 }
 
 // Where the fuse at a place stands.
+#[tactic(auto, using(crate::proofs::Steps::located))]
 pub fn location_at(d: KnownDevice, layout: Layout, place: Place) -> Location
     requires { has_place d.device place ≡ true }
     ensures { (result.index ≡ byte_of d.device layout (fuse_of_place d.device place))
@@ -61,6 +62,7 @@ pub fn location_at(d: KnownDevice, layout: Layout, place: Place) -> Location
 }
 
 // Where a bit of a setting stands.
+#[tactic(auto, using(crate::proofs::Steps::located), unfolding(setting_places::specs::Places::fuse_of))]
 fn location_of(layout: Layout, s: DeviceSetting, bit: u32) -> Location
     requires { bit < bits_of s.setting }
     ensures { (result.index ≡ byte_of s.device.device layout (fuse_of s.device.device s.setting bit))
@@ -107,6 +109,7 @@ pub fn usercode_at(d: KnownDevice, layout: Layout, bytes: &[u8]) -> u32
 }
 
 // Bits 2k and 2k+1 of USERCODE put in place.
+#[tactic(auto, using(crate::proofs::Usercode::by_pairs))]
 fn put_usercode_pair(d: KnownDevice, layout: Layout, bytes: &mut [u8], pattern: u32, pair: u32)
     requires { (length bytes.old ≡ bytes_of d.device layout) × (pair < 16) }
     ensures { bytes.new ≡ with_state d.device layout (with_state d.device layout bytes.old
@@ -178,6 +181,7 @@ pub fn above_width(bytes: &[u8], index: usize, width: u32) -> u32
 
 // Whether every byte that holds the setting has 8 bits. Literals and wire-ANDs, of one bit
 // each, lie in narrower ones too.
+#[tactic(auto, using(crate::proofs::AboveWidth::wide), unfolding(setting_places::specs::Places::bits_of))]
 fn in_whole_bytes(s: DeviceSetting) -> bool
     ensures { (result ≡ true → (b : ℕ) → b < bits_of s.setting → width_of (place_of s.setting b).byte ≡ 8)
         × (result ≡ false → bits_of s.setting ≡ 1) }
