@@ -51,7 +51,7 @@ fn literal_location(
 
 // The device, if it is known, the bytes have its length and the number is that of a literal. Most settings are
 // literals; the operations ask this first, so that the way of a literal is compiled into each of them.
-pub fn is_literal(
+fn is_literal(
     d: Device,
     layout: Layout,
     length: usize,
@@ -67,7 +67,7 @@ pub fn is_literal(
 }
 
 // The pattern of a literal, by its number. Refused: 6.
-pub fn read_literal(
+fn read_literal(
     d: KnownDevice,
     layout: Layout,
     bytes: &[u8],
@@ -81,7 +81,7 @@ pub fn read_literal(
 }
 
 // A literal set to a pattern, by its number. Refused: 5, 6.
-pub fn set_literal(
+fn set_literal(
     d: KnownDevice,
     layout: Layout,
     bytes: &mut [u8],
@@ -100,9 +100,9 @@ pub fn set_literal(
     Ok(())
 }
 
-// The pattern of a setting, by its number. Refused: 1, 2, 4, 6.
+// The pattern of any setting, by its number. Refused: 1, 2, 4, 6.
 #[tactic(auto, using(crate::proofs::Rules::all), unfolding(crate::specs::ByNumber::read_pattern))]
-pub fn read_numbered(
+fn read_numbered(
     d: Device,
     layout: Layout,
     bytes: &[u8],
@@ -130,9 +130,9 @@ pub fn read_numbered(
     Ok(pattern_at(layout, same, s))
 }
 
-// A setting set to a pattern, by its number. Refused: 1, 2, 4, 5, 6.
+// Any setting set to a pattern, by its number. Refused: 1, 2, 4, 5, 6.
 #[tactic(auto, using(crate::proofs::Rules::all), unfolding(crate::specs::ByNumber::set_pattern))]
-pub fn set_numbered(
+fn set_numbered(
     d: Device,
     layout: Layout,
     bytes: &mut [u8],
@@ -162,4 +162,34 @@ pub fn set_numbered(
     }
     put_pattern(layout, bytes, s, pattern);
     Ok(())
+}
+
+// The pattern of a setting, by its number: a literal goes a way of its own. Refused: 1, 2, 4, 6. This and `set` are
+// compiled into each operation, where the layout is a constant.
+#[inline(always)]
+pub fn read(d: Device, layout: Layout, bytes: &[u8], number: SettingNumber) -> Result<u32, Refusal>
+    ensures { number_outcome result ≡ read_pattern d layout bytes.now number.0 }
+{
+    match is_literal(d, layout, bytes.len(), number) {
+        Some(part) => read_literal(part, layout, bytes, number),
+        None => read_numbered(d, layout, bytes, number),
+    }
+}
+
+// A setting set to a pattern, by its number. Refused: 1, 2, 4, 5, 6.
+#[inline(always)]
+pub fn set(
+    d: Device,
+    layout: Layout,
+    bytes: &mut [u8],
+    number: SettingNumber,
+    pattern: u32,
+) -> Result<(), Refusal>
+    ensures { Written (set_pattern d layout bytes.old number.0 pattern) (done_outcome result)
+        (with_numbered d layout bytes.old number.0 pattern) bytes.old bytes.new }
+{
+    match is_literal(d, layout, bytes.len(), number) {
+        Some(part) => set_literal(part, layout, bytes, number, pattern),
+        None => set_numbered(d, layout, bytes, number, pattern),
+    }
 }

@@ -18,10 +18,7 @@ mod by_number;
 pub fn read_pattern_in_image(d: Device, image: &[u8], number: SettingNumber) -> Result<u32, Refusal>
     ensures { number_outcome result ≡ read_pattern d Image image.now number.0 }
 {
-    if let Some(part) = by_number::is_literal(d, Layout::Image, image.len(), number) {
-        return by_number::read_literal(part, Layout::Image, image, number);
-    }
-    by_number::read_numbered(d, Layout::Image, image, number)
+    by_number::read(d, Layout::Image, image, number)
 }
 
 // A setting set to a pattern in an image, by its number. Refused: 1, 2, 4, 5.
@@ -34,10 +31,7 @@ pub fn set_pattern_in_image(
     ensures { Written (set_pattern d Image image.old number.0 pattern) (done_outcome result)
         (with_numbered d Image image.old number.0 pattern) image.old image.new }
 {
-    if let Some(part) = by_number::is_literal(d, Layout::Image, image.len(), number) {
-        return by_number::set_literal(part, Layout::Image, image, number, pattern);
-    }
-    by_number::set_numbered(d, Layout::Image, image, number, pattern)
+    by_number::set(d, Layout::Image, image, number, pattern)
 }
 
 // The pattern of a setting in a readout, by its number. Refused: 1, 2, 4, 6.
@@ -48,10 +42,7 @@ pub fn read_pattern_in_readout(
 ) -> Result<u32, Refusal>
     ensures { number_outcome result ≡ read_pattern d Readout readout.now number.0 }
 {
-    if let Some(part) = by_number::is_literal(d, Layout::Readout, readout.len(), number) {
-        return by_number::read_literal(part, Layout::Readout, readout, number);
-    }
-    by_number::read_numbered(d, Layout::Readout, readout, number)
+    by_number::read(d, Layout::Readout, readout, number)
 }
 
 // A setting set to a pattern in a readout, by its number. Refused: 1, 2, 4, 5, 6.
@@ -65,8 +56,5 @@ pub fn set_pattern_in_readout(
         (with_numbered d Readout readout.old number.0 pattern) readout.old
         readout.new }
 {
-    if let Some(part) = by_number::is_literal(d, Layout::Readout, readout.len(), number) {
-        return by_number::set_literal(part, Layout::Readout, readout, number, pattern);
-    }
-    by_number::set_numbered(d, Layout::Readout, readout, number, pattern)
+    by_number::set(d, Layout::Readout, readout, number, pattern)
 }
