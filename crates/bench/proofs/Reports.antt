@@ -1,7 +1,9 @@
 -- What is known of a report without its lines: it fits 64 bytes, and every text that is too long has the same one.
 -- Assumes nothing.
 use Rattle.std.proofs.Common.{◌≡◌, ℕ, ◌<◌, ◌≤◌, List, [], ◌++◌, Bool, true, false, arith, refl, sym, ap, ◌∙◌, subst, length, take, append-nil, length-append, length-take-le}
-use Rattle.std.specs.Prelude.{cond, ltb, Option, None, Some, Ok, Err, IfSome, OnOk}
+use Rattle.std.specs.Prelude.{cond, ltb, Option, None, Some, Ok, Err, IfSome, IsOk, OnOk}
+use Rattle.part.specs.Answer.{number_outcome}
+use Rattle.part.specs.declared.Refusal.{Refusal}
 use Rattle.std.specs.declared.result.Result.{Result}
 use Rattle.std.specs.Io.KnownBytes.{Appends, Consumes, IsAtEnd}
 use borrow.Author.Tests.{le-ltb, lt-ltb, ltb-true, ltb-false}
@@ -10,15 +12,16 @@ use Rattle.report.specs.Report.{most, outcome_of, report_of, bytes_put}
 use Rattle.report.proofs.Answers.{report_short}
 
 -- A buffer of 64 bytes is never too short.
-pub not_refused : (text buffer : List ℕ) (number value : ℕ) → length buffer ≡ 64 → refused number value ≡ bytes_put (report_of text) buffer
-    → ⊥
-not_refused text buffer number value l e =
+pub not_refused : (text buffer : List ℕ) (r : Result ℕ Refusal) → length buffer ≡ 64 → number_outcome r ≡ bytes_put (report_of text) buffer
+    → IsOk r
+not_refused text buffer (Ok n) l e = refl
+not_refused text buffer (Err x) l e =
     let short : length (report_of text) ≤ length buffer = omega (arith, l, report_short text) in
-    let put : refused number value ≡ accepted (length (report_of text)) =
+    let put : number_outcome (Err x) ≡ accepted (length (report_of text)) =
     e ∙ ap (λ t. cond t (refused 12 (length (report_of text))) (accepted (length (report_of text))))
     (le-ltb (length buffer) (length (report_of text)) short) in
     let z : ◌≡◌ {A = ℕ} 0 1 = cc in
-    omega arith
+    absurd (omega arith)
 
 -- Two texts that are too long have the same refusal.
 long_outcome : (text : List ℕ) → 65536 < length text → outcome_of text ≡ refused 7 most

@@ -6,7 +6,6 @@ ghost use Rattle.std.specs.Prelude.{◌≡◌, ◌<◌, ◌≤◌, length, take,
 ghost use Rattle.std.specs.Io.KnownBytes.{Appends, Consumes, IsAtEnd};
 ghost use Rattle.report.specs.Report.{report_of};
 
-use part::NumberAnswer;
 use std::io;
 use std::io::{Read, Write};
 
@@ -17,7 +16,8 @@ fn buffer_for_text() -> [u8; 65537]
     [0; 65537]
 }
 
-// Reads until the buffer is full or the input ends; how many bytes it put at the start of the buffer.
+// Reads until the buffer is full or the input ends; how many bytes it put at the start of the buffer. A while: a read
+// says how far it came, and `read_exact` fails where the input ends first.
 fn read_full<R: Read>(input: &mut R, buffer: &mut [u8]) -> io::Result<usize>
     ensures bound { IfOk result (λ n. n ≤ length buffer.new) }
     ensures bytes { IfOk result (λ n. Consumes (R.remaining input.old) (R.remaining input.new) (take n buffer.new)) }
@@ -34,16 +34,13 @@ fn read_full<R: Read>(input: &mut R, buffer: &mut [u8]) -> io::Result<usize>
     Ok(done)
 }
 
-// Writes the report of a text.
+// Writes the report of a text, for which the buffer is never too short.
 fn put_report<W: Write>(out: &mut W, text: &[u8]) -> io::Result<()>
     ensures { OnOk result (Appends (W.contents out.old) (W.contents out.new) (report_of text.now)) }
 {
     let mut lines = [0u8; 64];
-    let answer = report::report(text, &mut lines);
-    if let NumberAnswer::Number(bytes) = answer {
-        out.write_all(&lines[..bytes as usize])?;
-    }
-    Ok(())
+    let bytes = report::report(text, &mut lines).unwrap() as usize;
+    out.write_all(&lines[..bytes])
 }
 
 // Reads a text and writes its report. What comes after the buffer is full is not read: it would change no report.
