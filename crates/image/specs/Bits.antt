@@ -14,6 +14,10 @@ bit_at bytes index bit = bit_of (slice_index bytes index) bit
 unfoldable pub put_bit : ℕ → (bit state : ℕ) → ℕ
 put_bit x bit state = (x / 2 ^ bit / 2 * 2 + state) * 2 ^ bit + x % 2 ^ bit
 
+-- A number with some neighbouring bits put in place: the bits above them, their states, the bits below them.
+unfoldable pub put_bits : ℕ → (bit width states : ℕ) → ℕ
+put_bits x bit width states = (x / 2 ^ bit / 2 ^ width * 2 ^ width + states) * 2 ^ bit + x % 2 ^ bit
+
 -- A list with one bit of one byte put in place.
 unfoldable pub with_bit : List ℕ → (index bit state : ℕ) → List ℕ
 with_bit bytes index bit state = slice_set bytes index (put_bit (slice_index bytes index) bit state)

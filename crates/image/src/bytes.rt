@@ -1,28 +1,23 @@
 // Bits and bytes of a list, image or readout alike: for the crates above.
 // A function here may require that an index or a bit is there.
-ghost use Rattle.std.specs.Prelude.{◌≡◌, ◌+◌, ◌*◌, ◌/◌, ◌%◌, ◌^◌, ◌<◌, ◌≤◌, length, slice_index};
-ghost use Rattle.image.specs.Bits.{bit_at, with_bit, ones_in};
+ghost use Rattle.std.specs.Prelude.{◌≡◌, ◌+◌, ◌*◌, ◌/◌, ◌%◌, ◌^◌, ◌<◌, ◌≤◌, length, slice_index, slice_set};
+ghost use Rattle.image.specs.Bits.{bit_at, put_bits, with_bit, ones_in};
 ghost use Rattle.image.specs.Image.{sum16};
+
+// The states of some neighbouring bits of a byte.
+fn states_of<const WIDTH: u32>(bytes: &[u8], index: usize, bit: u32) -> u32
+    requires { (index < length bytes.now) × (bit < 8) × (WIDTH < 8) }
+    ensures { result ≡ slice_index bytes.now index / 2 ^ bit % 2 ^ WIDTH }
+{
+    (bytes[index] >> bit) as u32 % (1 << WIDTH)
+}
 
 // A bit of a byte.
 pub fn bit_of(bytes: &[u8], index: usize, bit: u32) -> u32
     requires { (index < length bytes.now) × (bit < 8) }
     ensures { result ≡ bit_at bytes.now index bit }
 {
-    (bytes[index] >> bit) as u32 % 2
-}
-
-// One bit of one byte put in place.
-pub fn set_bit(bytes: &mut [u8], index: usize, bit: u32, state: u32)
-    requires { (index < length bytes.old) × (bit < 8) × (state < 2) }
-    ensures { bytes.new ≡ with_bit bytes.old index bit state }
-{
-    let x = bytes[index] as u64;
-    let above = x >> bit;
-    let below = cells::words::low_bits(x, bit);
-    let changed = above / 2 * 2 + state as u64;
-    let byte = ((changed << bit) + below) as u8;
-    bytes[index] = byte;
+    states_of::<1>(bytes, index, bit)
 }
 
 // Two neighbouring bits of a byte.
@@ -30,7 +25,28 @@ pub fn pair_of(bytes: &[u8], index: usize, bit: u32) -> u32
     requires { (index < length bytes.now) × (bit < 7) }
     ensures { result ≡ bit_at bytes.now index bit + 2 * bit_at bytes.now index (bit + 1) }
 {
-    (bytes[index] >> bit) as u32 % 4
+    states_of::<2>(bytes, index, bit)
+}
+
+// Some neighbouring bits of one byte put in place.
+fn put_states<const WIDTH: u32>(bytes: &mut [u8], index: usize, bit: u32, states: u32)
+    requires { (index < length bytes.old) × (bit + WIDTH ≤ 8) × (bit < 8) × (WIDTH < 8)
+        × (states < 2 ^ WIDTH) }
+    ensures { bytes.new
+        ≡ slice_set bytes.old index (put_bits (slice_index bytes.old index) bit WIDTH states) }
+{
+    let x = bytes[index];
+    let old = (x >> bit) % (1 << WIDTH);
+    let rest = x - (old << bit);
+    bytes[index] = rest + ((states as u8) << bit);
+}
+
+// One bit of one byte put in place.
+pub fn set_bit(bytes: &mut [u8], index: usize, bit: u32, state: u32)
+    requires { (index < length bytes.old) × (bit < 8) × (state < 2) }
+    ensures { bytes.new ≡ with_bit bytes.old index bit state }
+{
+    put_states::<1>(bytes, index, bit, state);
 }
 
 // Two neighbouring bits of a byte put in place.
@@ -39,10 +55,7 @@ pub fn set_pair(bytes: &mut [u8], index: usize, bit: u32, states: u32)
     ensures { bytes.new
         ≡ with_bit (with_bit bytes.old index bit (states % 2)) index (bit + 1) (states / 2) }
 {
-    let x = bytes[index];
-    let old = (x >> bit) % 4;
-    let rest = x - (old << bit);
-    bytes[index] = rest + ((states as u8) << bit);
+    put_states::<2>(bytes, index, bit, states);
 }
 
 // The sum of bytes, from the sum of such pairs, in which each second byte counts 256 times: 256 of the seconds come
