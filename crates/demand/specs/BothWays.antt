@@ -1,8 +1,9 @@
 -- What `both_ways` ensures: each answer and each slice is what its definition gives (`StepByStep`), and under demand
 -- 3's premise, for slices of the right lengths, demand 3 holds of them (`AsDefined`, `DemandByName` of `edit`).
-use Rattle.std.specs.Prelude.{◌≡◌, cond, List, ℕ, eqb, length}
+use Rattle.std.specs.Prelude.{◌≡◌, cond, List, ℕ, Result, eqb, length}
 use Rattle.part.specs.Device.{image_bytes, readout_bytes}
 use Rattle.part.specs.declared.Device.{Device}
+use Rattle.part.specs.declared.Refusal.{Refusal}
 use Rattle.part.specs.Answer.{done_outcome}
 use Rattle.part.specs.Outcome.{written, Written}
 use Rattle.readout.specs.Readout.{to_readout, readout_of, to_image, image_of}
@@ -12,13 +13,13 @@ use Rattle.setting_values.specs.Operations.{value_outcome}
 use Rattle.setting_bits.specs.declared.Layout.TheVariants.{Image, Readout}
 use Rattle.edit.specs.Edit.{read_in, set_in, with_value}
 use Rattle.edit.specs.Demand.{Premise, Calls, DemandByName, AsDefined}
-use Rattle.demand.specs.declared.BothRead.{BothRead}
-use Rattle.demand.specs.declared.BothDone.{BothDone}
+use Rattle.demand.specs.declared.Both.{Both}
 use Rattle.demand.specs.declared.BeforeAnswer.{BeforeAnswer}
 use Rattle.demand.specs.declared.BothAnswer.{BothAnswer}
 
 -- What the steps of `both_ways` give. A setting is read in an image and in a readout.
-pub record ReadInBoth (d : Device) (image readout : List ℕ) (s : Setting) (r : BothRead) : Type 0 where
+pub record ReadInBoth (d : Device) (image readout : List ℕ) (s : Setting)
+    (r : Both (Result Value Refusal)) : Type 0 where
   pub in_image : value_outcome r.image ≡ read_in d Image image s
   pub in_readout : value_outcome r.readout ≡ read_in d Readout readout s
 
@@ -35,14 +36,14 @@ pub record Begun (d : Device) (image readout readout' kept kept' : List ℕ) (t 
 
 -- A setting is set in both.
 pub record SetInBoth (d : Device) (image image' readout readout' : List ℕ) (s : Setting) (v : Value)
-    (r : BothDone) : Type 0 where
+    (r : Both (Result (Unit {0}) Refusal)) : Type 0 where
   pub in_image : Written (set_in d Image image s v) (done_outcome r.image) (with_value d Image image s v) image image'
   pub in_readout : Written (set_in d Readout readout s v) (done_outcome r.readout)
       (with_value d Readout readout s v) readout readout'
 
 -- Both are converted.
 pub record BothConverted (d : Device) (image readout as_readout as-readout' as_image as-image' : List ℕ)
-    (r : BothDone) : Type 0 where
+    (r : Both (Result (Unit {0}) Refusal)) : Type 0 where
   pub of_image : Written (to_readout d image as_readout) (done_outcome r.image)
       (readout_of d image) as_readout as-readout'
   pub of_readout : Written (to_image d readout as_image) (done_outcome r.readout)

@@ -5,34 +5,31 @@
 ghost use Rattle.std.specs.Prelude.{◌≡◌};
 ghost use Rattle.demand.specs.BothWays.{ReadInBoth, copied, Begun, SetInBoth, BothConverted, BothWays};
 
-use part::{Device, DoneAnswer};
-use setting_values::ValueAnswer;
+use part::{Device, Refusal};
 use settings::Setting;
 use values::Value;
 
-// What reading a setting in an image and in a readout answered.
-#[derive(Clone, Copy)]
-pub struct BothRead {
-    pub image: ValueAnswer,
-    pub readout: ValueAnswer,
+// What two calls answered, one on an image and one on a readout.
+#[derive(Clone, Copy, Debug, PartialEq, Eq)]
+pub struct Both<T> {
+    pub image: T,
+    pub readout: T,
 }
 
-// What two calls without a result answered, one on an image and one on a readout.
-#[derive(Clone, Copy)]
-pub struct BothDone {
-    pub image: DoneAnswer,
-    pub readout: DoneAnswer,
-}
+// Two calls that read a setting, and two without a result.
+pub type BothRead = Both<Result<Value, Refusal>>;
+
+pub type BothDone = Both<Result<(), Refusal>>;
 
 // What the calls before the change answered: the conversion, and reading the other setting.
-#[derive(Clone, Copy)]
+#[derive(Clone, Copy, Debug, PartialEq, Eq)]
 pub struct BeforeAnswer {
-    pub converted: DoneAnswer,
+    pub converted: Result<(), Refusal>,
     pub other: BothRead,
 }
 
 // What the calls of `both_ways` answered.
-#[derive(Clone, Copy)]
+#[derive(Clone, Copy, Debug, PartialEq, Eq)]
 pub struct BothAnswer {
     pub before: BeforeAnswer,
     pub set: BothDone,
@@ -45,11 +42,9 @@ pub struct BothAnswer {
 fn read_both(d: Device, image: &[u8], readout: &[u8], s: Setting) -> BothRead
     ensures { ReadInBoth d image.now readout.now s result }
 {
-    let in_image = edit::read_in_image(d, image, s);
-    let in_readout = edit::read_in_readout(d, readout, s);
-    BothRead {
-        image: in_image,
-        readout: in_readout,
+    Both {
+        image: edit::read_in_image(d, image, s),
+        readout: edit::read_in_readout(d, readout, s),
     }
 }
 
@@ -57,10 +52,9 @@ fn read_both(d: Device, image: &[u8], readout: &[u8], s: Setting) -> BothRead
 fn keep(bytes: &[u8], kept: &mut [u8])
     ensures { kept.new ≡ copied bytes.now kept.old }
 {
-    if kept.len() != bytes.len() {
-        return;
+    if kept.len() == bytes.len() {
+        kept.copy_from_slice(bytes);
     }
-    image::bytes::copy(bytes, kept);
 }
 
 // An image converted to a readout, the readout copied to `kept`, and a setting read in both.
@@ -78,11 +72,9 @@ fn begin(d: Device, image: &[u8], readout: &mut [u8], kept: &mut [u8], t: Settin
 fn set_both(d: Device, image: &mut [u8], readout: &mut [u8], s: Setting, v: Value) -> BothDone
     ensures { SetInBoth d image.old image.new readout.old readout.new s v result }
 {
-    let in_image = edit::set_in_image(d, image, s, v);
-    let in_readout = edit::set_in_readout(d, readout, s, v);
-    BothDone {
-        image: in_image,
-        readout: in_readout,
+    Both {
+        image: edit::set_in_image(d, image, s, v),
+        readout: edit::set_in_readout(d, readout, s, v),
     }
 }
 
@@ -97,11 +89,9 @@ fn convert_both(
     ensures { BothConverted d image.now readout.now as_readout.old
         as_readout.new as_image.old as_image.new result }
 {
-    let to_readout = readout::image_to_readout(d, image, as_readout);
-    let to_image = readout::readout_to_image(d, readout, as_image);
-    BothDone {
-        image: to_readout,
-        readout: to_image,
+    Both {
+        image: readout::image_to_readout(d, image, as_readout),
+        readout: readout::readout_to_image(d, readout, as_image),
     }
 }
 
