@@ -1,5 +1,4 @@
 -- The laws of `xc9500` that belong to no one function.
 -- Assumes nothing.
-pub mod SizeWords
 pub mod Words
 pub mod Fitting

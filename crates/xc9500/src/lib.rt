@@ -41,7 +41,7 @@ fn refusal_word(r: Refusal) -> u64
     r.number() as u64 * BIT_56 + r.value() as u64
 }
 
-// The results of an address and a bit, and of a size.
+// The result of an address and a bit.
 fn address_word(at: AddressBit) -> u64
     ensures { result ≡ address_and_bit (at.address.0, at.bit) }
 {
@@ -65,42 +65,49 @@ fn done_word(answer: Result<(), Refusal>) -> u64
 pub fn xc9500_fuse_count(blocks: u32, class: u32) -> u64
     ensures { result ≡ packed fuses_in (sizes_of (device blocks class)) }
 {
-    part::sizes_of(Device { blocks, class }).map_or_else(refusal_word, |sizes| sizes.fuses as u64)
+    let answer = part::sizes_of(Device { blocks, class });
+    answer.map_or_else(refusal_word, |sizes| sizes.fuses as u64)
 }
 
 // How many bytes an image of a device has.
 pub fn xc9500_image_bytes(blocks: u32, class: u32) -> u64
     ensures { result ≡ packed image_bytes_in (sizes_of (device blocks class)) }
 {
-    part::sizes_of(Device { blocks, class }).map_or_else(refusal_word, |sizes| sizes.image_bytes as u64)
+    let answer = part::sizes_of(Device { blocks, class });
+    answer.map_or_else(refusal_word, |sizes| sizes.image_bytes as u64)
 }
 
 // How many bytes a readout of a device has.
 pub fn xc9500_readout_bytes(blocks: u32, class: u32) -> u64
     ensures { result ≡ packed readout_bytes_in (sizes_of (device blocks class)) }
 {
-    part::sizes_of(Device { blocks, class }).map_or_else(refusal_word, |sizes| sizes.readout_bytes as u64)
+    let answer = part::sizes_of(Device { blocks, class });
+    answer.map_or_else(refusal_word, |sizes| sizes.readout_bytes as u64)
 }
 
 // How many bytes the text of an image of a device has.
 pub fn xc9500_text_bytes(blocks: u32, class: u32) -> u64
     ensures { result ≡ packed text_bytes_in (sizes_of (device blocks class)) }
 {
-    part::sizes_of(Device { blocks, class }).map_or_else(refusal_word, |sizes| sizes.text_bytes as u64)
+    let answer = part::sizes_of(Device { blocks, class });
+    answer.map_or_else(refusal_word, |sizes| sizes.text_bytes as u64)
 }
 
 // The address times 8 plus the bit of a fuse.
 pub fn xc9500_address_of_fuse(blocks: u32, class: u32, fuse: u32) -> u64
     ensures { result ≡ packed address_and_bit (address_of_fuse (device blocks class) fuse) }
 {
-    addresses::address_of_fuse(Device { blocks, class }, FuseNumber(fuse)).map_or_else(refusal_word, address_word)
+    let answer = addresses::address_of_fuse(Device { blocks, class }, FuseNumber(fuse));
+    answer.map_or_else(refusal_word, address_word)
 }
 
 // The fuse of an address and a bit.
 pub fn xc9500_fuse_of_address(blocks: u32, class: u32, address: u32, bit: u32) -> u64
     ensures { result ≡ packed itself (fuse_of_address (device blocks class) address bit) }
 {
-    addresses::fuse_of_address(Device { blocks, class }, DeviceAddress(address), bit).map_or_else(refusal_word, |fuse| fuse.0 as u64)
+    let d = Device { blocks, class };
+    let answer = addresses::fuse_of_address(d, DeviceAddress(address), bit);
+    answer.map_or_else(refusal_word, |fuse| fuse.0 as u64)
 }
 
 // The fuse sum of an image.
