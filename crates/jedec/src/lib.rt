@@ -13,7 +13,7 @@ pub const ETX: u8 = 3;
 // The bytes of the longest text that is read.
 pub const LONGEST_TEXT: u32 = 1048576;
 
-// Whether a byte is a blank: space, tab, CR or LF.
+// Whether a byte is a blank: space, tab, CR or LF. With `matches!` text to image is a tenth slower.
 pub fn is_blank(b: u8) -> bool
     ensures { result ≡ is_blank b }
 {
