@@ -1,6 +1,7 @@
 -- Words stored above the bits that were left over before, in whole bytes of an image: nothing of them is lost, and what
 -- one step leaves over the next one stores.
-use mathlib.Core.Path.{◌≡◌, sym, ◌∙◌, ap, ap₂, subst}
+use Rattle.readout_rows.proofs.Stores.{sets_whole}
+use mathlib.Core.Path.{◌≡◌, refl, sym, ◌∙◌, ap, ap₂, subst}
 use mathlib.Core.List.{List, ◌++◌}
 use Prim.Native.Nat.{ℕ, ◌+◌, ◌*◌, ◌-◌, ◌/◌, ◌%◌, ◌^◌, ◌≤◌, ◌<◌}
 use native.Mathlib.Omega.{arith}
@@ -13,7 +14,6 @@ use mir.Syntax.{w64}
 use mir.Val.{Fits}
 use Rattle.cells.specs.Cells.{cut, join, total}
 use Rattle.cells.proofs.Laws.{cut_append, cut_low, cut_length, regrouped, join_append, join_small, join_few, total_replicate}
-use Rattle.cells.proofs.Laws.{sets_append}
 
 -- The shift of a word of few bits loses none.
 shifted : (cells shift : ℕ) → cells < 2 ^ 48 → shift ≤ 4 → cells * 2 ^ shift % 2 ^ 64 ≡ cells * 2 ^ shift
@@ -30,11 +30,17 @@ pub over : (cells carry shift bytes : ℕ) → cells < 2 ^ 48 → shift ≤ 4
     → (cells * 2 ^ shift % 2 ^ 64 + carry) / 2 ^ (bytes * 8) ≡ (cells * 2 ^ shift + carry) / 2 ^ (bytes * 8)
 over cells carry shift bytes h hs = ap (λ (y : ℕ). (y + carry) / 2 ^ (bytes * 8)) (shifted cells shift h hs)
 
-pub stored : (cells carry shift byte bytes : ℕ) (out next : List ℕ) → cells < 2 ^ 48 → shift ≤ 4
-    → next ≡ sets out byte (cut (replicate bytes 8) (cells * 2 ^ shift % 2 ^ 64 + carry))
-    → next ≡ sets out byte (cut (replicate bytes 8) (cells * 2 ^ shift + carry))
-stored cells carry shift byte bytes out next h hs e =
-    e ∙ ap (λ (y : ℕ). sets out byte (cut (replicate bytes 8) (y + carry))) (shifted cells shift h hs)
+-- Bytes that fill a slice.
+bytes_filled : (n x : ℕ) (out : List ℕ) → length out ≡ n → sets out 0 (cut (replicate n 8) x) ≡ cut (replicate n 8) x
+bytes_filled n x out e =
+    sets_whole out (cut (replicate n 8) x) (e ∙ sym (cut_length (replicate n 8) x ∙ length-replicate {A = ℕ} n 8))
+
+pub stored : (cells carry shift : ℕ) (out next : List ℕ) → cells < 2 ^ 48 → shift ≤ 4
+    → next ≡ sets out 0 (cut (replicate (length out) 8) (cells * 2 ^ shift % 2 ^ 64 + carry))
+    → next ≡ cut (replicate (length out) 8) (cells * 2 ^ shift + carry)
+stored cells carry shift out next h hs e =
+    e ∙ bytes_filled (length out) (cells * 2 ^ shift % 2 ^ 64 + carry) out refl
+    ∙ ap (λ (y : ℕ). cut (replicate (length out) 8) (y + carry)) (shifted cells shift h hs)
 
 -- Of a whole word, what the shift loses is what is left over.
 wrapped : (word x shift : ℕ) → x < 2 ^ shift → shift ≤ 36 → (word * 2 ^ shift + x) % 2 ^ 64 ≡ word % 2 ^ (64 - shift) * 2 ^ shift + x
@@ -68,25 +74,25 @@ eight_over word carry shift h hs =
     ∙ shr-shr x shift (64 - shift)
     ∙ ap (λ (j : ℕ). x / 2 ^ j) whole
 
-pub eight_stored : (word carry shift byte : ℕ) (out next : List ℕ) → carry < 2 ^ shift → shift ≤ 36
-    → next ≡ sets out byte (cut (replicate 8 8) (word * 2 ^ shift % 2 ^ 64 + carry))
-    → next ≡ sets out byte (cut (replicate 8 8) (word * 2 ^ shift + carry))
+pub eight_stored : (word carry shift : ℕ) (out next : List ℕ) → carry < 2 ^ shift → shift ≤ 36 → length out ≡ 8
+    → next ≡ sets out 0 (cut (replicate 8 8) (word * 2 ^ shift % 2 ^ 64 + carry))
+    → next ≡ cut (replicate 8 8) (word * 2 ^ shift + carry)
 unfolding total
-eight_stored word carry shift byte out next h hs e =
-    e
-    ∙ ap (sets out byte) (ap (cut (replicate 8 8)) (eight_low word carry shift h hs) ∙ cut_low (replicate 8 8) (word * 2 ^ shift + carry) 0)
+eight_stored word carry shift out next h hs size e =
+    e ∙ bytes_filled 8 (word * 2 ^ shift % 2 ^ 64 + carry) out size
+    ∙ ap (cut (replicate 8 8)) (eight_low word carry shift h hs) ∙ cut_low (replicate 8 8) (word * 2 ^ shift + carry) 0
 
 -- At most six cells have at most 48 bits.
 pub few : (count width x : ℕ) (cells : List ℕ) → count ≤ 6 → width ≤ 8 → x ≡ join (replicate count width) cells → x < 2 ^ 48
 few count width x cells hc hw e = rw e (join_few count width 6 cells hc hw)
 
 -- What a step stores and leaves over, said of the cells that its word is joined from.
-pub of_cells : (x cells carry shift byte bytes r : ℕ) (out next : List ℕ) → x ≡ cells → r ≡ (x * 2 ^ shift + carry) / 2 ^ (bytes * 8)
-    → next ≡ sets out byte (cut (replicate bytes 8) (x * 2 ^ shift + carry))
-    → (r ≡ (cells * 2 ^ shift + carry) / 2 ^ (bytes * 8)) × (next ≡ sets out byte (cut (replicate bytes 8) (cells * 2 ^ shift + carry)))
-of_cells x cells carry shift byte bytes r out next e f g = (
+pub of_cells : (x cells carry shift bytes r : ℕ) (next : List ℕ) → x ≡ cells → r ≡ (x * 2 ^ shift + carry) / 2 ^ (bytes * 8)
+    → next ≡ cut (replicate bytes 8) (x * 2 ^ shift + carry)
+    → (r ≡ (cells * 2 ^ shift + carry) / 2 ^ (bytes * 8)) × (next ≡ cut (replicate bytes 8) (cells * 2 ^ shift + carry))
+of_cells x cells carry shift bytes r next e f g = (
   f ∙ ap (λ (y : ℕ). (y * 2 ^ shift + carry) / 2 ^ (bytes * 8)) e,
-  g ∙ ap (λ (y : ℕ). sets out byte (cut (replicate bytes 8) (y * 2 ^ shift + carry))) e,
+  g ∙ ap (λ (y : ℕ). cut (replicate bytes 8) (y * 2 ^ shift + carry)) e,
 )
 
 -- Bytes of a number in two parts: what the first part leaves over is added to the second.
@@ -130,20 +136,16 @@ module _ (cs ws readout : List ℕ) (at at' carry over s s' k : ℕ) (bits : tot
       rw (step_word, ← bytes, ← shr-shr (word + rest * 2 ^ (k * 8)) (k * 8) (m * 8), eo)
       (ap (λ (y : ℕ). y / 2 ^ (m * 8)) (add_comm rest (word / 2 ^ (k * 8)) ∙ sym (add-mul-div_right word rest (pow_pos (k * 8)))))
 
-  -- The bytes of the rest, stored now, give what the bytes of all cells give.
-  pub step_stored : (out next : List ℕ) (byte byte' m : ℕ) → byte' ≡ byte + k
-      → next ≡ sets out byte (cut (replicate k 8) (join cs (drop at readout) * 2 ^ s + carry))
-      → sets next byte' (cut (replicate m 8) (join ws (drop at' readout) * 2 ^ s' + over))
-      ≡ sets out byte (cut (replicate (k + m) 8) (join (cs ++ ws) (drop at readout) * 2 ^ s + carry))
-  step_stored out next byte byte' m eb en =
+  -- The bytes of this step and those of the rest are the bytes of all cells.
+  pub step_bytes : (m : ℕ)
+      → cut (replicate k 8) (join cs (drop at readout) * 2 ^ s + carry)
+      ++ cut (replicate m 8) (join ws (drop at' readout) * 2 ^ s' + over)
+      ≡ cut (replicate (k + m) 8) (join (cs ++ ws) (drop at readout) * 2 ^ s + carry)
+  step_bytes m =
       let word = join cs (drop at readout) * 2 ^ s + carry in
       let rest = join ws (drop at' readout) * 2 ^ s' in
-      let stores = cut (replicate k 8) word in
-      let size : length stores ≡ k = cut_length (replicate k 8) word ∙ length-replicate {A = ℕ} k 8 in
-      ap₂ (λ (l : List ℕ) (i : ℕ). sets l i (cut (replicate m 8) (rest + over))) en (eb ∙ ap (λ (i : ℕ). byte + i) (sym size))
-      ∙ ap (λ (y : ℕ). sets (sets out byte stores) (byte + length stores) (cut (replicate m 8) (rest + y))) eo
-      ∙ sym (sets_append out byte stores (cut (replicate m 8) (rest + word / 2 ^ (k * 8))))
-      ∙ ap (sets out byte) (sym (ap (cut (replicate (k + m) 8)) step_word ∙ bytes_in_parts k m word rest))
+      ap (λ (y : ℕ). cut (replicate k 8) word ++ cut (replicate m 8) (rest + y)) eo
+      ∙ sym (ap (cut (replicate (k + m) 8)) step_word ∙ bytes_in_parts k m word rest)
 
 -- What is left over has only the bits that were not stored.
 pub left_over : (cs cells : List ℕ) (carry over s s' k : ℕ) → carry < 2 ^ s → total cs + s ≡ s' + k * 8

@@ -7,59 +7,59 @@ use native.Mathlib.Omega.{arith}
 use native.Mathlib.Nat.{add_comm, add-zero, div-eq_of_lt, mul_assoc}
 use borrow.Rule.Slice.PartMut.{put_mid}
 use lib.ListN.{length, take, drop, replicate, length-replicate, length-drop}
-use lib.Seq.{sets, drop-drop}
+use lib.Seq.{sets}
 use Rattle.cells.specs.Cells.{cut, join, total, repeat}
-use Rattle.cells.proofs.Laws.{cut_length, cut_sets, join_append, join_small, total_append, total_repeat, length_repeat}
+use Rattle.cells.proofs.Laws.{cut_append, cut_length, join_append, join_small, total_append, total_repeat, length_repeat}
 use Rattle.part.specs.Device.{main_columns, main_bytes, wire_and_columns, wire_and_row_fuses}
 use Rattle.part.specs.declared.Area.TheVariants.{Main, WireAnd}
 use Rattle.part.specs.declared.Device.{Device}
 use Rattle.readout_rows.specs.Widths.{row_widths, pair_widths, block_widths, widths, whole_bytes, bytes_in}
-use Rattle.readout_rows.proofs.RowSizes.{main_pair, wire_and_pair, block_size, main_pairs, wire_and_pairs, pairs_of_block, main_pairs_size}
+use Rattle.readout_rows.proofs.RowSizes.{block_size, main_pairs, wire_and_pairs, pairs_of_block, main_pairs_size}
 use Rattle.readout_rows.proofs.Stores.{Filled, none_filled, filled_step, filled_all, turn_within, repeat_more, join_few_cells, sets_whole}
-use Rattle.readout_reader.proofs.Carried.{of_cells, bytes_in_parts, step_over, step_stored}
+use Rattle.readout_reader.proofs.Carried.{of_cells, bytes_in_parts, step_over, step_bytes}
 
 -- A row of the main area: eight cells of 8 bits, one more, and six of 6 bits.
-pub main_row : (readout o0 o1 o2 o3 : List ℕ) (at byte shift more carry c1 c2 c3 u v w : ℕ)
-    → u ≡ join (replicate 8 8) (drop at readout) → c1 ≡ (u * 2 ^ shift + carry) / 2 ^ (8 * 8)
-    → o1 ≡ sets o0 byte (cut (replicate 8 8) (u * 2 ^ shift + carry))
-    → v ≡ join (replicate 1 8) (drop (at + 8) readout) → c2 ≡ (v * 2 ^ shift + c1) / 2 ^ (1 * 8)
-    → o2 ≡ sets o1 (byte + 8) (cut (replicate 1 8) (v * 2 ^ shift + c1))
-    → w ≡ join (replicate 6 6) (drop (at + 9) readout) → c3 ≡ (w * 2 ^ shift + c2) / 2 ^ (more * 8)
-    → o3 ≡ sets o2 (byte + 9) (cut (replicate more 8) (w * 2 ^ shift + c2))
-    → (c3 ≡ (join (row_widths Main) (drop at readout) * 2 ^ shift + carry) / 2 ^ ((9 + more) * 8))
-    × (o3 ≡ sets o0 byte (cut (replicate (9 + more) 8) (join (row_widths Main) (drop at readout) * 2 ^ shift + carry)))
+pub main_row : (row o1 o2 o3 : List ℕ) (shift more all carry c1 c2 c3 u v w : ℕ) → all ≡ 9 + more
+    → u ≡ join (replicate 8 8) row → c1 ≡ (u * 2 ^ shift + carry) / 2 ^ (8 * 8)
+    → o1 ≡ cut (replicate 8 8) (u * 2 ^ shift + carry)
+    → v ≡ join (replicate 1 8) (drop 8 row) → c2 ≡ (v * 2 ^ shift + c1) / 2 ^ (1 * 8)
+    → o2 ≡ cut (replicate 1 8) (v * 2 ^ shift + c1)
+    → w ≡ join (replicate 6 6) (drop 9 row) → c3 ≡ (w * 2 ^ shift + c2) / 2 ^ (more * 8)
+    → o3 ≡ cut (replicate more 8) (w * 2 ^ shift + c2)
+    → (c3 ≡ (join (row_widths Main) row * 2 ^ shift + carry) / 2 ^ (all * 8))
+    × (o1 ++ (o2 ++ o3) ≡ cut (replicate all 8) (join (row_widths Main) row * 2 ^ shift + carry))
 unfolding row_widths total
-main_row readout o0 o1 o2 o3 at byte shift more carry c1 c2 c3 u v w eu d1 e1 ev d2 e2 ew d3 e3 =
+main_row row o1 o2 o3 shift more all carry c1 c2 c3 u v w size eu d1 e1 ev d2 e2 ew d3 e3 =
     let narrow : List ℕ = replicate 6 6 in
-    let one = of_cells u _ carry shift byte 8 c1 o0 o1 eu d1 e1 in
-    let two = of_cells v _ c1 shift (byte + 8) 1 c2 o1 o2 ev d2 e2 in
-    let three = of_cells w _ c2 shift (byte + 9) more c3 o2 o3 ew d3 e3 in
-    let bytes : 8 + (1 + more) ≡ 9 + more = omega arith in
+    let one = of_cells u _ carry shift 8 c1 o1 eu d1 e1 in
+    let two = of_cells v _ c1 shift 1 c2 o2 ev d2 e2 in
+    let three = of_cells w _ c2 shift more c3 o3 ew d3 e3 in
+    let bytes : 8 + (1 + more) ≡ all = omega arith in
     rw (← bytes) (
-      three.0 ∙ step_over (replicate 1 8) narrow readout (at + 8) (at + 9) c1 c2 shift shift 1 (omega arith) (omega arith) two.0 more
-          ∙ step_over (replicate 8 8) (replicate 1 8 ++ narrow) readout at (at + 8) carry c1 shift shift 8 (omega arith) refl one.0
-          (1 + more),
-      three.1
-          ∙ step_stored (replicate 1 8) narrow readout (at + 8) (at + 9) c1 c2 shift shift 1 (omega arith) (omega arith) two.0
-          o1 o2 (byte + 8) (byte + 9) more (omega arith) two.1
-          ∙ step_stored (replicate 8 8) (replicate 1 8 ++ narrow) readout at (at + 8) carry c1 shift shift 8 (omega arith) refl one.0
-          o0 o1 byte (byte + 8) (1 + more) refl one.1,
+      three.0 ∙ step_over (replicate 1 8) narrow row 8 9 c1 c2 shift shift 1 (omega arith) refl two.0 more
+          ∙ step_over (replicate 8 8) (replicate 1 8 ++ narrow) row 0 8 carry c1 shift shift 8 (omega arith) refl one.0 (1 + more),
+      ap₂ ◌++◌ one.1
+          (ap₂ ◌++◌ two.1 three.1 ∙ step_bytes (replicate 1 8) narrow row 8 9 c1 c2 shift shift 1 (omega arith) refl two.0 more)
+          ∙ step_bytes (replicate 8 8) (replicate 1 8 ++ narrow) row 0 8 carry c1 shift shift 8 (omega arith) refl one.0 (1 + more),
     )
 
 -- Two rows of the main area.
-pub main_rows_lem : (readout o0 o1 o2 : List ℕ) (at byte carry : ℕ)
-    → carry ≡ (join (row_widths Main) (drop at readout) * 2 ^ 0 + 0) / 2 ^ ((9 + 4) * 8)
-    → o1 ≡ sets o0 byte (cut (replicate (9 + 4) 8) (join (row_widths Main) (drop at readout) * 2 ^ 0 + 0))
-    → o2 ≡ sets o1 (byte + 13) (cut (replicate (9 + 5) 8) (join (row_widths Main) (drop (at + main_columns) readout) * 2 ^ 4 + carry))
-    → o2 ≡ sets o0 byte (bytes_in (pair_widths Main) (drop at readout))
+pub main_rows_lem : (readout first second front back : List ℕ) (carry : ℕ) → length readout ≡ 2 * main_columns
+    → first ≡ take main_columns readout → second ≡ drop main_columns readout
+    → carry ≡ (join (row_widths Main) first * 2 ^ 0 + 0) / 2 ^ (13 * 8)
+    → front ≡ cut (replicate 13 8) (join (row_widths Main) first * 2 ^ 0 + 0)
+    → back ≡ cut (replicate 14 8) (join (row_widths Main) second * 2 ^ 4 + carry)
+    → front ++ back ≡ bytes_in (pair_widths Main) readout
 unfolding row_widths pair_widths whole_bytes bytes_in total
-main_rows_lem readout o0 o1 o2 at byte carry d1 e1 e2 =
-    let all : join (row_widths Main ++ row_widths Main) (drop at readout) * 2 ^ 0 + 0
-    ≡ join (row_widths Main ++ row_widths Main) (drop at readout) = omega arith in
-    e2
-    ∙ step_stored (row_widths Main) (row_widths Main) readout at (at + main_columns) 0 carry 0 4 13 refl refl d1
-    o0 o1 byte (byte + 13) 14 refl e1
-    ∙ ap (λ (x : ℕ). sets o0 byte (cut (replicate 27 8) x)) all
+main_rows_lem readout first second front back carry size ef es d1 e1 e2 =
+    let row = row_widths Main in
+    let alone : join row first ≡ join row readout = ap (join row) ef ∙ join_few_cells row readout main_columns (omega arith) (omega arith) in
+    let carried : carry ≡ (join row readout * 2 ^ 0 + 0) / 2 ^ (13 * 8) = d1 ∙ ap (λ (x : ℕ). (x * 2 ^ 0 + 0) / 2 ^ (13 * 8)) alone in
+    let all : join (row ++ row) readout * 2 ^ 0 + 0 ≡ join (row ++ row) readout = omega arith in
+    ap₂ ◌++◌ (e1 ∙ ap (λ (x : ℕ). cut (replicate 13 8) (x * 2 ^ 0 + 0)) alone)
+    (e2 ∙ ap (λ (l : List ℕ). cut (replicate 14 8) (join row l * 2 ^ 4 + carry)) es)
+    ∙ step_bytes row row readout 0 main_columns 0 carry 0 4 13 refl refl carried 14
+    ∙ ap (cut (replicate 27 8)) all
 
 -- The number that a row of the wire-AND area joins to has no more bits than the row has fuses.
 pub wire_and_row_small : (cells : List ℕ) (x : ℕ) → x ≡ join (row_widths WireAnd) cells → x < 2 ^ wire_and_row_fuses
@@ -67,25 +67,23 @@ unfolding row_widths total
 wire_and_row_small cells x e = rw e (join_small (row_widths WireAnd) cells)
 
 -- Two rows of the wire-AND area.
-pub wire_and_rows_lem : (readout o0 o1 o2 : List ℕ) (at byte one two top : ℕ)
-    → one ≡ join (row_widths WireAnd) (drop at readout) → two ≡ join (row_widths WireAnd) (drop (at + wire_and_columns) readout)
+pub wire_and_rows_lem : (readout last eight one-byte : List ℕ) (one two top : ℕ) → length last ≡ 1
+    → one ≡ join (row_widths WireAnd) readout → two ≡ join (row_widths WireAnd) (drop wire_and_columns readout)
     → top ≡ (two * 2 ^ wire_and_row_fuses + one) / 2 ^ (8 * 8)
-    → o1 ≡ sets o0 byte (cut (replicate 8 8) (two * 2 ^ wire_and_row_fuses + one))
-    → o2 ≡ sets o1 (byte + 8) (cut (replicate 1 8) top)
-    → o2 ≡ sets o0 byte (bytes_in (pair_widths WireAnd) (drop at readout))
+    → eight ≡ cut (replicate 8 8) (two * 2 ^ wire_and_row_fuses + one)
+    → one-byte ≡ sets last 0 (cut (replicate 1 8) top)
+    → eight ++ one-byte ≡ bytes_in (pair_widths WireAnd) readout
 unfolding row_widths pair_widths whole_bytes bytes_in total
-wire_and_rows_lem readout o0 o1 o2 at byte one two top e1 e2 e3 e4 e5 =
+wire_and_rows_lem readout last eight one-byte one two top size e1 e2 e3 e4 e5 =
     let ws = row_widths WireAnd in
-    let cells = drop at readout in
     let x = two * 2 ^ wire_and_row_fuses + one in
-    let all : join (ws ++ ws) cells ≡ x =
-    join_append ws ws cells
-    ∙ ap (λ (l : List ℕ). join ws cells + join ws l * 2 ^ wire_and_row_fuses) (drop-drop wire_and_columns at readout)
+    let all : join (ws ++ ws) readout ≡ x =
+    join_append ws ws readout
     ∙ ap₂ (λ (y z : ℕ). y + z * 2 ^ wire_and_row_fuses) (sym e1) (sym e2) ∙ add_comm one (two * 2 ^ wire_and_row_fuses) in
-    e5
-    ∙ ap₂ (λ (l : List ℕ) (y : ℕ). sets l (byte + 8) (cut (replicate 1 8) y)) e4 e3
-    ∙ cut_sets o0 (replicate 8 8) (replicate 1 8) byte x 8 64 refl refl
-    ∙ ap (λ (y : ℕ). sets o0 byte (cut (replicate 9 8) y)) (sym all)
+    ap₂ ◌++◌ e4 (e5 ∙ sets_whole last (cut (replicate 1 8) top) (size ∙ sym (cut_length (replicate 1 8) top))
+    ∙ ap (cut (replicate 1 8)) e3)
+    ∙ sym (cut_append (replicate 8 8) (replicate 1 8) x)
+    ∙ ap (cut (replicate 9 8)) (sym all)
 
 -- The image bytes of cells in two parts, of which the first is whole bytes.
 bytes_append : (ws vs cells : List ℕ) → total ws ≡ whole_bytes ws * 8
@@ -106,27 +104,6 @@ bytes_append ws vs cells whole =
 bytes_length : (ws cells : List ℕ) → length (bytes_in ws cells) ≡ whole_bytes ws
 unfolding bytes_in
 bytes_length ws cells = cut_length (replicate (whole_bytes ws) 8) (join ws cells) ∙ length-replicate {A = ℕ} (whole_bytes ws) 8
-
--- Two rows fill their slice.
-rows_filled : (ws readout out next : List ℕ) → length out ≡ whole_bytes ws → next ≡ sets out 0 (bytes_in ws readout) → next ≡ bytes_in ws readout
-rows_filled ws readout out next size e = e ∙ sets_whole out (bytes_in ws readout) (size ∙ sym (bytes_length ws readout))
-
-pub main_rows_filled : (readout o0 o1 o2 : List ℕ) (carry : ℕ) → length o0 ≡ 27
-    → carry ≡ (join (row_widths Main) readout * 2 ^ 0 + 0) / 2 ^ ((9 + 4) * 8)
-    → o1 ≡ sets o0 0 (cut (replicate (9 + 4) 8) (join (row_widths Main) readout * 2 ^ 0 + 0))
-    → o2 ≡ sets o1 13 (cut (replicate (9 + 5) 8) (join (row_widths Main) (drop main_columns readout) * 2 ^ 4 + carry))
-    → o2 ≡ bytes_in (pair_widths Main) readout
-main_rows_filled readout o0 o1 o2 carry size d1 e1 e2 =
-    rows_filled (pair_widths Main) readout o0 o2 (size ∙ sym (main_pair Main refl).0) (main_rows_lem readout o0 o1 o2 0 0 carry d1 e1 e2)
-
-pub wire_and_rows_filled : (readout o0 o1 o2 : List ℕ) (one two top : ℕ) → length o0 ≡ 9
-    → one ≡ join (row_widths WireAnd) readout → two ≡ join (row_widths WireAnd) (drop wire_and_columns readout)
-    → top ≡ (two * 2 ^ wire_and_row_fuses + one) / 2 ^ (8 * 8)
-    → o1 ≡ sets o0 0 (cut (replicate 8 8) (two * 2 ^ wire_and_row_fuses + one))
-    → o2 ≡ sets o1 8 (cut (replicate 1 8) top) → o2 ≡ bytes_in (pair_widths WireAnd) readout
-wire_and_rows_filled readout o0 o1 o2 one two top size e1 e2 e3 e4 e5 =
-    rows_filled (pair_widths WireAnd) readout o0 o2 (size ∙ sym (wire_and_pair WireAnd refl).0)
-    (wire_and_rows_lem readout o0 o1 o2 0 0 one two top e1 e2 e3 e4 e5)
 
 -- Some bytes of a readout, as many as there are widths.
 part_in : (readout ws : List ℕ) (p n : ℕ) → n ≡ length ws → p + n ≤ length readout

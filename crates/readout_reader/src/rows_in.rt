@@ -12,26 +12,25 @@ use part::geometry::WIRE_AND_ROW_FUSES;
 use part::{Area, KnownDevice};
 use readout_rows::sizes;
 
-// The number that some cells join to, above the bits that the cells before left over, and of that whole bytes put into
-// an image. Answers what is left over now.
-fn put_above(cells: u64, carry: u64, shift: u32, image: &mut [u8], byte: usize, bytes: usize) -> u64
-    requires { (cells < 2 ^ 48) × (carry < 2 ^ shift) × (shift ≤ 4)
-        × (byte + bytes ≤ length image.old) × (bytes ≤ 7) }
-    ensures value { result ≡ (cells * 2 ^ shift + carry) / 2 ^ (bytes * 8) }
-    ensures image_after { image.new ≡ sets image.old byte (cut (replicate bytes 8) (cells * 2 ^ shift + carry)) }
+// The number that some cells join to, above the bits that the cells before left over, and of that as many bytes as an
+// image slice has, put there. Answers what is left over now.
+fn put_above(cells: u64, carry: u64, shift: u32, image: &mut [u8]) -> u64
+    requires { (cells < 2 ^ 48) × (carry < 2 ^ shift) × (shift ≤ 4) × (length image.old ≤ 7) }
+    ensures value { result ≡ (cells * 2 ^ shift + carry) / 2 ^ (length image.old * 8) }
+    ensures image_after { image.new ≡ cut (replicate (length image.old) 8) (cells * 2 ^ shift + carry) }
 {
     let word = (cells << shift) + carry;
-    put_cells(word, 8, bytes, image, byte);
-    word >> (bytes * 8)
+    put_cells(word, 8, image.len(), image, 0);
+    word >> (image.len() * 8)
 }
 
 // As `put_above`, for a whole word and eight bytes: what is left over is the top of the word.
-fn put_eight(word: u64, carry: u64, shift: u32, image: &mut [u8], byte: usize) -> u64
-    requires { (carry < 2 ^ shift) × (shift ≤ 36) × (byte + 8 ≤ length image.old) }
+fn put_eight(word: u64, carry: u64, shift: u32, image: &mut [u8]) -> u64
+    requires { (carry < 2 ^ shift) × (shift ≤ 36) × (length image.old ≡ 8) }
     ensures value { result ≡ (word * 2 ^ shift + carry) / 2 ^ (8 * 8) }
-    ensures image_after { image.new ≡ sets image.old byte (cut (replicate 8 8) (word * 2 ^ shift + carry)) }
+    ensures image_after { image.new ≡ cut (replicate 8 8) (word * 2 ^ shift + carry) }
 {
-    put_cells((word << shift) + carry, 8, 8, image, byte);
+    put_cells((word << shift) + carry, 8, 8, image, 0);
     (word >> 1) >> (63 - shift)
 }
 
@@ -59,12 +58,12 @@ fn five_together(word: u64) -> u64
     all >> 2
 }
 
-// What the six narrow cells of a main row join to. They are taken from eight bytes, of which `skip` are before them.
-fn narrow_cells(readout: &[u8], at: usize, skip: usize) -> u64
-    requires { (skip ≤ 2) × (skip ≤ at) × (at + (8 - skip) ≤ length readout.now) }
-    ensures { result ≡ join (replicate 6 6) (drop at readout.now) }
+// What the six narrow cells of a main row join to. They are taken from eight bytes, of which two are before them.
+fn narrow_cells(row: &[u8]) -> u64
+    requires { length row.now ≡ main_columns }
+    ensures { result ≡ join (replicate 6 6) (drop 9 row.now) }
 {
-    six_together(word8(readout, at - skip) >> (skip * 8))
+    six_together(word8(row, 7) >> 16)
 }
 
 // What the cells of a wire-AND row join to. They are taken from eight bytes, of which `skip` are before them.
@@ -75,42 +74,20 @@ fn wire_and_row(readout: &[u8], at: usize, skip: usize) -> u64
     five_together(word8(readout, at - skip) >> (skip * 8))
 }
 
-// As `put_above`, for the cells of a main row, which fill nine image bytes and `more`. The narrow cells are taken from
-// eight bytes, of which `skip` are before them.
-fn main_row_in(
-    readout: &[u8],
-    at: usize,
-    skip: usize,
-    carry: u64,
-    shift: u32,
-    image: &mut [u8],
-    byte: usize,
-    more: usize,
-) -> u64
-    requires { (skip ≤ 2) × (at + (17 - skip) ≤ length readout.now) × (carry < 2 ^ shift) × (shift ≤ 4)
-        × (byte + (9 + more) ≤ length image.old) × (more ≤ 7) }
-    ensures value { result ≡ (join (row_widths Main) (drop at readout.now) * 2 ^ shift + carry)
-        / 2 ^ ((9 + more) * 8) }
-    ensures image_after { image.new ≡ sets image.old byte (cut (replicate (9 + more) 8)
-        (join (row_widths Main) (drop at readout.now) * 2 ^ shift + carry)) }
+// As `put_above`, for the cells of a main row, which fill nine image bytes and some more.
+fn main_row_in(row: &[u8], carry: u64, shift: u32, image: &mut [u8]) -> u64
+    requires { (length row.now ≡ main_columns) × (carry < 2 ^ shift) × (shift ≤ 4)
+        × (9 ≤ length image.old) × (length image.old ≤ 16) }
+    ensures value { result
+        ≡ (join (row_widths Main) row.now * 2 ^ shift + carry) / 2 ^ (length image.old * 8) }
+    ensures image_after { image.new
+        ≡ cut (replicate (length image.old) 8) (join (row_widths Main) row.now * 2 ^ shift + carry) }
 {
-    let one = put_eight(word8(readout, at), carry, shift, image, byte);
-    let two = put_above(
-        joined(readout, at + 8, 8, 1),
-        one,
-        shift,
-        image,
-        byte + 8,
-        1,
-    );
-    put_above(
-        narrow_cells(readout, at + 9, skip),
-        two,
-        shift,
-        image,
-        byte + 9,
-        more,
-    )
+    let (eight, behind) = image.split_at_mut(8);
+    let (one, more) = behind.split_at_mut(1);
+    let first = put_eight(word8(row, 0), carry, shift, eight);
+    let second = put_above(joined(row, 8, 8, 1), first, shift, one);
+    put_above(narrow_cells(row), second, shift, more)
 }
 
 // The 27 image bytes of two main rows of a readout.
@@ -118,8 +95,10 @@ fn main_rows_in(readout: &[u8], image: &mut [u8])
     requires { (length readout.now ≡ 2 * main_columns) × (length image.old ≡ 27) }
     ensures { image.new ≡ bytes_in (pair_widths Main) readout.now }
 {
-    let carry = main_row_in(readout, 0, 0, 0, 0, image, 0, 4);
-    main_row_in(readout, sizes::MAIN_COLUMNS, 2, carry, 4, image, 13, 5);
+    let (first, second) = readout.split_at(sizes::MAIN_COLUMNS);
+    let (front, back) = image.split_at_mut(13);
+    let carry = main_row_in(first, 0, 0, front);
+    main_row_in(second, carry, 4, back);
 }
 
 // The 9 image bytes of two wire-AND rows of a readout.
@@ -129,8 +108,9 @@ fn wire_and_rows_in(readout: &[u8], image: &mut [u8])
 {
     let one = wire_and_row(readout, 0, 0);
     let two = wire_and_row(readout, sizes::WIRE_AND_COLUMNS, 3);
-    let top = put_eight(two, one, WIRE_AND_ROW_FUSES, image, 0);
-    put_cells(top, 8, 1, image, 8);
+    let (eight, last) = image.split_at_mut(8);
+    let top = put_eight(two, one, WIRE_AND_ROW_FUSES, eight);
+    put_cells(top, 8, 1, last, 0);
 }
 
 // The image bytes of two rows of a readout.

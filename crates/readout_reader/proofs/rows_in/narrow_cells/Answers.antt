@@ -9,6 +9,5 @@ use Rattle.readout_reader.proofs.rows_in.narrow_cells.Goals as goal
 pub returns : goal.returns
 unfolding narrow
 returns c =
-    let start = c in
-    packed_at (replicate 6 6) start.args.readout.now start.args.at start.args.skip _ _ refl (omega (arith, start.requires))
-    start.requires.1 start.requires.2 c.word8.ensures c.six_together.ensures
+    packed_at (replicate 6 6) c.args.row.now 9 2 _ _ refl (omega arith) (omega arith) (omega (arith, c.requires)) c.word8.ensures
+    c.six_together.ensures
