@@ -26,7 +26,7 @@ const BEFORE_SUM: u64 = b'C' as u64;
 const AFTER_SUM: u64 = 0x03_0A2A;
 
 // Where a line begins: its first fuse, and its first byte in the text.
-#[derive(Clone, Copy)]
+#[derive(Clone, Copy, Debug, PartialEq, Eq)]
 pub struct Spot {
     pub fuse: usize,
     pub at: usize,

@@ -23,7 +23,7 @@ pub struct Words {
 pub type Name = [Piece; 5];
 
 // A name, and the bit behind it.
-#[derive(Clone, Copy)]
+#[derive(Clone, Copy, Debug, PartialEq, Eq)]
 pub struct BitName {
     pub name: Name,
     pub bit: Piece,
@@ -51,6 +51,9 @@ pub const IM: Piece = Piece {
     word: b' ' as u64 + b'I' as u64 * 0x0100 + b'M' as u64 * 0x0001_0000,
     len: 3,
 };
+
+// The digit 0.
+const DIGIT_0: u64 = b'0' as u64;
 
 // The bytes of one piece behind those of another.
 pub fn followed(p: Piece, q: Piece) -> Piece
@@ -90,14 +93,14 @@ fn few_digits(x: u32) -> Piece
 {
     if x < 10 {
         return Piece {
-            word: x as u64 + 48,
+            word: x as u64 + DIGIT_0,
             len: 1,
         };
     }
     let tens = (x * 103) >> 10;
     let ones = x - tens * 10;
     Piece {
-        word: tens as u64 + 48 + (ones as u64 + 48) * 256,
+        word: tens as u64 + DIGIT_0 + (ones as u64 + DIGIT_0) * 0x0100,
         len: 2,
     }
 }
