@@ -65,7 +65,7 @@ fn hex_digit(x: u64) -> u64
     BEFORE_A + x
 }
 
-// The four upper-case digits of a sum.
+// The four upper-case digits of a sum. A call for each: a loop over four digits would say no more.
 pub fn four_hex(sum: u16) -> u64
     ensures { result ≡ number (four_hex sum) }
 {

@@ -106,7 +106,7 @@ fn indexed_words(letters: Piece, index: u32, field: &[u8]) -> Words
     }
 }
 
-// A global field.
+// A global field. Only the contracts read the device, which bounds the field's index.
 fn global_words(d: Device, field: GlobalField) -> Words
     requires { global_index (foes d) field < global_fields (foes d) }
     ensures { SpellsWords result (space ∷ global_field_name field) }

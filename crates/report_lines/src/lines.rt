@@ -14,7 +14,8 @@ use jedec_lines::characters::four_hex;
 use part::KnownDevice;
 use part::geometry::decimal_digits;
 
-// Some bytes put into a slice from an index on; the index behind them.
+// Some bytes put into a slice from an index on; the index behind them. Each function here takes slice and index: a
+// writer that holds both would be a loan in every contract.
 pub fn put(bytes: &[u8], out: &mut [u8], at: usize) -> usize
     requires { at + length bytes.now ≤ length out.old }
     ensures { Put out.old out.new at bytes.now result }
