@@ -17,7 +17,7 @@ use part::geometry::{MAIN_COLUMNS, MAIN_ROW_FUSES};
 use part::places::{fuse_of_place, width_of};
 use part::{KnownDevice, Place};
 use setting_places::places::{bits_of, place_of};
-use settings::{DeviceSetting, Setting};
+use settings::{DeviceSetting, GlobalField, Setting};
 
 // A byte of an image or a readout, and one of its bits.
 #[derive(Clone, Copy, Debug, PartialEq, Eq)]
@@ -140,11 +140,10 @@ pub fn pattern_at(layout: Layout, bytes: &[u8], s: DeviceSetting) -> u32
     requires { length bytes.now ≡ bytes_of s.device.device layout }
     ensures { result ≡ pattern_at s.device.device layout bytes.now s.setting }
 {
-    let width = bits_of(s);
-    // no other setting has so many bits
-    if width == 32 {
+    if let Setting::Global(GlobalField::Usercode) = s.setting {
         return usercode_at(s.device, layout, bytes);
     }
+    let width = bits_of(s);
     let mut pattern: u32 = 0;
     for bit in 0..width {
         let location = location_of(layout, s, bit);
@@ -159,11 +158,11 @@ pub fn put_pattern(layout: Layout, bytes: &mut [u8], s: DeviceSetting, pattern: 
     requires { length bytes.old ≡ bytes_of s.device.device layout }
     ensures { bytes.new ≡ with_pattern s.device.device layout bytes.old s.setting pattern }
 {
-    let last = bits_of(s);
-    if last == 32 {
+    if let Setting::Global(GlobalField::Usercode) = s.setting {
         put_usercode(s.device, layout, bytes, pattern);
         return;
     }
+    let last = bits_of(s);
     for bit in 0..last {
         let location = location_of(layout, s, bit);
         let state = (pattern >> bit) % 2;

@@ -1,4 +1,4 @@
--- `pattern_at` meets its contract: USERCODE by pairs; of any other setting, a bit more of the pattern at each turn.
+-- `pattern_at` meets its contract for any setting but USERCODE: a bit more of the pattern at each turn.
 -- Assumes nothing.
 use mathlib.Core.Path.{◌≡◌, refl, ◌∙◌, ap, ap₂}
 use mathlib.Core.Bool.{true}
@@ -18,14 +18,9 @@ use Rattle.setting_bits.specs.declared.Layout.{Layout}
 use Rattle.setting_bits.specs.SettingBits.{bytes_of, byte_of, bit_in, state_of, pattern_at}
 use Rattle.setting_bits.proofs.Edits.{inside, fuse_below}
 use Rattle.setting_bits.proofs.Steps.{bits_few, bit_small, bits_read, read_more}
-use Rattle.setting_bits.proofs.Usercode.{usercode, its_pattern}
 use borrow.Author.Rules.{rules}
 use Rattle.setting_bits.proofs.in_bytes.pattern_at.Invariants.{Read}
 use Rattle.setting_bits.proofs.in_bytes.pattern_at.Goals as goal
-
-of_usercode : (d : Device) (layout : Layout) (bytes : List ℕ) (s : Setting) (width r : ℕ) → has_setting d s ≡ true
-    → width ≡ bits_of s → width ≡ 32 → r ≡ pattern_at d layout bytes usercode → r ≡ pattern_at d layout bytes s
-of_usercode d layout bytes s width r h e q g = g ∙ its_pattern d s h width e q layout bytes
 
 start : (d : Device) (layout : Layout) (bytes : List ℕ) (s : Setting) (width : ℕ) → width ≡ bits_of s → Read d layout bytes s width 0 0
 unfolding gathered
@@ -60,9 +55,6 @@ module _ (d : Device) (layout : Layout) (bytes : List ℕ) (s : Setting) (width 
   end : width ≤ bit → bit ≤ width → pattern ≡ pattern_at d layout bytes s
   unfolding pattern_at
   end l m = let last : bit ≡ bits_of s = omega (arith, r.all) in r.so_far ∙ ap (bits_read d layout bytes s) last
-
-pub returns-then-width-eq32 : goal.returns-then-width-eq32
-returns-then-width-eq32 c = search (rules, of_usercode)
 
 pub loop-bit-init : goal.loop-bit-init
 loop-bit-init c = search (rules, start)

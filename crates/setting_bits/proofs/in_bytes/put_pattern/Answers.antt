@@ -1,4 +1,4 @@
--- `put_pattern` meets its contract: USERCODE by pairs; of any other setting, one more bit put in place at each turn.
+-- `put_pattern` meets its contract for any setting but USERCODE: one more bit put in place at each turn.
 -- Assumes nothing.
 use mathlib.Core.Path.{◌≡◌, refl, sym, ◌∙◌, ap}
 use mathlib.Core.Bool.{true}
@@ -15,21 +15,11 @@ use Rattle.settings.specs.declared.Setting.{Setting}
 use Rattle.setting_places.specs.Places.{bits_of, fuse_of}
 use Rattle.setting_bits.specs.declared.Layout.{Layout}
 use Rattle.setting_bits.specs.SettingBits.{bytes_of, byte_of, bit_in, with_bits, with_pattern}
-use Rattle.setting_bits.proofs.Edits.{inside, fuse_below, set_length}
+use Rattle.setting_bits.proofs.Edits.{inside, fuse_below}
 use Rattle.setting_bits.proofs.Steps.{bits_few, bit_small}
-use Rattle.setting_bits.proofs.Usercode.{usercode, its_bytes}
 use borrow.Author.Rules.{rules}
 use Rattle.setting_bits.proofs.in_bytes.put_pattern.Invariants.{Put}
 use Rattle.setting_bits.proofs.in_bytes.put_pattern.Goals as goal
-
-module _ (d : Device) (layout : Layout) (before : List ℕ) (s : Setting) (pattern width : ℕ) (h : has_setting d s ≡ true)
-    (e : width ≡ bits_of s) (q : width ≡ 32)
-    (after : List ℕ) (g : after ≡ with_pattern d layout before usercode pattern) where
-  of_usercode : after ≡ with_pattern d layout before s pattern
-  of_usercode = g ∙ its_bytes d s h width e q layout before pattern
-
-  kept_usercode : known d ≡ true → length before ≡ bytes_of d layout → length after ≡ length before
-  kept_usercode k size = rw of_usercode (set_length d k layout before size s h pattern)
 
 start : (d : Device) (layout : Layout) (before : List ℕ) (s : Setting) (pattern width : ℕ)
     → length before ≡ bytes_of d layout → width ≡ bits_of s → Put d layout before s pattern width before 0
@@ -69,9 +59,6 @@ module _ (d : Device) (layout : Layout) (before : List ℕ) (s : Setting) (patte
   end : width ≤ bit → bit ≤ width → bytes ≡ with_pattern d layout before s pattern
   unfolding with_pattern
   end l m = let last : bit ≡ bits_of s = omega (arith, r.all) in r.so_far ∙ ap (with_bits d layout before s pattern) last
-
-pub returns-then-last-eq32 : goal.returns-then-last-eq32
-returns-then-last-eq32 c = search (rules, of_usercode)
 
 pub loop-bit-init : goal.loop-bit-init
 loop-bit-init c = search (rules, start)
