@@ -8,7 +8,7 @@ use native.Mathlib.Omega.{arith}
 use native.Mathlib.Nat.{mul_assoc, add_comm, add-zero, zero-add, add-mul-div_right, add-mul-mod_self_right, mod-lt}
 use lib.Arith.{digits_lt}
 use lib.ListN.{length, drop, replicate, length-replicate, replicate-append-replicate}
-use lib.Pow.{pow_pos, pow-add, pow_mono, shl_exact, shr_lt, shr-shr, high, low, mod-pow-add}
+use lib.Pow.{pow_pos, pow-add, shl_exact, shr_lt, shr-shr, high, low, mod-pow-add}
 use lib.Seq.{sets, drop-drop}
 use mir.Syntax.{w64}
 use mir.Val.{Fits}
@@ -18,17 +18,6 @@ use Rattle.cells.proofs.Laws.{cut_append, cut_low, cut_length, regrouped, join_a
 -- The shift of a word of few bits loses none.
 shifted : (cells shift : ℕ) → cells < 2 ^ 48 → shift ≤ 4 → cells * 2 ^ shift % 2 ^ 64 ≡ cells * 2 ^ shift
 shifted cells shift h hs = shl_exact 48 shift 64 h (omega arith)
-
-pub word_fits : (cells carry shift : ℕ) → cells < 2 ^ 48 → shift ≤ 4 → carry < 2 ^ shift → Fits w64 (cells * 2 ^ shift % 2 ^ 64 + carry)
-word_fits cells carry shift h hs hc =
-    let small : cells * 2 ^ shift + carry < 2 ^ 48 * 2 ^ shift = digits_lt h hc in
-    let few : 2 ^ 48 * 2 ^ shift ≤ 2 ^ 52 =
-    subst (λ (y : ℕ). y ≤ 2 ^ 52) (pow-add 2 48 shift) (pow_mono {i = 48 + shift} {j = 52} (omega arith)) in
-    rw (shifted cells shift h hs) (omega arith)
-
-pub over : (cells carry shift bytes : ℕ) → cells < 2 ^ 48 → shift ≤ 4
-    → (cells * 2 ^ shift % 2 ^ 64 + carry) / 2 ^ (bytes * 8) ≡ (cells * 2 ^ shift + carry) / 2 ^ (bytes * 8)
-over cells carry shift bytes h hs = ap (λ (y : ℕ). (y + carry) / 2 ^ (bytes * 8)) (shifted cells shift h hs)
 
 -- Bytes that fill a slice.
 bytes_filled : (n x : ℕ) (out : List ℕ) → length out ≡ n → sets out 0 (cut (replicate n 8) x) ≡ cut (replicate n 8) x

@@ -1,24 +1,24 @@
 -- The bytes that the code makes of the words that it takes from an image are the rows cut from the image's number.
 -- Then the loops over pairs of rows and over blocks.
-use mathlib.Core.Path.{◌≡◌, refl, sym, ◌∙◌, ap, ap₂}
+use mathlib.Core.Path.{◌≡◌, refl, sym, ◌∙◌, ap, ap₂, subst}
 use mathlib.Core.List.{List, ◌++◌}
 use Prim.Native.Nat.{ℕ, ◌+◌, ◌*◌, ◌-◌, ◌/◌, ◌%◌, ◌^◌, ◌≤◌, ◌<◌}
 use native.Mathlib.Omega.{arith}
-use native.Mathlib.Nat.{div-one, mul_assoc}
+use native.Mathlib.Nat.{mod-eq_of_lt, div-one, mul_assoc}
 use borrow.Rule.Slice.PartMut.{put_mid}
 use Rattle.std.proofs.Common.{length-take-le, take_all}
 use lib.ListN.{length, take, drop, replicate, length-replicate, length-drop}
-use lib.Pow.{shr-shr}
+use lib.Pow.{shr-shr, shr_lt}
 use lib.Seq.{sets}
 use Rattle.cells.specs.Cells.{cut, join, total, repeat, number}
-use Rattle.cells.proofs.Laws.{cut_append, cut_length, cut_low, cut_sets, piece, word_at, total_append, total_repeat}
+use Rattle.cells.proofs.Laws.{join_small, total_replicate, cut_append, cut_length, cut_low, cut_sets, piece, word_at, total_append, total_repeat}
 use Rattle.part.specs.Device.{main_columns, main_row_fuses, main_fuses}
 use Rattle.part.specs.Device.{wire_and_columns, wire_and_row_fuses}
 use Rattle.part.specs.declared.Area.{Area}
 use Rattle.part.specs.declared.Area.TheVariants.{Main, WireAnd}
 use Rattle.part.specs.declared.Device.{Device}
 use Rattle.readout_rows.specs.Widths.{row_widths, pair_widths, block_widths, widths, whole_bytes}
-use Rattle.readout_rows.proofs.RowSizes.{main_pairs, wire_and_pairs, pairs_of_block, main_pairs_size, block_whole}
+use Rattle.readout_rows.proofs.RowSizes.{main_size, wire_and_size, main_pairs, wire_and_pairs, pairs_of_block, main_pairs_size, block_whole}
 use Rattle.readout_rows.proofs.Stores.{Filled, none_filled, filled_step, filled_all, turn_within, repeat_more, join_few_cells, sets_whole}
 
 -- Cells of a word of eight bytes after its first `skip` bits, where they lie `past` bits after a start.
@@ -62,51 +62,63 @@ wire_and_row image out one two byte shift at u q h eu e1 e2 =
     ∙ ap (cut (row_widths WireAnd)) (div-one x) in
     e2 ∙ rw e1 (cut_sets out (replicate 1 8) (replicate 4 7) at (u / 2 ^ shift) 1 8 refl refl ∙ ap (sets out at) whole)
 
+-- A row fills its slice.
+pub main_row_filled : (image out one two three : List ℕ) (shift u v w : ℕ) → shift ≤ 4 → 14 ≤ length image → length out ≡ main_columns
+    → u ≡ join (replicate 8 8) image → one ≡ sets out 0 (cut (replicate 4 8) (u / 2 ^ shift))
+    → v ≡ join (replicate 8 8) (drop 4 image) → two ≡ sets one 4 (cut (replicate 5 8) (v / 2 ^ shift))
+    → w ≡ join (replicate 8 8) (drop 6 image) → three ≡ sets two 9 (cut (replicate 6 6) (w / 2 ^ (shift + 24)))
+    → three ≡ cut (row_widths Main) (number image / 2 ^ shift)
+main_row_filled image out one two three shift u v w q h size eu e1 ev e2 ew e3 =
+    let zero : 0 * 8 + shift ≡ shift = omega arith in
+    let cells = cut (row_widths Main) (number image / 2 ^ shift) in
+    main_row image out one two three 0 shift 0 u v w q h eu e1 ev e2 ew e3
+    ∙ ap (λ (t : ℕ). sets out 0 (cut (row_widths Main) (number image / 2 ^ t))) zero
+    ∙ sets_whole out cells (size ∙ sym (cut_length (row_widths Main) (number image / 2 ^ shift) ∙ (main_size Main refl).1))
+
+pub wire_and_row_filled : (image out one two : List ℕ) (shift u : ℕ) → shift ≤ 28 → 8 ≤ length image → length out ≡ wire_and_columns
+    → u ≡ join (replicate 8 8) image → one ≡ sets out 0 (cut (replicate 1 8) (u / 2 ^ shift))
+    → two ≡ sets one 1 (cut (replicate 4 7) (u / 2 ^ shift / 2 ^ 8)) → two ≡ cut (row_widths WireAnd) (number image / 2 ^ shift)
+wire_and_row_filled image out one two shift u q h size eu e1 e2 =
+    let zero : 0 * 8 + shift ≡ shift = omega arith in
+    let cells = cut (row_widths WireAnd) (number image / 2 ^ shift) in
+    wire_and_row image out one two 0 shift 0 u q h eu e1 e2
+    ∙ ap (λ (t : ℕ). sets out 0 (cut (row_widths WireAnd) (number image / 2 ^ t))) zero
+    ∙ sets_whole out cells (size ∙ sym (cut_length (row_widths WireAnd) (number image / 2 ^ shift) ∙ (wire_and_size WireAnd refl).1))
+
+-- The number of the bytes from an index on.
+number_drop : (image : List ℕ) (p : ℕ) → p ≤ length image → number (drop p image) ≡ number image / 2 ^ (p * 8)
+unfolding number
+number_drop image p h =
+    let n = length image - p in
+    let size : length (drop p image) ≡ n = length-drop p image in
+    let bits : total (replicate (length image) 8) ≡ n * 8 + p * 8 = total_replicate (length image) 8 ∙ omega arith in
+    let small : number image < 2 ^ (n * 8 + p * 8) =
+    subst (λ (t : ℕ). number image < 2 ^ t) bits (join_small (replicate (length image) 8) image) in
+    rw size (word_at image p n (omega arith) ∙ mod-eq_of_lt (shr_lt (n * 8) (p * 8) small))
+
 -- Two rows, of which the second starts in the middle of a byte.
-pair_of : (area : Area) (image out one two : List ℕ) (byte at k shift n t : ℕ) → length (row_widths area) ≡ n
-    → total (row_widths area) ≡ t → t ≡ k * 8 + shift → one ≡ sets out at (cut (row_widths area) (number image / 2 ^ (byte * 8 + 0)))
-    → two ≡ sets one (at + n) (cut (row_widths area) (number image / 2 ^ ((byte + k) * 8 + shift)))
-    → two ≡ sets out at (cut (pair_widths area) (number image / 2 ^ (byte * 8)))
+pair_of : (area : Area) (image behind one two : List ℕ) (k shift t : ℕ) → k ≤ length image → behind ≡ drop k image
+    → total (row_widths area) ≡ t → t ≡ k * 8 + shift → one ≡ cut (row_widths area) (number image / 2 ^ 0)
+    → two ≡ cut (row_widths area) (number behind / 2 ^ shift) → one ++ two ≡ cut (pair_widths area) (number image)
 unfolding pair_widths
-pair_of area image out one two byte at k shift n t en et ek e1 e2 =
-    let start : byte * 8 + 0 ≡ byte * 8 = omega arith in
-    let second : (byte + k) * 8 + shift ≡ byte * 8 + t = omega arith in
-    e2
-    ∙ rw (e1, start, second, ← shr-shr (number image) (byte * 8) t)
-    (cut_sets out (row_widths area) (row_widths area) at (number image / 2 ^ (byte * 8)) n t en et)
+pair_of area image behind one two k shift t h eb et ek e1 e2 =
+    let ws = row_widths area in
+    let x = number image in
+    let second : number behind / 2 ^ shift ≡ x / 2 ^ total ws =
+    ap (λ (l : List ℕ). number l / 2 ^ shift) eb ∙ ap (λ (y : ℕ). y / 2 ^ shift) (number_drop image k h) ∙ shr-shr x (k * 8) shift
+    ∙ ap (λ (j : ℕ). x / 2 ^ j) (sym ek ∙ sym et) in
+    ap₂ ◌++◌ (e1 ∙ ap (cut ws) (div-one x)) (e2 ∙ ap (cut ws) second) ∙ sym (cut_append ws ws x)
 
-pub main_pair_out : (area : Area) (image out one two : List ℕ) (byte at : ℕ) → area ≡ Main
-    → one ≡ sets out at (cut (row_widths Main) (number image / 2 ^ (byte * 8 + 0)))
-    → two ≡ sets one (at + main_columns) (cut (row_widths Main) (number image / 2 ^ ((byte + 13) * 8 + 4)))
-    → two ≡ sets out at (cut (pair_widths area) (number image / 2 ^ (byte * 8)))
-unfolding row_widths total
-main_pair_out area image out one two byte at e e1 e2 =
-    rw e (pair_of Main image out one two byte at 13 4 main_columns main_row_fuses refl refl refl e1 e2)
+pub main_rows_lem : (image behind one two : List ℕ) → 13 ≤ length image → behind ≡ drop 13 image
+    → one ≡ cut (row_widths Main) (number image / 2 ^ 0) → two ≡ cut (row_widths Main) (number behind / 2 ^ 4)
+    → one ++ two ≡ cut (pair_widths Main) (number image)
+main_rows_lem image behind one two h eb e1 e2 = pair_of Main image behind one two 13 4 main_row_fuses h eb (main_size Main refl).0 refl e1 e2
 
-pub wire_and_pair_out : (area : Area) (image out one two : List ℕ) (byte at : ℕ) → area ≡ WireAnd
-    → one ≡ sets out at (cut (row_widths WireAnd) (number image / 2 ^ (byte * 8 + 0)))
-    → two ≡ sets one (at + wire_and_columns) (cut (row_widths WireAnd) (number image / 2 ^ ((byte + 1) * 8 + 28)))
-    → two ≡ sets out at (cut (pair_widths area) (number image / 2 ^ (byte * 8)))
-unfolding row_widths total
-wire_and_pair_out area image out one two byte at e e1 e2 =
-    rw e (pair_of WireAnd image out one two byte at 1 28 wire_and_columns wire_and_row_fuses refl refl refl e1 e2)
-
--- A pair of rows fills its slice.
-module _ (area : Area) (image out one two : List ℕ) (size : length out ≡ length (pair_widths area)) where
-  filled : two ≡ sets out 0 (cut (pair_widths area) (number image / 2 ^ (0 * 8))) → two ≡ cut (pair_widths area) (number image)
-  filled e =
-      let cells = cut (pair_widths area) (number image) in
-      e ∙ ap (λ (x : ℕ). sets out 0 (cut (pair_widths area) x)) (div-one (number image))
-      ∙ sets_whole out cells (size ∙ sym (cut_length (pair_widths area) (number image)))
-
-  pub main_pair_filled : area ≡ Main → one ≡ sets out 0 (cut (row_widths Main) (number image / 2 ^ 0))
-      → two ≡ sets one main_columns (cut (row_widths Main) (number image / 2 ^ (13 * 8 + 4))) → two ≡ cut (pair_widths area) (number image)
-  main_pair_filled e e1 e2 = filled (main_pair_out area image out one two 0 0 e e1 e2)
-
-  pub wire_and_pair_filled : area ≡ WireAnd → one ≡ sets out 0 (cut (row_widths WireAnd) (number image / 2 ^ 0))
-      → two ≡ sets one wire_and_columns (cut (row_widths WireAnd) (number image / 2 ^ (1 * 8 + 28)))
-      → two ≡ cut (pair_widths area) (number image)
-  wire_and_pair_filled e e1 e2 = filled (wire_and_pair_out area image out one two 0 0 e e1 e2)
+pub wire_and_rows_lem : (image behind one two : List ℕ) → 1 ≤ length image → behind ≡ drop 1 image
+    → one ≡ cut (row_widths WireAnd) (number image / 2 ^ 0) → two ≡ cut (row_widths WireAnd) (number behind / 2 ^ 28)
+    → one ++ two ≡ cut (pair_widths WireAnd) (number image)
+wire_and_rows_lem image behind one two h eb e1 e2 =
+    pair_of WireAnd image behind one two 1 28 wire_and_row_fuses h eb (wire_and_size WireAnd refl).0 refl e1 e2
 
 -- Cells that are some whole bytes of an image, cut from these bytes alone.
 part_cut : (image ws : List ℕ) (p w n : ℕ) → total ws ≡ w * 8 → p + w ≤ length image → n ≡ w

@@ -11,45 +11,57 @@ use cells::words::{put_cells, word8};
 use part::{Area, KnownDevice};
 use readout_rows::sizes;
 
-// The bytes of a main row of an image that starts at a bit of a byte.
-fn main_row_out(image: &[u8], byte: usize, shift: u32, out: &mut [u8], at: usize)
-    requires { (shift ≤ 4) × (byte + 14 ≤ length image.now) × (at + main_columns ≤ length out.old) }
-    ensures { out.new
-        ≡ sets out.old at (cut (row_widths Main) (number image.now / 2 ^ (byte * 8 + shift))) }
+// The bytes of a main row that starts at a bit of the first byte of an image.
+fn main_row_out(image: &[u8], shift: u32, out: &mut [u8])
+    requires { (shift ≤ 4) × (14 ≤ length image.now) × (length out.old ≡ main_columns) }
+    ensures { out.new ≡ cut (row_widths Main) (number image.now / 2 ^ shift) }
 {
-    put_cells(word8(image, byte) >> shift, 8, 4, out, at);
-    put_cells(word8(image, byte + 4) >> shift, 8, 5, out, at + 4);
-    put_cells(word8(image, byte + 6) >> (shift + 24), 6, 6, out, at + 9);
+    put_cells(word8(image, 0) >> shift, 8, 4, out, 0);
+    put_cells(word8(image, 4) >> shift, 8, 5, out, 4);
+    put_cells(word8(image, 6) >> (shift + 24), 6, 6, out, 9);
 }
 
-// The bytes of a wire-AND row of an image that starts at a bit of the eight bytes taken. For the second row of a pair
-// they end with the row, since the last row ends the image.
-fn wire_and_row_out(image: &[u8], byte: usize, shift: u32, out: &mut [u8], at: usize)
-    requires { (shift ≤ 28) × (byte + 8 ≤ length image.now) × (at + wire_and_columns ≤ length out.old) }
-    ensures { out.new ≡ sets out.old at
-        (cut (row_widths WireAnd) (number image.now / 2 ^ (byte * 8 + shift))) }
+// The bytes of a wire-AND row that starts at a bit of the first eight bytes of an image, and ends in them.
+fn wire_and_row_out(image: &[u8], shift: u32, out: &mut [u8])
+    requires { (shift ≤ 28) × (8 ≤ length image.now) × (length out.old ≡ wire_and_columns) }
+    ensures { out.new ≡ cut (row_widths WireAnd) (number image.now / 2 ^ shift) }
 {
-    let word = word8(image, byte) >> shift;
-    put_cells(word, 8, 1, out, at);
-    put_cells(word >> 8, 7, 4, out, at + 1);
+    let word = word8(image, 0) >> shift;
+    put_cells(word, 8, 1, out, 0);
+    put_cells(word >> 8, 7, 4, out, 1);
 }
 
-// The bytes of two rows of an image. The second row starts in the middle of a byte: a main row is 13 bytes and 4 bits,
-// and a wire-AND row is 1 byte and 28 bits.
+// The bytes of two main rows of an image. A row is 13 bytes and 4 bits, so the second one starts in the middle of a byte.
+fn main_rows_out(image: &[u8], out: &mut [u8])
+    requires { (length image.now ≡ 27) × (length out.old ≡ 2 * main_columns) }
+    ensures { out.new ≡ cut (pair_widths Main) (number image.now) }
+{
+    let (_, behind) = image.split_at(13);
+    let (first, second) = out.split_at_mut(sizes::MAIN_COLUMNS);
+    main_row_out(image, 0, first);
+    main_row_out(behind, 4, second);
+}
+
+// The bytes of two wire-AND rows of an image. A row is 4 bytes and 4 bits; of the second one eight bytes are taken.
+fn wire_and_rows_out(image: &[u8], out: &mut [u8])
+    requires { (length image.now ≡ 9) × (length out.old ≡ 2 * wire_and_columns) }
+    ensures { out.new ≡ cut (pair_widths WireAnd) (number image.now) }
+{
+    let (_, behind) = image.split_at(1);
+    let (first, second) = out.split_at_mut(sizes::WIRE_AND_COLUMNS);
+    wire_and_row_out(image, 0, first);
+    wire_and_row_out(behind, 28, second);
+}
+
+// The bytes of two rows of an image.
 fn pair_out(area: Area, image: &[u8], out: &mut [u8])
     requires { (length image.now ≡ whole_bytes (pair_widths area))
         × (length out.old ≡ length (pair_widths area)) }
     ensures { out.new ≡ cut (pair_widths area) (number image.now) }
 {
     match area {
-        Area::Main => {
-            main_row_out(image, 0, 0, out, 0);
-            main_row_out(image, 13, 4, out, sizes::MAIN_COLUMNS);
-        }
-        Area::WireAnd => {
-            wire_and_row_out(image, 0, 0, out, 0);
-            wire_and_row_out(image, 1, 28, out, sizes::WIRE_AND_COLUMNS);
-        }
+        Area::Main => main_rows_out(image, out),
+        Area::WireAnd => wire_and_rows_out(image, out),
     }
 }
 
