@@ -154,7 +154,7 @@ fn set_numbered(
         return Ok(());
     }
     let s = setting_of(part, number);
-    if !fits(bits_of(s), pattern) {
+    if !fits(bits_of(s.setting), pattern) {
         return Err(Refusal::NoSuchValue);
     }
     if let Some(above) = above_in(layout, bytes, s) {

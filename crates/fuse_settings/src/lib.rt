@@ -37,7 +37,7 @@ pub fn setting_at_fuse(d: Device, fuse: FuseNumber) -> Result<Option<SettingBit>
     let Ok(there) = DeviceSetting::new(part, candidate.setting) else {
         return Ok(None);
     };
-    if bits_of(there) <= candidate.bit {
+    if bits_of(candidate.setting) <= candidate.bit {
         return Ok(None);
     }
     let found = fuse_of(there, candidate.bit);

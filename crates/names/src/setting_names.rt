@@ -247,7 +247,7 @@ fn bit_part(there: DeviceSetting, bit: u32) -> Piece
     requires { bit < bits_of there.setting }
     ensures { (Holds result (bit_text there.setting bit)) × (result.len ≤ 3) }
 {
-    if bits_of(there) <= 1 {
+    if bits_of(there.setting) <= 1 {
         return NOTHING;
     }
     numbered(DOT, bit)

@@ -143,7 +143,7 @@ pub fn pattern_at(layout: Layout, bytes: &[u8], s: DeviceSetting) -> u32
     if let Setting::Global(GlobalField::Usercode) = s.setting {
         return usercode_at(s.device, layout, bytes);
     }
-    let width = bits_of(s);
+    let width = bits_of(s.setting);
     let mut pattern: u32 = 0;
     for bit in 0..width {
         let location = location_of(layout, s, bit);
@@ -162,7 +162,7 @@ pub fn put_pattern(layout: Layout, bytes: &mut [u8], s: DeviceSetting, pattern: 
         put_usercode(s.device, layout, bytes, pattern);
         return;
     }
-    let last = bits_of(s);
+    let last = bits_of(s.setting);
     for bit in 0..last {
         let location = location_of(layout, s, bit);
         let state = (pattern >> bit) % 2;

@@ -34,7 +34,7 @@ pub fn bits_of_setting(d: Device, s: Setting) -> Result<u32, Refusal>
 {
     let part = KnownDevice::try_from(d)?;
     let there = DeviceSetting::new(part, s)?;
-    Ok(places::bits_of(there))
+    Ok(places::bits_of(there.setting))
 }
 
 // The fuse at a place, with its address and its bit: no fuse is converted.
@@ -58,7 +58,7 @@ fn located(d: KnownDevice, place: Place) -> FuseAt
 fn bit_at(there: DeviceSetting, bit: u32) -> Option<FuseAt>
     ensures { accepted (option_of located_fuse result) ≡ located_bit there.device.device there.setting bit }
 {
-    if places::bits_of(there) <= bit {
+    if places::bits_of(there.setting) <= bit {
         return None;
     }
     let place = places::place_of(there, bit);

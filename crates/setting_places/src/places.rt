@@ -13,7 +13,9 @@ use part::places::fuse_of_place;
 use part::quotients::{MAIN_COLUMN_FACTOR, divided};
 use part::{BytePlace, Device, FuseNumber, KnownDevice, Place};
 use settings::numbers::{TERM_LITERALS, WireAndIndices};
-use settings::{BlockField, DeviceSetting, GlobalField, Polarity, Setting, SettingNumber};
+use settings::{
+    BlockField, DeviceSetting, GlobalField, MacrocellField, Polarity, Setting, SettingNumber,
+};
 
 // The factors that divide the number of a literal by the literals of a term, and that of a term by the columns, with
 // their shifts.
@@ -87,14 +89,30 @@ fn global_bits(field: GlobalField) -> u32
     }
 }
 
-// How many bits a setting has.
-pub fn bits_of(there: DeviceSetting) -> u32
-    ensures { result ≡ bits_of there.setting }
+// The bits of a macrocell field, one in each of its rows. A match answers for every field, an ALLOC or HP of a term
+// that there is not too; the table has the rows of those that a macrocell has.
+fn macrocell_bits(field: MacrocellField) -> u32
+    ensures { result ≡ rows field }
 {
-    match there.setting {
+    match field {
+        MacrocellField::Alloc(_)
+        | MacrocellField::IobOeMux
+        | MacrocellField::ClkMux
+        | MacrocellField::UimOeMux => 2,
+        MacrocellField::OeMux => 3,
+        _ => 1,
+    }
+}
+
+// How many bits a setting has, on any device.
+#[tactic(auto, unfolding(crate::specs::Places::bits_of))]
+pub fn bits_of(s: Setting) -> u32
+    ensures { result ≡ bits_of s }
+{
+    match s {
         Setting::Literal { .. } => 1,
         Setting::WireAnd { .. } => 1,
-        Setting::Macrocell { field, .. } => field_rows(field.index()).count,
+        Setting::Macrocell { field, .. } => macrocell_bits(field),
         Setting::Block { .. } => 1,
         Setting::Global(field) => global_bits(field),
     }
