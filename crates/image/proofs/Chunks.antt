@@ -12,8 +12,8 @@ chunk_at n (suc m) xs (suc k) h =
     chunk_at n m (drop n xs) k (le_of_suc-le-suc h) ∙ ap (take n) (drop-drop (k * n) n xs ∙ ap (λ (i : ℕ). drop i xs) there)
 
 -- A byte of a chunk.
-pub chunk_byte : (n m : ℕ) (xs : List ℕ) (whole : List (List ℕ)) (k i : ℕ) → whole ≡ first_chunks n m xs → length whole ≡ m → k < length whole
-    → i < n → get_or (get_or whole k []) i 0 ≡ get_or xs (k * n + i) 0
+pub chunk_byte : (n m : ℕ) (xs : List ℕ) (whole : List (List ℕ)) (k i : ℕ) → whole ≡ first_chunks n m xs → length whole ≡ m
+    → k < length whole → i < n → get_or (get_or whole k []) i 0 ≡ get_or xs (k * n + i) 0
 chunk_byte n m xs whole k i e long h hi =
     ap (λ (cs : List (List ℕ)). get_or (get_or cs k []) i 0) e ∙ ap (λ (l : List ℕ). get_or l i 0) (chunk_at n m xs k (omega arith))
     ∙ get_or-take n (drop (k * n) xs) i 0 hi ∙ get_or-drop (k * n) xs i 0

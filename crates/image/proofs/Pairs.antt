@@ -41,7 +41,8 @@ module _ (x b states : ℕ) (two : states < 4) where
 
 -- A list with two neighbouring bits of one byte put in place.
 pub with_pair : (bytes : List ℕ) (index b states : ℕ) → index < length bytes → states < 4
-    → with_bit (with_bit bytes index b (states % 2)) index (b + 1) (states / 2) ≡ set bytes index (put_bits (get_or bytes index 0) b 2 states)
+    → with_bit (with_bit bytes index b (states % 2)) index (b + 1) (states / 2)
+    ≡ set bytes index (put_bits (get_or bytes index 0) b 2 states)
 unfolding with_bit
 with_pair bytes index b states there two =
     rw (

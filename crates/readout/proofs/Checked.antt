@@ -34,7 +34,8 @@ module _ (d : Device) (i x r y : ℕ) (o : Outcome (Unit {0})) (result before : 
   still_refused : (n v : ℕ) → refused n v ≡ tested d i x r y done → refused n v ≡ tested d i x r y o
   still_refused n v = go (known d) (eqb i x) (eqb r y)
     where
-      go : (a b c : Bool) → ◌≡◌ {A = Outcome (Unit {0})} (refused n v) (cond a (cond b (cond c done (refused 2 0)) (refused 2 0)) (refused 1 0))
+      go : (a b c : Bool)
+          → ◌≡◌ {A = Outcome (Unit {0})} (refused n v) (cond a (cond b (cond c done (refused 2 0)) (refused 2 0)) (refused 1 0))
           → refused n v ≡ cond a (cond b (cond c o (refused 2 0)) (refused 2 0)) (refused 1 0)
       go true true true h = cc
       go true true false h = h

@@ -53,7 +53,8 @@ pub main_rows_lem : (readout first second front back : List ℕ) (carry : ℕ) �
 unfolding row_widths pair_widths whole_bytes bytes_in total
 main_rows_lem readout first second front back carry size ef es d1 e1 e2 =
     let row = row_widths Main in
-    let alone : join row first ≡ join row readout = ap (join row) ef ∙ join_few_cells row readout main_columns (omega arith) (omega arith) in
+    let alone : join row first ≡ join row readout =
+    ap (join row) ef ∙ join_few_cells row readout main_columns (omega arith) (omega arith) in
     let carried : carry ≡ (join row readout * 2 ^ 0 + 0) / 2 ^ (13 * 8) = d1 ∙ ap (λ (x : ℕ). (x * 2 ^ 0 + 0) / 2 ^ (13 * 8)) alone in
     let all : join (row ++ row) readout * 2 ^ 0 + 0 ≡ join (row ++ row) readout = omega arith in
     ap₂ ◌++◌ (e1 ∙ ap (λ (x : ℕ). cut (replicate 13 8) (x * 2 ^ 0 + 0)) alone)

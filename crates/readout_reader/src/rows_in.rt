@@ -1,7 +1,6 @@
 // Readout to image two rows at a time, by words of eight bytes.
 // Two rows are whole bytes of an image, so every pair starts at a byte.
 ghost use Rattle.std.specs.Prelude.{◌≡◌, ◌+◌, ◌*◌, ◌-◌, ◌/◌, ◌^◌, ◌<◌, ◌≤◌, length, drop, replicate};
-ghost use Rattle.std.proofs.lemmas.List.Edits.{sets};
 ghost use Rattle.cells.specs.Cells.{cut, join, repeat};
 ghost use Rattle.part.specs.Device.{image_bytes, readout_bytes, main_columns, wire_and_columns};
 ghost use Rattle.part.specs.declared.Area.TheVariants.{Main, WireAnd};
@@ -136,11 +135,8 @@ fn pairs_in(area: Area, readout: &[u8], image: &mut [u8], count: usize)
     for k in 0..count {
         let from = k * bytes;
         let at = k * whole;
-        pair_in(
-            area,
-            &readout[from..from + bytes],
-            &mut image[at..at + whole],
-        );
+        let pair = &readout[from..from + bytes];
+        pair_in(area, pair, &mut image[at..at + whole]);
     }
 }
 

@@ -112,7 +112,8 @@ pair_of area image behind one two k shift t h eb et ek e1 e2 =
 pub main_rows_lem : (image behind one two : List ℕ) → 13 ≤ length image → behind ≡ drop 13 image
     → one ≡ cut (row_widths Main) (number image / 2 ^ 0) → two ≡ cut (row_widths Main) (number behind / 2 ^ 4)
     → one ++ two ≡ cut (pair_widths Main) (number image)
-main_rows_lem image behind one two h eb e1 e2 = pair_of Main image behind one two 13 4 main_row_fuses h eb (main_size Main refl).0 refl e1 e2
+main_rows_lem image behind one two h eb e1 e2 =
+    pair_of Main image behind one two 13 4 main_row_fuses h eb (main_size Main refl).0 refl e1 e2
 
 pub wire_and_rows_lem : (image behind one two : List ℕ) → 1 ≤ length image → behind ≡ drop 1 image
     → one ≡ cut (row_widths WireAnd) (number image / 2 ^ 0) → two ≡ cut (row_widths WireAnd) (number behind / 2 ^ 28)
@@ -192,10 +193,11 @@ block_of_pairs d image first last one two size ef el e1 e2 =
     ap (λ (l : List ℕ). cut vs (number l)) rest
     ∙ part_cut image vs m n n (omega (arith, main_pairs_size.0)) (omega (arith, main_pairs_size.0)) refl
     ∙ ap (λ (j : ℕ). cut vs (number image / 2 ^ j)) (sym main_pairs_size.0) in
-    ap₂ ◌++◌ (e1 ∙ front) (e2 ∙ back) ∙ sym (cut_append ws vs (number image)) ∙ ap (λ (l : List ℕ). cut l (number image)) (sym (pairs_of_block d))
+    ap₂ ◌++◌ (e1 ∙ front) (e2 ∙ back) ∙ sym (cut_append ws vs (number image))
+    ∙ ap (λ (l : List ℕ). cut l (number image)) (sym (pairs_of_block d))
 
 -- The loop over the blocks of a device.
-pub blocks_out_all : (d : Device) (image out : List ℕ) (k : ℕ) → FilledOut (block_widths d) image out d.blocks k → k ≤ d.blocks → d.blocks ≤ k
-    → out ≡ cut (widths d) (number image)
+pub blocks_out_all : (d : Device) (image out : List ℕ) (k : ℕ) → FilledOut (block_widths d) image out d.blocks k → k ≤ d.blocks
+    → d.blocks ≤ k → out ≡ cut (widths d) (number image)
 unfolding widths
 blocks_out_all d image out k now h g = all_out (block_widths d) image out d.blocks k now h g

@@ -1,7 +1,6 @@
 // Image to readout two rows at a time, by words of eight bytes.
 // Two rows are whole bytes of an image, so every pair starts at a byte.
 ghost use Rattle.std.specs.Prelude.{◌≡◌, ◌+◌, ◌*◌, ◌/◌, ◌^◌, ◌≤◌, length};
-ghost use Rattle.std.proofs.lemmas.List.Edits.{sets};
 ghost use Rattle.cells.specs.Cells.{cut, repeat, number};
 ghost use Rattle.part.specs.Device.{image_bytes, readout_bytes, main_columns, wire_and_columns};
 ghost use Rattle.part.specs.declared.Area.TheVariants.{Main, WireAnd};
@@ -31,7 +30,7 @@ fn wire_and_row_out(image: &[u8], shift: u32, out: &mut [u8])
     put_cells(word >> 8, 7, 4, out, 1);
 }
 
-// The bytes of two main rows of an image. A row is 13 bytes and 4 bits, so the second one starts in the middle of a byte.
+// The bytes of two main rows of an image. A row is 13 bytes and 4 bits: the second one starts in the middle of a byte.
 fn main_rows_out(image: &[u8], out: &mut [u8])
     requires { (length image.now ≡ 27) × (length out.old ≡ 2 * main_columns) }
     ensures { out.new ≡ cut (pair_widths Main) (number image.now) }

@@ -18,7 +18,8 @@ module _ (p d : Device) (image before : List ℕ) (k : known p ≡ true) (same :
   image_size : length image ≡ image_bytes p
   image_size = rw same (exact_image d (length image) (image_bytes d) (length before) (readout_bytes d) h)
 
-  converted : (after : List ℕ) → after ≡ cut (widths p) (number image) → Written (to_readout d image before) done (readout_of d image) before after
+  converted : (after : List ℕ) → after ≡ cut (widths p) (number image)
+      → Written (to_readout d image before) done (readout_of d image) before after
   unfolding to_readout readout_of
   converted after e =
       passed_on d (length image) (image_bytes d) (length before) (readout_bytes d) h done done (readout_of d image) before after refl

@@ -24,7 +24,8 @@ returns-in_err-rows_above c = search (rules, block_in_none)
 
 pub overflow_add-result : goal.overflow_add-result
 overflow_add-result c =
-    block_fits _ _ _ c.requires c.split_at.ensures.front _ c.split_at.ensures.back c.in_default.ensures _ c.in_ok-rows_above.ensures (search rules)
+    block_fits _ _ _ c.requires c.split_at.ensures.front _ c.split_at.ensures.back c.in_default.ensures _
+    c.in_ok-rows_above.ensures (search rules)
 
 pub returns : goal.returns
 returns c =
