@@ -284,7 +284,10 @@ fn settings_digest(d: Device, count: u32) -> u64 {
 
 // All fuses, and the number after the last.
 fn fuses_digest(d: Device, count: u32) -> u64 {
-    let all = (0..count).fold(0, |digest, fuse| vectors::taken_in(digest, at_fuse(d, fuse)));
+    let all = (0..count).fold(
+        0,
+        |digest, fuse| vectors::taken_in(digest, at_fuse(d, fuse)),
+    );
     vectors::taken_in(all, at_fuse(d, count))
 }
 
@@ -336,7 +339,10 @@ fn offers_of_number(digest: u64, d: Device, number: u32) -> u64 {
     match settings::setting_of_number(SAMPLE, SettingNumber(number)) {
         Ok(s) => patterns(setting_places::bits_of_setting(SAMPLE, s).unwrap_or(0))
             .iter()
-            .fold(digest, |digest, pattern| offers_of_pattern(digest, d, s, *pattern)),
+            .fold(
+                digest,
+                |digest, pattern| offers_of_pattern(digest, d, s, *pattern),
+            ),
         Err(_) => digest,
     }
 }
