@@ -14,7 +14,6 @@ use Rattle.image.specs.Bits.{bit_at}
 use Rattle.image.specs.Image.{state}
 use Rattle.image.proofs.Bits.{bit_above, gathered_bit, gathered_small}
 use Rattle.jedec.specs.Cut.{Field}
-use Rattle.jedec.specs.Judge.Judged.{start, bad}
 use Rattle.jedec.specs.Rules.{Listed, Given, nothing_given, all_fields, end_of, misplaced, start_state}
 use Rattle.jedec.specs.Rules.{inside, state_given, within, image_with, finished}
 use Rattle.jedec.specs.Rules.Fields.{all_good}

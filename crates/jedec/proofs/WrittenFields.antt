@@ -3,7 +3,7 @@
 use mathlib.Core.Path.{◌≡◌, refl, sym, ◌∙◌, ap}
 use mathlib.Core.Bool.{true}
 use mathlib.Core.List.{List, [], ◌∷◌, ◌++◌, append_assoc}
-use Prim.Native.Nat.{ℕ, ◌+◌, ◌-◌}
+use Prim.Native.Nat.{ℕ, ◌+◌}
 use Rattle.cells.specs.Cells.{total}
 use Rattle.image.specs.Image.{sum16}
 use Rattle.jedec.specs.Characters.{stx, etx, lf, star, letter_c, letter_f, letter_q, decimal_digit, count_digits, four_hex}

@@ -1,15 +1,16 @@
 // The refusals 8, 9, 13, 10 and 11, and the answer to a text whose fields are read.
-// A function here may require that a text is not too long and that ETX is in it.
-ghost use Rattle.std.specs.Prelude.{◌≡◌, ◌<◌, ◌≤◌, length};
+// A function here may require that ETX is in the text.
+ghost use Rattle.std.specs.Prelude.{◌≡◌, ◌<◌, length};
 ghost use Rattle.std.proofs.Math.Option.Option.{some};
 ghost use Rattle.part.specs.Answer.{done_outcome};
 ghost use Rattle.part.specs.Outcome.Outcome.{accepted};
 ghost use Rattle.jedec.specs.Rules.{Given, wrong_count, without_start};
-ghost use Rattle.jedec.specs.Meaning.{longest, unless, wrong_sum, wrong_transmission, concluded, with_end};
+ghost use Rattle.jedec.specs.Meaning.{unless, wrong_sum, wrong_transmission, concluded, with_end};
 ghost use Rattle.jedec_progress.specs.Progress.{optional_field, optional_number, ProgressKnows};
 ghost use Rattle.jedec_end.specs.End.{TextRead};
 
 use super::tail::tail_from;
+use jedec::ShortText;
 use jedec_progress::progress::{GivenAt, Progress};
 use part::Refusal;
 
@@ -57,12 +58,12 @@ fn check_sum(image: &[u8], sum: Option<GivenAt>) -> Result<(), Refusal>
 }
 
 // Refusal 11: the transmission sum differs and is not 0000.
-fn check_transmission(text: &[u8], etx: usize, given: u32) -> Result<(), Refusal>
-    requires { (etx < length text.now) × (length text.now ≤ longest) }
-    ensures { done_outcome result ≡ unless 11 (wrong_transmission text.now etx given) (accepted tt) }
+fn check_transmission(text: ShortText, etx: usize, given: u32) -> Result<(), Refusal>
+    requires { etx < length text.bytes.now }
+    ensures { done_outcome result ≡ unless 11 (wrong_transmission text.entry.bytes.now etx given) (accepted tt) }
 {
     let end = etx + 1;
-    if given == 0 || given == image::bytes::sum_of(&text[..end]) as u32 {
+    if given == 0 || given == image::bytes::sum_of(&text.bytes[..end]) as u32 {
         return Ok(());
     }
     Err(Refusal::WrongTransmissionSum(etx as u32))
@@ -71,15 +72,15 @@ fn check_transmission(text: &[u8], etx: usize, given: u32) -> Result<(), Refusal
 // A text of good form is refused by the first of 8, 9, 13, 10 and 11, or else the image is the text's.
 fn conclude(
     fuses: u32,
-    text: &[u8],
+    text: ShortText,
     etx: usize,
     given: u32,
     p: Progress,
     image: &[u8],
 ) -> Result<(), Refusal>
-    requires { (etx < length text.now) × (length text.now ≤ longest) }
+    requires { etx < length text.bytes.now }
     ensures { (k : Given) → ProgressKnows fuses p k image.now
-        → TextRead (concluded fuses text.now etx given k) (done_outcome result) image.now }
+        → TextRead (concluded fuses text.entry.bytes.now etx given k) (done_outcome result) image.now }
 {
     check_count(fuses, etx as u32, p.count)?;
     check_lists(p.misplaced)?;
@@ -89,12 +90,18 @@ fn conclude(
 }
 
 // The answer to a text by what stands from the ETX after the fields on.
-pub fn finish(fuses: u32, text: &[u8], etx: usize, p: Progress, image: &[u8]) -> Result<(), Refusal>
-    requires { (etx < length text.now) × (length text.now ≤ longest) }
+pub fn finish(
+    fuses: u32,
+    text: ShortText,
+    etx: usize,
+    p: Progress,
+    image: &[u8],
+) -> Result<(), Refusal>
+    requires { etx < length text.bytes.now }
     ensures { (k : Given) → ProgressKnows fuses p k image.now
-        → TextRead (with_end fuses text.now k (some etx)) (done_outcome result) image.now }
+        → TextRead (with_end fuses text.entry.bytes.now k (some etx)) (done_outcome result) image.now }
 {
-    match tail_from(text, etx + 1) {
+    match tail_from(text.bytes, etx + 1) {
         Ok(given) => conclude(fuses, text, etx, given, p, image),
         Err(at) => Err(Refusal::BadForm(at as u32)),
     }

@@ -1,14 +1,14 @@
 // The reader for a count of fuses: the fields one after another, and the end.
-// A function here may require that an image has its length, a text its limit, and a position is in the text.
+// A function here may require that an image has its length, and that a position is in the text.
 ghost use Rattle.std.specs.Prelude.{◌≡◌, [], ◌+◌, ◌/◌, ◌<◌, ◌≤◌, length, drop};
 ghost use Rattle.part.specs.Answer.{done_outcome};
 ghost use Rattle.jedec.specs.Rules.{state_given, image_with};
-ghost use Rattle.jedec.specs.Meaning.{longest, of_cut, meaning};
+ghost use Rattle.jedec.specs.Meaning.{of_cut, meaning};
 ghost use Rattle.jedec_fields.specs.Fields.{fields_at};
 ghost use Rattle.jedec_end.specs.End.{TextRead};
 ghost use Rattle.jedec_reader.specs.Walk.{largest_image, ReadInto};
 
-use jedec::{LONGEST_TEXT, STX};
+use jedec::{STX, ShortText};
 use jedec_end::conclusion::finish;
 use jedec_fields::NextSays;
 use jedec_fields::scan::{next_judged, next_star};
@@ -18,22 +18,18 @@ use jedec_progress::progress::Progress;
 use part::Refusal;
 use part::geometry::{MAIN_IMAGE_BYTES, SUBAREA_IMAGE_BYTES};
 
-// The longest text that is read, as a length.
-const LONGEST_LENGTH: usize = LONGEST_TEXT as usize;
-
 // The bytes of an image of sixteen blocks: no device has more.
 const LARGEST_IMAGE: usize = (16 * (MAIN_IMAGE_BYTES + 16 * SUBAREA_IMAGE_BYTES)) as usize;
 
 // The fields from an offset on, one after another, and the end.
-fn walk(fuses: u32, text: &[u8], from: usize, image: &mut [u8]) -> Result<(), Refusal>
-    requires { (from ≤ length text.now) × (length text.now ≤ longest)
-        × (image.old ≡ image_with fuses (state_given 0 [])) }
-    ensures { TextRead (of_cut fuses text.now (fields_at from (drop from text.now)))
+fn walk(fuses: u32, text: ShortText, from: usize, image: &mut [u8]) -> Result<(), Refusal>
+    requires { (from ≤ length text.bytes.now) × (image.old ≡ image_with fuses (state_given 0 [])) }
+    ensures { TextRead (of_cut fuses text.entry.bytes.now (fields_at from (drop from text.entry.bytes.now)))
         (done_outcome result) image.new }
 {
     let mut p = Progress::new();
     let mut at = from;
-    while let Some(next) = next_judged(text, at) {
+    while let Some(next) = next_judged(text.bytes, at) {
         match next {
             NextSays::End(etx) => return finish(fuses, text, etx, p, image),
             NextSays::Field { start, star, says } => {
@@ -42,12 +38,12 @@ fn walk(fuses: u32, text: &[u8], from: usize, image: &mut [u8]) -> Result<(), Re
                     return Err(Refusal::BadForm(place));
                 }
                 p = p.after_field(fuses, place, says);
-                put_field(fuses, &text[start..star], says, p.misplaced, image);
+                put_field(fuses, &text.bytes[start..star], says, p.misplaced, image);
                 at = star + 1;
             }
         }
     }
-    Err(Refusal::BadForm(text.len() as u32))
+    Err(Refusal::BadForm(text.bytes.len() as u32))
 }
 
 // The image of a text, made in `image`, which holds it where nothing is refused.
@@ -55,16 +51,15 @@ fn read_text(fuses: u32, text: &[u8], image: &mut [u8]) -> Result<(), Refusal>
     requires { length image.old ≡ (fuses + 7) / 8 }
     ensures { TextRead (meaning fuses text.now) (done_outcome result) image.new }
 {
-    if LONGEST_LENGTH < text.len() {
-        return Err(Refusal::BadForm(LONGEST_TEXT));
-    }
-    if text.len() == 0 || text[0] != STX {
+    let text = ShortText::try_from(text)?;
+    let bytes = text.bytes;
+    if bytes.len() == 0 || bytes[0] != STX {
         return Err(Refusal::BadForm(0));
     }
-    let Some(star) = next_star(text, 0) else {
-        return Err(Refusal::BadForm(text.len() as u32));
+    let Some(star) = next_star(bytes, 0) else {
+        return Err(Refusal::BadForm(bytes.len() as u32));
     };
-    if holds_mark(&text[1..star]) {
+    if holds_mark(&bytes[1..star]) {
         return Err(Refusal::BadForm(1));
     }
     fill(image, fuses, 0);

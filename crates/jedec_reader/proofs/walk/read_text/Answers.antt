@@ -10,6 +10,10 @@ use native.Mathlib.Numerals.{add-one}
 use lib.ListN.{length, get_or, take, drop}
 use lib.Seq.{take-nil, length-take-le}
 use borrow.Author.Tests.{lt-ltb, le-ltb, eq-eqb, ne_eqb}
+use Rattle.std.specs.Prelude.{Result, Ok, Err}
+use Rattle.std.specs.Result.{IsErrAnd}
+use Rattle.part.specs.Answer.{refusal_number, refusal_value, done_outcome}
+use Rattle.part.specs.declared.Refusal.{Refusal}
 use Rattle.part.specs.Outcome.{Outcome}
 use Rattle.part.specs.Outcome.Outcome.{refused}
 use Rattle.jedec.specs.Cut.{pieces, holds_mark}
@@ -20,7 +24,13 @@ use Rattle.jedec_end.specs.End.{TextRead}
 use Rattle.jedec_end.proofs.Ends.{refused_reads}
 use borrow.Author.Rules.{rules}
 use Rattle.jedec_reader.proofs.walk.read_text.Goals as goal
-use Rattle.jedec_reader.proofs.walk.read_text.Goals.{then-text-eq0-via-then-text-eq0, then-text-eq0-via-else-text-eq0+then-text-ne-STX}
+use Rattle.jedec_reader.proofs.walk.read_text.Goals.{then-bytes-eq0-via-then-bytes-eq0, then-bytes-eq0-via-else-bytes-eq0+then-bytes-ne-STX}
+
+-- A refusal passed on by `?` is what the text means.
+read_refused : (o : Outcome (List ℕ)) (r : Result (Unit {0}) Refusal) (x y : Refusal) (image : List ℕ) → IsErrAnd r (λ z. z ≡ x) → x ≡ y
+    → TextRead o (refused (refusal_number y) (refusal_value y)) image → TextRead o (done_outcome r) image
+read_refused o (Ok z) x y image h g t = elim h [ ]
+read_refused o (Err z) x y image h g t = rw (h ∙ g) t
 
 module _ (fuses : ℕ) where
   too_long : (text image : List ℕ) → longest < length text → TextRead (meaning fuses text) (refused 7 longest) image
@@ -88,18 +98,18 @@ module _ (fuses : ℕ) (text image : List ℕ) (l : length text ≤ longest) (n 
         after_stx fuses text l n h ∙ rw (cut.ended, marked, v, cut.rest, length-take-le star text (omega arith), add-one star) in
         rw whole r
 
-pub returns-then-text-gt-LONGEST_LENGTH : goal.returns-then-text-gt-LONGEST_LENGTH
-returns-then-text-gt-LONGEST_LENGTH c = search (rules, too_long)
+pub returns-in_err-text : goal.returns-in_err-text
+returns-in_err-text c = search (rules, read_refused, too_long)
 
-pub returns-then-text-eq0 : goal.returns-then-text-eq0
-returns-then-text-eq0 c =
-    elim c.then-text-eq0.branch [
-      | then-text-eq0-via-then-text-eq0 w ↦ search (rules, nothing_there)
-      | then-text-eq0-via-else-text-eq0+then-text-ne-STX w ↦ search (rules, no_stx)
+pub returns-then-bytes-eq0 : goal.returns-then-bytes-eq0
+returns-then-bytes-eq0 c =
+    elim c.then-bytes-eq0.branch [
+      | then-bytes-eq0-via-then-bytes-eq0 w ↦ rw (← c.in_ok-text.ensures) (search (rules, nothing_there))
+      | then-bytes-eq0-via-else-bytes-eq0+then-bytes-ne-STX w ↦ rw (← c.in_ok-text.ensures) (search (rules, no_stx))
     ]
 
 pub returns-in_default : goal.returns-in_default
-returns-in_default c = search (rules, no_star, c.in_default.ensures)
+returns-in_default c = rw (← c.in_ok-text.ensures) (search (rules, no_star, c.in_default.ensures))
 
 pub slice_bounds-holds_mark-count : goal.slice_bounds-holds_mark-count
 slice_bounds-holds_mark-count c = search (rules, past_stx, c.in-Some.ensures)
@@ -108,7 +118,7 @@ pub slice_bounds-holds_mark-start : goal.slice_bounds-holds_mark-start
 slice_bounds-holds_mark-start c = search (rules, past_stx, c.in-Some.ensures)
 
 pub returns-then-holds_mark : goal.returns-then-holds_mark
-returns-then-holds_mark c = search (rules, a_mark, c.in-Some.ensures)
+returns-then-holds_mark c = rw (← c.in_ok-text.ensures) (search (rules, a_mark, c.in-Some.ensures))
 
 pub returns : goal.returns
-returns c = search (rules, then_fields, c.in-Some.ensures)
+returns c = rw (← c.in_ok-text.ensures) (search (rules, then_fields, c.in-Some.ensures))

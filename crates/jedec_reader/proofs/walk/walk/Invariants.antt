@@ -6,7 +6,7 @@ use Rattle.jedec_reader.proofs.Walks.{Walks}
 use Rattle.jedec_reader.proofs.walk.walk.Given as goal
 
 abbrev pub invariant-loop-next : goal.invariant-loop-next
-invariant-loop-next l = Walks l.fuses l.text l.from l.initial.image l.image l.p l.at
+invariant-loop-next l = Walks l.fuses l.text.bytes.now l.from l.initial.image l.image l.p l.at
 
 abbrev pub decreases-loop-next : goal.decreases-loop-next
-decreases-loop-next l = length l.text - l.at
+decreases-loop-next l = length l.text.bytes.now - l.at
