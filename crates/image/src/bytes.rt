@@ -100,11 +100,3 @@ pub fn ones_of(bytes: &[u8]) -> u64
     }
     ones
 }
-
-// All bytes copied to a slice of the same length.
-pub fn copy(from: &[u8], to: &mut [u8])
-    requires { length from.now ≡ length to.old }
-    ensures { to.new ≡ from.now }
-{
-    to.copy_from_slice(from);
-}

@@ -65,7 +65,8 @@ fn narrow_cells(row: &[u8]) -> u64
     six_together(word8(row, 7) >> 16)
 }
 
-// What the cells of a wire-AND row join to. They are taken from eight bytes, of which `skip` are before them.
+// What the cells of a wire-AND row join to. They are taken from eight bytes, of which `skip` are before them: a row has
+// only five, so this takes its pair and the index of the row.
 fn wire_and_row(readout: &[u8], at: usize, skip: usize) -> u64
     requires { (skip ≤ 3) × (skip ≤ at) × (at + (8 - skip) ≤ length readout.now) }
     ensures { result ≡ join (row_widths WireAnd) (drop at readout.now) }

@@ -34,6 +34,7 @@ const MAIN_PAIR_BYTES: usize = 2 * MAIN_COLUMNS;
 
 const WIRE_AND_PAIR_BYTES: usize = 2 * WIRE_AND_COLUMNS;
 
+// Sizes by area are functions here: `Area` is of the crate `part`, and a trait for three numbers is no plainer.
 // The bytes of a row in a readout.
 pub fn row_bytes(area: Area) -> usize
     ensures { result ≡ length (row_widths area) }
