@@ -32,7 +32,8 @@ pub struct Spot {
     pub at: usize,
 }
 
-// A line of five columns; where the next one begins.
+// A line of five columns; where the next one begins. Compiled where it is called, as `put_line` is: a function of its
+// own would be slower, as measured.
 #[inline(always)]
 fn line_out(image: &[u8], widths: [usize; 5], from: Spot, out: &mut [u8]) -> Spot
     requires wide { AllWide widths }
