@@ -74,16 +74,19 @@ pub fn width_of(byte: BytePlace) -> u32
     }
 }
 
-// The number of the first fuse of a byte.
-fn first_fuse(d: KnownDevice, byte: BytePlace) -> FuseNumber
-    requires { has_byte d.device byte ≡ true }
-    ensures { result.0 ≡ first_fuse d.device byte }
+// The number of the fuse at a place: the first fuse of its byte, and its bit there.
+// That the device has the place is asked for, and not carried by a type, which would be taken apart here and in each
+// crate above; `fuse_settings` asks the same of a device that need not be known.
+pub fn fuse_of_place(d: KnownDevice, place: Place) -> FuseNumber
+    requires { has_place d.device place ≡ true }
+    ensures { result.0 ≡ fuse_of_place d.device place }
 {
+    let Place { byte, bit } = place;
     let per_block = d.in_block(MAIN_FUSES, SUBAREA_FUSES);
     match byte {
         BytePlace::Main { block, row, column } => {
             let start = column_start(9, 6, column);
-            FuseNumber(block * per_block + (row * MAIN_ROW_FUSES + start))
+            FuseNumber(block * per_block + (row * MAIN_ROW_FUSES + (start + bit)))
         }
         BytePlace::WireAnd {
             block,
@@ -92,20 +95,10 @@ fn first_fuse(d: KnownDevice, byte: BytePlace) -> FuseNumber
             column,
         } => {
             let start = column_start(1, 7, column);
-            let in_subarea = row * WIRE_AND_ROW_FUSES + start;
+            let in_subarea = row * WIRE_AND_ROW_FUSES + (start + bit);
             FuseNumber(block * per_block + (MAIN_FUSES + (subarea * SUBAREA_FUSES + in_subarea)))
         }
     }
-}
-
-// The number of the fuse at a place.
-pub fn fuse_of_place(d: KnownDevice, place: Place) -> FuseNumber
-    requires { has_place d.device place ≡ true }
-    ensures { result.0 ≡ fuse_of_place d.device place }
-{
-    let byte = place.byte;
-    let first = first_fuse(d, byte);
-    FuseNumber(first.0 + place.bit)
 }
 
 // A column of a row, and a bit of it.
@@ -155,6 +148,8 @@ pub fn portions_before(d: KnownDevice, block: u32) -> u32
 
 // The portion of a fuse, counted from the first of the part. No device has 2^19 fuses, and for all numbers below that
 // the product is the quotient, here as for the rows.
+// Each of the three asks for the bound by itself, since each can be called alone, and a caller that has found the block
+// of the fuse has the bound: a type that carries it would be made for these calls and taken apart in them.
 pub fn portion_of_fuse(fuse: FuseNumber) -> u32
     requires { fuse.0 < 2 ^ 19 }
     ensures { result ≡ fuse.0 / subarea_fuses }
@@ -162,34 +157,14 @@ pub fn portion_of_fuse(fuse: FuseNumber) -> u32
     shifted_product(fuse.0, 6628036, 32)
 }
 
-// The row of a fuse in the main area of its block, and what is left in it.
+// The row of a fuse in the main area of its block, and what is left in it. This and `wire_and_row` are one division
+// with other numbers: they are two functions because what is counted from differs, the block or the portion.
 pub fn main_row(fuse: FuseNumber, before: u32) -> QuotientAndRest
     requires { (fuse.0 < 2 ^ 19) × (before * subarea_fuses ≤ fuse.0) }
     ensures { (result.quotient ≡ (fuse.0 - before * subarea_fuses) / main_row_fuses)
         × (result.rest ≡ (fuse.0 - before * subarea_fuses) % main_row_fuses) }
 {
-    let at = divided(fuse.0, MAIN_ROW_FUSES, 39768216, 32);
-    QuotientAndRest {
-        quotient: at.quotient - before * PORTION_ROWS,
-        rest: at.rest,
-    }
-}
-
-// The place of a fuse in the main area of a block.
-fn main_place(block: u32, fuse: FuseNumber, before: u32) -> Place
-    requires { (fuse.0 < 2 ^ 19) × (before * subarea_fuses ≤ fuse.0) }
-    ensures { result ≡ place_in_main block (fuse.0 - before * subarea_fuses) }
-{
-    let row = main_row(fuse, before);
-    let at = column_and_bit(9, 6, MAIN_COLUMN_FACTOR, row.rest);
-    Place {
-        byte: BytePlace::Main {
-            block,
-            row: row.quotient,
-            column: at.column,
-        },
-        bit: at.bit,
-    }
+    divided(fuse.0, MAIN_ROW_FUSES, 39768216, 32).after(before * PORTION_ROWS)
 }
 
 // The row of a fuse in its subarea, which is its portion, and what is left in it.
@@ -198,19 +173,29 @@ pub fn wire_and_row(fuse: FuseNumber, portion: u32) -> QuotientAndRest
     ensures { (result.quotient ≡ fuse.0 % subarea_fuses / wire_and_row_fuses)
         × (result.rest ≡ fuse.0 % subarea_fuses % wire_and_row_fuses) }
 {
-    let at = divided(fuse.0, WIRE_AND_ROW_FUSES, 119304648, 32);
-    QuotientAndRest {
-        quotient: at.quotient - portion * WIRE_AND_ROWS,
-        rest: at.rest,
-    }
+    divided(fuse.0, WIRE_AND_ROW_FUSES, 119304648, 32).after(portion * WIRE_AND_ROWS)
 }
 
-// The place of a fuse in the subareas of a block.
-fn wire_and_place(block: u32, fuse: FuseNumber, before: u32, portion: u32) -> Place
-    requires { (fuse.0 < 2 ^ 19) × (portion ≡ fuse.0 / subarea_fuses)
-        × (main_fuses ≤ fuse.0 - before * subarea_fuses) }
-    ensures { result ≡ place_in_wire_and block (fuse.0 - before * subarea_fuses - main_fuses) }
+// The place of a fuse: its portion tells whether it lies in the main area of its block.
+pub fn place_of_fuse(d: KnownDevice, fuse: FuseNumber) -> Place
+    requires { fuse.0 < fuse_count d.device }
+    ensures { result ≡ place_of_fuse d.device fuse.0 }
 {
+    let block = block_of_fuse(d, fuse);
+    let before = portions_before(d, block);
+    let portion = portion_of_fuse(fuse);
+    if portion - before < MAIN_PORTIONS {
+        let row = main_row(fuse, before);
+        let at = column_and_bit(9, 6, MAIN_COLUMN_FACTOR, row.rest);
+        return Place {
+            byte: BytePlace::Main {
+                block,
+                row: row.quotient,
+                column: at.column,
+            },
+            bit: at.bit,
+        };
+    }
     let row = wire_and_row(fuse, portion);
     let at = column_and_bit(1, 7, WIRE_AND_COLUMN_FACTOR, row.rest);
     Place {
@@ -222,17 +207,4 @@ fn wire_and_place(block: u32, fuse: FuseNumber, before: u32, portion: u32) -> Pl
         },
         bit: at.bit,
     }
-}
-
-pub fn place_of_fuse(d: KnownDevice, fuse: FuseNumber) -> Place
-    requires { fuse.0 < fuse_count d.device }
-    ensures { result ≡ place_of_fuse d.device fuse.0 }
-{
-    let block = block_of_fuse(d, fuse);
-    let before = portions_before(d, block);
-    let portion = portion_of_fuse(fuse);
-    if portion - before < MAIN_PORTIONS {
-        return main_place(block, fuse, before);
-    }
-    wire_and_place(block, fuse, before, portion)
 }

@@ -1,6 +1,6 @@
 // Quotients and remainders by products that are exact for all that they are asked for: nothing is divided here.
 // A function here requires what makes its product exact.
-ghost use Rattle.std.specs.Prelude.{◌≡◌, ◌+◌, ◌*◌, ◌/◌, ◌%◌, ◌^◌, ◌<◌};
+ghost use Rattle.std.specs.Prelude.{◌≡◌, ◌+◌, ◌*◌, ◌-◌, ◌/◌, ◌%◌, ◌^◌, ◌<◌, ◌≤◌};
 ghost use Rattle.part.specs.Device.{block_fuses};
 
 use super::KnownDevice;
@@ -10,6 +10,19 @@ use super::KnownDevice;
 pub struct QuotientAndRest {
     pub quotient: u32,
     pub rest: u32,
+}
+
+impl QuotientAndRest {
+    // The same, counted from a quotient that is not above it.
+    pub fn after(self, before: u32) -> QuotientAndRest
+        requires { before ≤ self.quotient }
+        ensures { (result.quotient ≡ self.quotient - before) × (result.rest ≡ self.rest) }
+    {
+        QuotientAndRest {
+            quotient: self.quotient - before,
+            rest: self.rest,
+        }
+    }
 }
 
 // A product, shifted: what stands here for a division. For a divisor d the factor is 2^shift / d, rounded up. Those of

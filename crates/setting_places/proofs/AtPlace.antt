@@ -1,6 +1,6 @@
 -- The answer for a bit of a setting that the device has: none past its width, else the fuse, the address and the bit of its place.
 -- Assumes nothing.
-use mathlib.Core.Path.{◌≡◌, refl, ap}
+use mathlib.Core.Path.{◌≡◌, refl, ◌∙◌, ap}
 use mathlib.Core.Bool.{true}
 use mathlib.Core.Option.{Option}
 use mathlib.Core.Option.Option.{none, some}
@@ -43,16 +43,17 @@ module _ (d : Device) (s : Setting) (bit width : ℕ) (k : known d ≡ true) (h 
     at_place_lem x f = rw (k, h, lt-ltb bit (bits_of s) (omega arith), ← at, f)
 
 -- The same for a setting of one bit.
-module _ (d : Device) (s : Setting) (k : known d ≡ true) (h : has_setting d s ≡ true) (e : 1 ≡ bits_of s) where
-  pub no_second_bit : (bit : ℕ) → 0 < bit → accepted none ≡ located_bit d s bit
-  no_second_bit bit g = no_bit_lem d s bit 1 k h e (omega arith)
+module _ (d : Device) (s : Setting) (bit : ℕ) (k : known d ≡ true) (h : has_setting d s ≡ true) (e : 1 ≡ bits_of s) where
+  pub no_second_bit : 0 < bit → accepted none ≡ located_bit d s bit
+  no_second_bit g = no_bit_lem d s bit 1 k h e (omega arith)
 
   module _ (p : Place) (at : p ≡ place_of s 0) where
     pub there_once : has_place d p ≡ true
     there_once = there d s 0 1 k h e (omega arith) p at
 
-    pub at_one_place : (x : LocatedFuse) → x ≡ at_place d p → accepted (some x) ≡ located_bit d s 0
-    at_one_place x f = at_place_lem d s 0 1 k h e (omega arith) p at x f
+    pub at_one_place : bit ≤ 0 → (x : LocatedFuse) → x ≡ at_place d p → accepted (some x) ≡ located_bit d s bit
+    at_one_place l x f =
+        let same : 0 ≡ bit = omega arith in at_place_lem d s 0 1 k h e (omega arith) p at x f ∙ ap (located_bit d s) same
 
 -- A literal by its number: the device has it, and it has one bit.
 module _ (d : Device) (x : ℕ) (l : x < start d wire_ands) where

@@ -105,17 +105,11 @@ pub fn fuse_of_numbered_bit(
     let x = number.0;
     let wire_ands = start_of_wire_ands(part);
     if x < wire_ands {
-        if 0 < bit {
-            return Ok(None);
-        }
-        return Ok(Some(numbered::literal_bit(part, number)));
+        return Ok(numbered::literal_bit(part, number, bit));
     }
     let macrocells = start_of_macrocells(part);
     if x < macrocells {
-        if 0 < bit {
-            return Ok(None);
-        }
-        return Ok(Some(numbered::wire_and_bit(part, x - wire_ands)));
+        return Ok(numbered::wire_and_bit(part, x - wire_ands, bit));
     }
     let blocks = start_of_blocks(part);
     if x < blocks {

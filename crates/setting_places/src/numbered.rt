@@ -1,7 +1,6 @@
 // The fuse of a bit of a setting with its address, by the position of the setting in its group.
 // A function here requires that the number or the position is one of the group.
 ghost use Rattle.std.specs.Prelude.{◌≡◌, ◌<◌};
-ghost use Rattle.std.proofs.Math.Option.Option.{some};
 ghost use Rattle.part.specs.Outcome.Outcome.{accepted};
 ghost use Rattle.settings.specs.Order.{start, size, in_group, setting_of};
 ghost use Rattle.settings.specs.Order.Group.{wire_ands, macrocell_settings};
@@ -21,23 +20,29 @@ const FIELD_SHIFT: u32 = 18;
 
 const FIELD_FACTOR: u64 = (1 << FIELD_SHIFT) / MACROCELL_FIELDS as u64 + 1;
 
-// The bit of a literal, which has one, by its number.
-pub fn literal_bit(d: KnownDevice, number: SettingNumber) -> FuseAt
+// A bit of a literal, which has one, by its number.
+pub fn literal_bit(d: KnownDevice, number: SettingNumber, bit: u32) -> Option<FuseAt>
     requires { number.0 < start d.device wire_ands }
-    ensures { accepted (some (located_fuse result)) ≡ located_bit d.device (setting_of d.device number.0) 0 }
+    ensures { accepted (option_of located_fuse result) ≡ located_bit d.device (setting_of d.device number.0) bit }
 {
+    if 0 < bit {
+        return None;
+    }
     let place = place_of_literal(d, number);
-    located(d, place)
+    Some(located(d, place))
 }
 
-// The bit of the wire-AND at a position, which has one.
-pub fn wire_and_bit(d: KnownDevice, x: u32) -> FuseAt
+// A bit of the wire-AND at a position, which has one.
+pub fn wire_and_bit(d: KnownDevice, x: u32, bit: u32) -> Option<FuseAt>
     requires { x < size d.device wire_ands }
-    ensures { accepted (some (located_fuse result)) ≡ located_bit d.device (in_group d.device wire_ands x) 0 }
+    ensures { accepted (option_of located_fuse result) ≡ located_bit d.device (in_group d.device wire_ands x) bit }
 {
+    if 0 < bit {
+        return None;
+    }
     let at = wire_and_indices(d, x);
     let place = wire_and_place(at);
-    located(d, place)
+    Some(located(d, place))
 }
 
 // A bit of the macrocell field at a position.

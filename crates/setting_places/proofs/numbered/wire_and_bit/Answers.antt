@@ -9,13 +9,16 @@ use Rattle.settings.specs.Order.Group.{wire_ands}
 use Rattle.settings.specs.declared.Setting.TheVariants.{WireAnd}
 use Rattle.settings.proofs.Among.{has_in_group}
 use Rattle.setting_places.specs.Places.{place_of}
-use Rattle.setting_places.proofs.AtPlace.{wire_and_bits, there_once, at_one_place}
+use Rattle.setting_places.proofs.AtPlace.{wire_and_bits, no_second_bit, there_once, at_one_place}
 use borrow.Author.Rules.{rules}
 use Rattle.setting_places.proofs.numbered.wire_and_bit.Goals as goal
 
 its_place : (d : Device) (x block j k l : ℕ) (p : Place) → WireAnd block j k l ≡ in_group d wire_ands x
     → p ≡ place_of (WireAnd block j k l) 0 → p ≡ place_of (in_group d wire_ands x) 0
 its_place d x block j k l p e g = rw (← e) g
+
+pub returns-then-bit-gt0 : goal.returns-then-bit-gt0
+returns-then-bit-gt0 c = search (rules, has_in_group, wire_and_bits, no_second_bit)
 
 pub located-requires : goal.located-requires
 located-requires c = search (rules, has_in_group, wire_and_bits, its_place, there_once)
