@@ -56,6 +56,7 @@ fn bits_from(image: &[u8], fuse: usize) -> u64
 }
 
 // Five columns, one after another; the index behind them.
+#[inline(always)]
 fn put_columns(word: u64, widths: [usize; 5], out: &mut [u8], at: usize) -> usize
     requires { (AllWide widths) × (at + 7 + total widths ≤ length out.old) }
     ensures stored { Stored out.old out.new at (columns_of word widths) }
