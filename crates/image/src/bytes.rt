@@ -4,6 +4,9 @@ ghost use Rattle.std.specs.Prelude.{◌≡◌, ◌+◌, ◌*◌, ◌/◌, ◌%�
 ghost use Rattle.image.specs.Bits.{bit_at, put_bits, with_bit, ones_in};
 ghost use Rattle.image.specs.Image.{sum16};
 
+// Index, bit and state are asked to be small enough here: bounds of one number each, which each caller has at hand, so
+// a type for one of them would be made and opened again at every call.
+
 // The states of some neighbouring bits of a byte.
 fn states_of<const WIDTH: u32>(bytes: &[u8], index: usize, bit: u32) -> u32
     requires { (index < length bytes.now) × (bit < 8) × (WIDTH < 8) }
@@ -12,7 +15,8 @@ fn states_of<const WIDTH: u32>(bytes: &[u8], index: usize, bit: u32) -> u32
     (bytes[index] >> bit) as u32 % (1 << WIDTH)
 }
 
-// A bit of a byte.
+// A bit of a byte. One bit and two have functions of their own: their contracts speak of bits, as the definitions do,
+// and not of a width.
 pub fn bit_of(bytes: &[u8], index: usize, bit: u32) -> u32
     requires { (index < length bytes.now) × (bit < 8) }
     ensures { result ≡ bit_at bytes.now index bit }

@@ -12,7 +12,8 @@ use part::{Area, KnownDevice};
 use readout_rows::sizes;
 
 // The number that some cells join to, above the bits that the cells before left over, and of that as many bytes as an
-// image slice has, put there. Answers what is left over now.
+// image slice has, put there. Answers what is left over now. That what is carried is below 2^shift is a fact of two numbers
+// which change at each step, so it is asked for and not kept in a type.
 fn put_above(cells: u64, carry: u64, shift: u32, image: &mut [u8]) -> u64
     requires { (cells < 2 ^ 48) × (carry < 2 ^ shift) × (shift ≤ 4) × (length image.old ≤ 7) }
     ensures value { result ≡ (cells * 2 ^ shift + carry) / 2 ^ (length image.old * 8) }
@@ -113,7 +114,8 @@ fn wire_and_rows_in(readout: &[u8], image: &mut [u8])
     put_cells(top, 8, 1, last, 0);
 }
 
-// The image bytes of two rows of a readout.
+// The image bytes of two rows of a readout. Each area has its own step: with two of them a match is plainer than a step
+// that is passed.
 fn pair_in(area: Area, readout: &[u8], image: &mut [u8])
     requires { (length readout.now ≡ length (pair_widths area))
         × (length image.old ≡ whole_bytes (pair_widths area)) }
@@ -141,7 +143,8 @@ fn pairs_in(area: Area, readout: &[u8], image: &mut [u8], count: usize)
     }
 }
 
-// The image bytes of a block of a readout.
+// The image bytes of a block of a readout. It has the shape of `block_out` of `readout_writer`, which goes the other way;
+// one function for both would take each size and each step as a parameter.
 fn block_in(part: KnownDevice, readout: &[u8], image: &mut [u8])
     requires { (length readout.now ≡ length (block_widths part.device))
         × (length image.old ≡ whole_bytes (block_widths part.device)) }

@@ -52,7 +52,7 @@ fn wire_and_rows_out(image: &[u8], out: &mut [u8])
     wire_and_row_out(behind, 28, second);
 }
 
-// The bytes of two rows of an image.
+// The bytes of two rows of an image. Each area has its own step, as in `readout_reader`.
 fn pair_out(area: Area, image: &[u8], out: &mut [u8])
     requires { (length image.now ≡ whole_bytes (pair_widths area))
         × (length out.old ≡ length (pair_widths area)) }
@@ -79,7 +79,7 @@ fn pairs_out(area: Area, image: &[u8], out: &mut [u8], count: usize)
     }
 }
 
-// The bytes of a block of an image.
+// The bytes of a block of an image: the way back of `block_in` of `readout_reader`.
 fn block_out(part: KnownDevice, image: &[u8], out: &mut [u8])
     requires { (length image.now ≡ whole_bytes (block_widths part.device))
         × (length out.old ≡ length (block_widths part.device)) }
