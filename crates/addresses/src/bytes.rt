@@ -32,7 +32,8 @@ fn field_of(x: u32, from: u32, width: u32) -> u32
     cells::words::low_bits((x >> from) as u64, width) as u32
 }
 
-// The address of a byte of the device.
+// The address of a byte of the device. That the device has the byte is asked for, here and in `index_of_byte`: a type
+// that carries it would be taken apart at once.
 pub fn address_of_byte(d: KnownDevice, byte: BytePlace) -> DeviceAddress
     requires { has_byte d.device byte ≡ true }
     ensures { result.0 ≡ address_of_byte byte }
@@ -77,7 +78,8 @@ fn position_in_main_row(rest: u32) -> u32
     16 * 8 + at.quotient * 8 + at.rest
 }
 
-// What a wire-AND row adds to the position.
+// What a wire-AND row adds to the position. It is a function of its own: such a row has two parts where a main row has
+// three, which is more than another constant.
 fn position_in_wire_and_row(rest: u32) -> u32
     requires { rest < wire_and_row_fuses }
     ensures { result ≡ column_in_row 1 7 rest * 8 + bit_in_row 1 7 rest }
@@ -89,7 +91,8 @@ fn position_in_wire_and_row(rest: u32) -> u32
     8 + at.quotient * 8 + at.rest
 }
 
-// The position of a fuse, by its block and the portions before the block.
+// The position of a fuse, by its block and the portions before the block. The bound on the fuse is the one that
+// `portion_of_fuse` asks for, and its only caller has it from the block that it found.
 pub fn position_of_fuse(block: u32, fuse: FuseNumber, before: u32) -> u32
     requires { (block < 16) × (fuse.0 < 2 ^ 19) × (before * subarea_fuses ≤ fuse.0)
         × (fuse.0 - before * subarea_fuses < main_fuses + 16 * subarea_fuses) }

@@ -77,6 +77,8 @@ fn global_field_near(row: u32, column: u32) -> GlobalField
     GlobalField::FoeMux(column - 5)
 }
 
+// The bit of the global field near a place. A bit is below 8 here and in `candidate_in_main` because no byte has more,
+// which `candidate_at` has from its place: the place is in its parts from there on.
 fn global_bit_near(row: u32, column: u32, bit: u32) -> u32
     requires { (6 ≤ bit) × (bit < 8) }
     ensures { result ≡ global_bit_near row column bit }
@@ -147,7 +149,8 @@ fn candidate_in_main(block: u32, row: u32, column: u32, bit: u32) -> SettingBit
     }
 }
 
-// The setting and the bit at a place, if there are any there.
+// The setting and the bit at a place, if there are any there. It takes any device that has the place: to ask for a
+// known one would ask more than it needs.
 pub fn candidate_at(d: Device, place: Place) -> SettingBit
     requires { has_place d place ≡ true }
     ensures { result ≡ candidate_at place }

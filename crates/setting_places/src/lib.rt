@@ -38,6 +38,7 @@ pub fn bits_of_setting(d: Device, s: Setting) -> Result<u32, Refusal>
 }
 
 // The fuse at a place, with its address and its bit: no fuse is converted.
+// That the device has the place is asked for: a type that carries it would be taken apart here for byte and bit.
 fn located(d: KnownDevice, place: Place) -> FuseAt
     requires { has_place d.device place ≡ true }
     ensures { located_fuse result ≡ (fuse_of_place d.device place, address_of_place place) }

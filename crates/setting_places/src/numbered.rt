@@ -21,6 +21,8 @@ const FIELD_SHIFT: u32 = 18;
 const FIELD_FACTOR: u64 = (1 << FIELD_SHIFT) / MACROCELL_FIELDS as u64 + 1;
 
 // A bit of a literal, which has one, by its number.
+// That the number is a literal's is asked for, here and in `place_of_literal`: `fuse_of_numbered_bit` tells the groups
+// apart by one comparison each and needs the bounds again for the next group, which a type would hide.
 pub fn literal_bit(d: KnownDevice, number: SettingNumber, bit: u32) -> Option<FuseAt>
     requires { number.0 < start d.device wire_ands }
     ensures { accepted (option_of located_fuse result) ≡ located_bit d.device (setting_of d.device number.0) bit }

@@ -34,7 +34,8 @@ pub struct FieldRows {
     pub count: u32,
 }
 
-// The first row and the row count of each macrocell field, by its index.
+// The first row and the row count of each macrocell field, by its index. A pair is one read. The counts stand here
+// beside `macrocell_bits`, since the way by number has the index alone and would have to make the field.
 static FIELD_ROWS: [(u32, u32); 27] = [
     (12, 2),
     (14, 2),
@@ -171,6 +172,7 @@ pub fn place_of_literal(d: KnownDevice, number: SettingNumber) -> Place
     main_place(bits.quotient, row, columns.rest, bits.rest)
 }
 
+// The place of a field of a block.
 fn block_place(block: u32, field: BlockField) -> Place
     ensures { result ≡ block_place block field }
 {
@@ -185,6 +187,8 @@ fn block_place(block: u32, field: BlockField) -> Place
     main_place(block, row, column, 6)
 }
 
+// The place of a bit of a global field. That the device has the field is asked for, which keeps its number small: a
+// setting that carries this would have to be matched here a second time.
 fn global_place(d: Device, field: GlobalField, bit: u32) -> Place
     requires { (global_index (foes d) field < global_fields (foes d)) × (bit < global_bits field) }
     ensures { result ≡ global_place field bit }
@@ -200,6 +204,8 @@ fn global_place(d: Device, field: GlobalField, bit: u32) -> Place
 }
 
 // The place of a bit of a setting.
+// That the setting has the bit is asked for, here and in `fuse_of`: callers have just compared it with the width, or
+// count the bits below the width, so a type of both would be made for each call and taken apart in it.
 pub fn place_of(there: DeviceSetting, bit: u32) -> Place
     requires { bit < bits_of there.setting }
     ensures { result ≡ place_of there.setting bit }

@@ -185,7 +185,8 @@ pub fn wire_and_indices(d: KnownDevice, x: u32) -> WireAndIndices
     }
 }
 
-// The setting of each group at a position in it.
+// The setting of each group at a position in it. Each divides by constants, which are products in the machine code; one
+// inverse of `position` for all would divide by variables.
 fn literal_at(d: KnownDevice, x: u32) -> Setting
     ensures { result ≡ in_group d.device literals x }
 {
@@ -238,6 +239,7 @@ pub fn setting_of(d: KnownDevice, number: SettingNumber) -> DeviceSetting
         setting: in_its_group(d, number),
     }
 }
+
 // The setting of a number, in the group that has the number.
 fn in_its_group(d: KnownDevice, number: SettingNumber) -> Setting
     requires { number.0 < count_of d.device }
