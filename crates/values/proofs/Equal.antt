@@ -64,11 +64,43 @@ same_flag false false e = refl
 
 same_value : (v w : Value) → ghosts.eq v w ≡ true → v ≡ w
 same_value =
-    same_enum enum _
-    (alone beq same_flag, (bare termAlloc.the_type tt, (bare importAlloc.the_type tt, (bare exportDir.the_type tt,
-    (bare iobOeMux.the_type tt, (bare outMux.the_type tt, (bare oeMux.the_type tt, (bare clkMux.the_type tt,
-    (bare regMode.the_type tt, (bare rstSetMux.the_type tt, (bare uimOeMux.the_type tt, (bare iobSlew.the_type tt,
-    (bare fclkMux.the_type tt, (bare foeMux.the_type tt, (alone eqb eqb-true, (alone eqb eqb-true, tt))))))))))))))))
+    same_enum enum _ (
+      alone beq same_flag,
+      (
+        bare termAlloc.the_type tt,
+        (
+          bare importAlloc.the_type tt,
+          (
+            bare exportDir.the_type tt,
+            (
+              bare iobOeMux.the_type tt,
+              (
+                bare outMux.the_type tt,
+                (
+                  bare oeMux.the_type tt,
+                  (
+                    bare clkMux.the_type tt,
+                    (
+                      bare regMode.the_type tt,
+                      (
+                        bare rstSetMux.the_type tt,
+                        (
+                          bare uimOeMux.the_type tt,
+                          (
+                            bare iobSlew.the_type tt,
+                            (bare fclkMux.the_type tt, (bare foeMux.the_type tt, (alone eqb eqb-true, (alone eqb eqb-true, tt)))),
+                          ),
+                        ),
+                      ),
+                    ),
+                  ),
+                ),
+              ),
+            ),
+          ),
+        ),
+      ),
+    )
 
 pub equal_value : (v w : Value) → Decides (ghosts.eq v w) (v ≡ w)
 equal_value v w = (same_value v w, λ e. subst (λ x. ghosts.eq v x ≡ true) e (laws-law.refl v))
