@@ -13,7 +13,7 @@ pub fn low_bits(x: u64, width: u32) -> u64
 }
 
 // `count` cells from index `at` on, joined into one word; of each cell the low `width` bits count. That a cell has at
-// most 8 bits is asked of the caller, as elsewhere: a width is a number that the caller writes, and a type would hide it.
+// most 8 bits is asked of the caller, as elsewhere: a width is a number that each caller writes.
 pub fn joined(cells: &[u8], at: usize, width: u32, count: usize) -> u64
     requires { (at + count ≤ length cells.now) × (width ≤ 8) × (count ≤ 8) }
     ensures { result ≡ join (replicate count width) (drop at cells.now) }

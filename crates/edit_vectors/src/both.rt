@@ -92,7 +92,8 @@ struct Slices {
 }
 
 impl Slices {
-    // Lengths k of three, as for the other edits; the kept readout is as long as the readout for the right lengths alone.
+    // Lengths k of three, as for the other edits; the kept readout is as long as the readout for the right lengths
+    // alone.
     fn new(alloc: Global, d: Device, k: u32) -> io::Result<Slices> {
         let sizes = vectors::sizes(d);
         let (up, down) = (k % 3, 2 - k % 3);

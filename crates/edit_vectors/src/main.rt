@@ -138,7 +138,8 @@ fn answers<W: Write>(
     vectors::end_line(out)
 }
 
-// Lengths of three kinds: the image one byte too short and the readout one too long, both right, and the other way round.
+// Lengths of three kinds: the image one byte too short and the readout one too long, both right, and the other way
+// round.
 fn ask<W: Write>(alloc: Global, out: &mut W, d: Device) -> io::Result<()> {
     let sizes = vectors::sizes(d);
     for k in 0..3 {

@@ -223,7 +223,8 @@ impl Reading {
     }
 
     // Reads the text without F and without its first line with another fault besides: of the form (7), of the count
-    // (8), of the last line's number (9), of the transmission sum (11). Its fuse sum (10) is that of other fuses already.
+    // (8), of the last line's number (9), of the transmission sum (11). Its fuse sum (10) is that of other fuses
+    // already.
     fn two_faults<W: Write>(&mut self, out: &mut W) -> io::Result<()> {
         replace_next(&mut self.text, 0, b'L', b'N');
         let last = self.text.len() - at_most(1, self.text.len());

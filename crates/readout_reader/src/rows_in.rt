@@ -12,8 +12,8 @@ use part::{Area, KnownDevice};
 use readout_rows::sizes;
 
 // The number that some cells join to, above the bits that the cells before left over, and of that as many bytes as an
-// image slice has, put there. Answers what is left over now. That what is carried is below 2^shift is a fact of two numbers
-// which change at each step, so it is asked for and not kept in a type.
+// image slice has, put there. Answers what is left over now. That what is carried is below 2^shift is a fact of two
+// numbers which change at each step, so it is asked for and not kept in a type.
 fn put_above(cells: u64, carry: u64, shift: u32, image: &mut [u8]) -> u64
     requires { (cells < 2 ^ 48) × (carry < 2 ^ shift) × (shift ≤ 4) × (length image.old ≤ 7) }
     ensures value { result ≡ (cells * 2 ^ shift + carry) / 2 ^ (length image.old * 8) }
@@ -143,8 +143,8 @@ fn pairs_in(area: Area, readout: &[u8], image: &mut [u8], count: usize)
     }
 }
 
-// The image bytes of a block of a readout. It has the shape of `block_out` of `readout_writer`, which goes the other way;
-// one function for both would take each size and each step as a parameter.
+// The image bytes of a block of a readout. It has the shape of `block_out` of `readout_writer`, which goes the other
+// way; one function for both would take each size and each step as a parameter.
 fn block_in(part: KnownDevice, readout: &[u8], image: &mut [u8])
     requires { (length readout.now ≡ length (block_widths part.device))
         × (length image.old ≡ whole_bytes (block_widths part.device)) }

@@ -15,7 +15,8 @@ use Rattle.fuse_settings.specs.declared.SettingBit.{SettingBit}
 use Rattle.fuse_settings.proofs.Laws.{at_fuse_has}
 use Rattle.xc9500.proofs.xc9500_setting_at_fuse.Goals as goal
 
-there : (a : Result (Option SettingBit) Refusal) (d : Device) (f : ℕ) (x : SettingBit) → named_outcome a ≡ setting_at_fuse d f → a ≡ Ok (Some x)
+there : (a : Result (Option SettingBit) Refusal) (d : Device) (f : ℕ) (x : SettingBit)
+    → named_outcome a ≡ setting_at_fuse d f → a ≡ Ok (Some x)
     → (known d ≡ true) × (has_setting d x.setting ≡ true)
 there a d f x e g = at_fuse_has d f x.setting x.bit (sym e ∙ ap named_outcome g)
 
