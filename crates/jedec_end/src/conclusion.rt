@@ -1,5 +1,6 @@
 // The refusals 8, 9, 13, 10 and 11, and the answer to a text whose fields are read.
-// A function here may require that ETX is in the text.
+// A function here may require that ETX is in the text: its offset is found once and told on, and a type of text and
+// offset would be taken apart at once.
 ghost use Rattle.std.specs.Prelude.{◌≡◌, ◌<◌, length};
 ghost use Rattle.std.proofs.Math.Option.Option.{some};
 ghost use Rattle.part.specs.Answer.{done_outcome};

@@ -1,5 +1,5 @@
 // What follows ETX: four hex digits, and then blanks alone.
-// A function here may require that a position is in the text.
+// A function here may require that a position is in the text: it moves on at each call, so no type keeps that.
 ghost use Rattle.std.specs.Prelude.{◌≤◌, length, drop};
 ghost use Rattle.jedec.specs.Cut.{tail_from};
 ghost use Rattle.jedec_end.specs.End.{TailStands};

@@ -1,5 +1,5 @@
 // Positions in a text, and the next field judged: for the reader.
-// A function here may require that a position is in the text.
+// A function here may require that a position is in the text: it moves on at each call, so no type keeps that.
 ghost use Rattle.std.specs.Prelude.{◌≡◌, ◌+◌, ◌<◌, ◌≤◌, length, drop, MatchOption};
 ghost use Rattle.jedec.specs.Cut.{blanks_before};
 ghost use Rattle.jedec_fields.specs.Fields.{until_star, Stands};
@@ -9,6 +9,9 @@ use super::lists::list_field;
 use jedec::{ETX, is_blank};
 use jedec_judge::FieldSays;
 use jedec_judge::letters::judge_field;
+
+// The two searches here are `for`s and not `position`, which would answer an offset in a part of the text, to which the
+// start is added again.
 
 // The offset of the next `*` from an offset on.
 pub fn next_star(text: &[u8], at: usize) -> Option<usize>

@@ -12,6 +12,9 @@ use cells::words::low_bits;
 use jedec_judge::{FieldSays, STATES_IN_WORD};
 use jedec_runs::states::{bits_at, blank_at, states_at};
 
+// A state is asked to be below 2, and the image to have the bytes of so many fuses. The first is a bound of one number
+// of the text; the second is a fact of a number and of a slice that changes, which a struct would hold mutably.
+
 // A byte of which the lowest bits have a state, and the others are 0.
 fn byte_of(state: u32, bits: u32) -> u8
     requires { (state < 2) × (bits ≤ 8) }

@@ -21,7 +21,8 @@ use part::geometry::{MAIN_IMAGE_BYTES, SUBAREA_IMAGE_BYTES};
 // The bytes of an image of sixteen blocks: no device has more.
 const LARGEST_IMAGE: usize = (16 * (MAIN_IMAGE_BYTES + 16 * SUBAREA_IMAGE_BYTES)) as usize;
 
-// The fields from an offset on, one after another, and the end.
+// The fields from an offset on, one after another, and the end. Where the next field starts is known only when the one
+// before it is judged, so this is no `for`.
 fn walk(fuses: u32, text: ShortText, from: usize, image: &mut [u8]) -> Result<(), Refusal>
     requires { (from ≤ length text.bytes.now) × (image.old ≡ image_with fuses (state_given 0 [])) }
     ensures { TextRead (of_cut fuses text.entry.bytes.now (fields_at from (drop from text.entry.bytes.now)))
