@@ -8,6 +8,7 @@ ghost use Rattle.differences.specs.Scan.{ones_from, AllBelow, line_bytes, lines_
 
 use super::lines::{line_bytes, put_line};
 use super::words::{skip_same, word_at};
+use names::setting_names::DeviceFuse;
 use part::KnownDevice;
 
 // How many fuses differ, and how many bytes their lines have.
@@ -34,7 +35,11 @@ fn word_bytes(part: KnownDevice, from: u32, x: u64) -> usize
     let mut left = x;
     let mut bytes: usize = 0;
     while left != 0 {
-        bytes += line_bytes(part, from + left.trailing_zeros());
+        let there = DeviceFuse {
+            device: part,
+            fuse: from + left.trailing_zeros(),
+        };
+        bytes += line_bytes(there);
         left = without_lowest(left);
     }
     bytes
@@ -61,32 +66,27 @@ pub fn measure(part: KnownDevice, old: &[u8], new: &[u8]) -> Tally
 }
 
 // The line of a fuse put into bytes of its own first: no byte behind the line is changed.
-fn put_exact(part: KnownDevice, fuse: u32, state: u64, out: &mut [u8], at: usize) -> usize
-    requires { (fuse < fuse_count part.device) × (state < 2) × (at + line_bytes part.device fuse ≤ length out.old) }
-    ensures { Laid out.old out.new at (at + line_bytes part.device fuse) (line_with part.device fuse state) result }
+fn put_exact(there: DeviceFuse, state: u64, out: &mut [u8], at: usize) -> usize
+    requires { (state < 2) × (at + line_bytes there.device.device there.fuse ≤ length out.old) }
+    ensures { Laid out.old out.new at (at + line_bytes there.device.device there.fuse)
+        (line_with there.device.device there.fuse state) result }
 {
     let mut line = [0u8; 64];
-    let n = put_line(part, fuse, state, &mut line, 0);
+    let n = put_line(there, state, &mut line, 0);
     report_lines::lines::put(&line[..n], out, at)
 }
 
-// The line of a fuse put into a slice, and no byte changed from `end` on.
-fn put_before(
-    part: KnownDevice,
-    fuse: u32,
-    state: u64,
-    out: &mut [u8],
-    at: usize,
-    end: usize,
-) -> usize
-    requires { (fuse < fuse_count part.device) × (state < 2) × (at + line_bytes part.device fuse ≤ end)
+// The line of a fuse put into a slice, and no byte changed from `end` on. Here and below `end` is a number, no end of a
+// shorter slice: the loan of a part of `out` at each line would stand in each loop's invariant.
+fn put_before(there: DeviceFuse, state: u64, out: &mut [u8], at: usize, end: usize) -> usize
+    requires { (state < 2) × (at + line_bytes there.device.device there.fuse ≤ end)
         × (end ≤ length out.old) × (end ≤ 30000000) }
-    ensures { Laid out.old out.new at end (line_with part.device fuse state) result }
+    ensures { Laid out.old out.new at end (line_with there.device.device there.fuse state) result }
 {
     if at + 64 <= end {
-        return put_line(part, fuse, state, out, at);
+        return put_line(there, state, out, at);
     }
-    put_exact(part, fuse, state, out, at)
+    put_exact(there, state, out, at)
 }
 
 // The lines of the ones of a word; the old states are the bits of another word.
@@ -108,7 +108,11 @@ fn put_word(
     while left != 0 {
         let bit = left.trailing_zeros();
         let state = cells::words::low_bits(states >> bit, 1);
-        next = put_before(part, from + bit, state, out, next, end);
+        let there = DeviceFuse {
+            device: part,
+            fuse: from + bit,
+        };
+        next = put_before(there, state, out, next, end);
         left = without_lowest(left);
     }
     next

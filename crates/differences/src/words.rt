@@ -18,7 +18,8 @@ pub fn word_at(bytes: &[u8], at: usize) -> u64
     cells::words::joined(bytes, at, 8, left)
 }
 
-// Whether 32 bytes from an index on are the same in both.
+// Whether 32 bytes from an index on are the same in both. The lengths are the same in each function here: a struct of
+// two slices with that fact would hold two loans, and say `pair.old.now` in each clause.
 fn same_four(old: &[u8], new: &[u8], at: usize) -> bool
     requires { (at + 32 ≤ length old.now) × (length new.now ≡ length old.now) }
     ensures { result

@@ -16,7 +16,8 @@ const LINE_END: u64 = 0x0A2A;
 pub const LINE_FRAME: usize = 1 + 7 + 5 + 2;
 
 // The eight bytes of a word, lowest first. It compiles to one store; `copy_from_slice` was tried, and first tests
-// whether the two slices overlap.
+// whether the two slices overlap. A slice that begins at the index would ask for the same eight bytes, and the
+// contracts of the callers speak of the whole slice.
 pub fn put_eight(word: u64, out: &mut [u8], at: usize)
     requires { at + 8 ≤ length out.old }
     ensures { out.new ≡ sets out.old at (cut (replicate 8 8) word) }
@@ -41,7 +42,8 @@ fn put_column(word: u64, width: usize, out: &mut [u8], at: usize)
 }
 
 // The bits of an image from a fuse on, at least 56 or all that are left: the last lines are
-// taken from the last eight bytes.
+// taken from the last eight bytes. Here and in `put_line` the image has eight bytes: a struct that holds the fact would
+// hold a loan, for these two functions.
 fn bits_from(image: &[u8], fuse: usize) -> u64
     requires { (8 ≤ length image.now) × (fuse < length image.now * 8) }
     ensures { (ws : List ℕ) → total ws ≤ 56 → fuse + total ws ≤ length image.now * 8
@@ -55,7 +57,8 @@ fn bits_from(image: &[u8], fuse: usize) -> u64
     word8(image, last) >> (fuse - last * 8)
 }
 
-// Five columns, one after another; the index behind them.
+// Five columns, one after another; the index behind them. A width is a number and no enum of the widths that `AllWide`
+// allows: it counts characters, fuses and shifts, so each use would turn it into the number again.
 #[inline(always)]
 fn put_columns(word: u64, widths: [usize; 5], out: &mut [u8], at: usize) -> usize
     requires { (AllWide widths) × (at + 7 + total widths ≤ length out.old) }

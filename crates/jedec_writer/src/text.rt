@@ -84,7 +84,8 @@ fn block_out(part: KnownDevice, image: &[u8], from: Spot, out: &mut [u8]) -> Spo
     rows_out(Area::WireAnd, rows, image, behind_main, out)
 }
 
-// The lines of all blocks; the index behind them.
+// The lines of all blocks; the index behind them. Here and in `text_out` the image has the length of the device: a
+// struct of the two would hold a loan, for these two functions.
 fn blocks_out(part: KnownDevice, image: &[u8], out: &mut [u8], at: usize) -> usize
     requires image { length image.now ≡ image_bytes part.device }
     requires fits { at + lines_bytes (pattern part.device) ≤ length out.old }
@@ -112,7 +113,8 @@ fn head_out(part: KnownDevice, out: &mut [u8]) -> usize
     11 + digits
 }
 
-// The line of the fuse sum, and ETX; the index behind them.
+// The line of the fuse sum, and ETX; the index behind them. Slice and index, as in `head_out` and `blocks_out`: each
+// gives the next one the index where it goes on.
 fn foot_out(sum: u16, out: &mut [u8], at: usize) -> usize
     requires { at + 8 ≤ length out.old }
     ensures stored { out.new ≡ sets out.old at (foot_text sum) }

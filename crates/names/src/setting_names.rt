@@ -1,14 +1,13 @@
 // The name of a setting, of one of its bits, and of a fuse, each after a space: so lines put it behind other bytes.
-// A function here may require that the setting has the bit, or that the device has the fuse.
+// A function here may require that the setting has the bit, or that a number of a name is below 100.
 ghost use Rattle.std.specs.Prelude.{◌∷◌, ◌++◌, ◌≤◌, ◌<◌, length};
 ghost use Rattle.part.specs.Device.{fuse_count};
 ghost use Rattle.settings.specs.Fields.{foes, macrocell_fields, macrocell_index, global_fields, global_index};
 ghost use Rattle.settings.specs.declared.Setting.TheVariants.{Literal, WireAnd, Macrocell, Block, Global};
 ghost use Rattle.setting_places.specs.Places.{bits_of};
 ghost use Rattle.jedec.specs.Characters.{space, count_digits};
-ghost use Rattle.names.specs.Names.{macrocell_parts, block_field_name, global_field_name, part_text, spaced, parts_of};
+ghost use Rattle.names.specs.Names.{macrocell_parts, block_field_name, global_field_name, spaced, parts_of};
 ghost use Rattle.names.specs.Names.{polarity_name, bit_text, setting_name, name_of, unnamed, name_at};
-ghost use Rattle.names.specs.Names.Part.{pt};
 ghost use Rattle.names.specs.Pieces.{text_of, Alone, Holds, SpellsWords, Spells, SpellsBit};
 
 use super::pieces::{BitName, FB, IM, MC, NOTHING, Name, PT, Piece, Words, numbered, piece_at};
@@ -29,25 +28,25 @@ fn words_of(text: &[u8]) -> Words
     }
 }
 
-// The term of ALLOC and HP, and the field.
-fn term_words(term: u32, field: &[u8]) -> Words
-    requires { (term < 100) × (length field.now ≤ 8) }
-    ensures { SpellsWords result ((space ∷ part_text (pt term)) ++ field.now) }
+// Letters and an index, and a field.
+fn indexed_words(letters: Piece, index: u32, field: &[u8]) -> Words
+    requires { (Alone letters) × (letters.len ≤ 6) × (index < 100) × (length field.now ≤ 8) }
+    ensures { SpellsWords result (text_of letters ++ count_digits index ++ field.now) }
 {
     Words {
-        one: numbered(PT, term),
+        one: numbered(letters, index),
         two: piece_at(field, 0),
         three: NOTHING,
     }
 }
 
-// The parts of a macrocell's field.
+// The parts of a macrocell's field. A match, here and below, is the table of the names: closures would say no more.
 fn macrocell_words(field: MacrocellField) -> Words
     requires { macrocell_index field < macrocell_fields }
     ensures { SpellsWords result (spaced (macrocell_parts field)) }
 {
     match field {
-        MacrocellField::Alloc(term) => term_words(term, b" ALLOC"),
+        MacrocellField::Alloc(term) => indexed_words(PT, term, b" ALLOC"),
         MacrocellField::Inv => words_of(b" INV"),
         MacrocellField::ImportUpAlloc => words_of(b" IMPORT_UP_ALLOC"),
         MacrocellField::ImportDownAlloc => words_of(b" IMPORT_DOWN_ALLOC"),
@@ -65,7 +64,7 @@ fn macrocell_words(field: MacrocellField) -> Words
         MacrocellField::UimOutInv => words_of(b" UIM_OUT_INV"),
         MacrocellField::IobGnd => words_of(b" IOB_GND"),
         MacrocellField::IobSlew => words_of(b" IOB_SLEW"),
-        MacrocellField::Hp(term) => term_words(term, b" HP"),
+        MacrocellField::Hp(term) => indexed_words(PT, term, b" HP"),
     }
 }
 
@@ -94,19 +93,8 @@ const FOE: Piece = Piece {
     len: 5,
 };
 
-// A global field with an index.
-fn indexed_words(letters: Piece, index: u32, field: &[u8]) -> Words
-    requires { (Alone letters) × (letters.len ≤ 6) × (index < 100) × (length field.now ≤ 8) }
-    ensures { SpellsWords result (text_of letters ++ count_digits index ++ field.now) }
-{
-    Words {
-        one: numbered(letters, index),
-        two: piece_at(field, 0),
-        three: NOTHING,
-    }
-}
-
-// A global field. Only the contracts read the device, which bounds the field's index.
+// A global field. Only the contracts read the device, which bounds the field's index here and in `global_name`.
+// A match is the table of the names, and no choice of a step.
 fn global_words(d: Device, field: GlobalField) -> Words
     requires { global_index (foes d) field < global_fields (foes d) }
     ensures { SpellsWords result (space ∷ global_field_name field) }
@@ -146,6 +134,8 @@ fn polarity_part(p: Polarity) -> Piece
     }
 }
 
+// Each number of a name is below 100. A type for such numbers would be proved at each call of these four functions,
+// just as their bounds are now.
 fn literal_name(block: u32, macrocell: u32, term: u32, input: u32, polarity: Polarity) -> Name
     requires { (block < 100) × (macrocell < 100) × (term < 100) × (input < 100) }
     ensures { Spells result (spaced (parts_of (Literal block macrocell term input polarity))) }
@@ -242,7 +232,8 @@ const DOT: Piece = Piece {
     len: 1,
 };
 
-// The bit after a dot, where the setting has several.
+// The bit after a dot, where the setting has several. The setting has the bit, here and in `name_of_bit`: a struct of
+// the two would serve these two functions alone.
 fn bit_part(there: DeviceSetting, bit: u32) -> Piece
     requires { bit < bits_of there.setting }
     ensures { (Holds result (bit_text there.setting bit)) × (result.len ≤ 3) }
@@ -280,19 +271,26 @@ fn no_name() -> BitName
     }
 }
 
-// The name of a fuse after a space. No fuse below the count is refused.
-pub fn name_at(part: KnownDevice, fuse: u32) -> BitName
-    requires { fuse < fuse_count part.device }
-    ensures { SpellsBit result (space ∷ name_at part.device fuse) }
+// A fuse, and a device that has it.
+#[derive(Clone, Copy, Debug, PartialEq, Eq)]
+pub struct DeviceFuse {
+    pub device: KnownDevice,
+    pub fuse: u32,
+    pub ghost is_there: { fuse < fuse_count device.device },
+}
+
+// The name of a fuse after a space. No fuse of the device is refused.
+pub fn name_at(there: DeviceFuse) -> BitName
+    ensures { SpellsBit result (space ∷ name_at there.device.device there.fuse) }
 {
-    let found = setting_at_fuse(part.device, FuseNumber(fuse)).unwrap();
+    let found = setting_at_fuse(there.device.device, FuseNumber(there.fuse)).unwrap();
     match found {
         Some(named) => {
-            let there = DeviceSetting {
-                device: part,
+            let setting = DeviceSetting {
+                device: there.device,
                 setting: named.setting,
             };
-            name_of_bit(there, named.bit)
+            name_of_bit(setting, named.bit)
         }
         None => no_name(),
     }

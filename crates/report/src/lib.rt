@@ -47,7 +47,7 @@ fn blocks_by(count: u32) -> u32
     2
 }
 
-// The block count by the first QF field from an offset on.
+// The block count by the first QF field from an offset on. A while let: the next offset comes from the field found.
 fn blocks_from(text: &[u8], from: usize) -> u32
     requires { from ≤ length text.now }
     ensures { result ≡ blocks_by (first_count (fields_at from (drop from text.now)).fields) }
@@ -77,7 +77,8 @@ fn blocks_for(text: &[u8]) -> u32
     }
 }
 
-// The lines of a text for a device, by way of its image.
+// The lines of a text for a device, by way of its image. It asks for 64 bytes as `put_counts` and `put_refusal` do,
+// and so does `put_report`.
 fn put_lines(part: KnownDevice, text: &[u8], image: &mut [u8], out: &mut [u8]) -> usize
     requires { (length image.old ≡ image_bytes part.device) × (64 ≤ length out.old) }
     ensures { Put out.old out.new 0 (lines_of part.device (meaning (fuse_count part.device) text.now)) result }

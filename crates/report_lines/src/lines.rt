@@ -59,7 +59,8 @@ fn put_line(word: &[u8], x: u32, out: &mut [u8], at: usize) -> usize
     put(b"\n", out, behind)
 }
 
-// The line of a refusal.
+// The line of a refusal. Any slice of 64 bytes or more will do, here and in `put_counts`: an array of 64 bytes in the
+// type would ask more of callers.
 pub fn put_refusal(number: u32, value: u32, out: &mut [u8]) -> usize
     requires { 64 ≤ length out.old }
     ensures { Put out.old out.new 0 (refusal_line number value) result }
@@ -68,7 +69,8 @@ pub fn put_refusal(number: u32, value: u32, out: &mut [u8]) -> usize
     put_line(b" at ", value, out, behind)
 }
 
-// The fuses at 0 of an image. It has the length of the device, so the count is not refused.
+// The fuses at 0 of an image. It has the length of the device, here and in `put_counts`, so the count is not refused. A
+// struct of device and image would hold a loan, for these two functions.
 fn zeros_in(part: KnownDevice, image: &[u8]) -> u32
     requires { length image.now ≡ image_bytes part.device }
     ensures { result ≡ zeros_below image.now (fuse_count part.device) }

@@ -6,11 +6,14 @@ use Rattle.differences.proofs.LineTexts.{first_below, rest_word, rest_below, one
 use borrow.Author.Rules.{rules}
 use Rattle.differences.proofs.scan.put_word.Goals as goal
 
+pub invariant_of-there : goal.invariant_of-there
+invariant_of-there c =
+    record { is_there = first_below c.args.from c.loop-left.left (search rules) c.loop-left.invariant.0 _ c.loop-left.invariant.1 }
+
 pub put_before-next-requires : goal.put_before-next-requires
 put_before-next-requires c =
     let left = c.loop-left.left in
     let word = c.loop-left.invariant.0 in (
-      first_below c.args.from left (search rules) word _ c.loop-left.invariant.1,
       state_small c.args.part.device c.args.from c.args.states left (search rules) word _ c.low_bits-state.ensures,
       line_fits c.args.part.device c.args.from c.args.states left (search rules) word _ _ _ _ _ _ _ c.loop-left.invariant.2
           (lines_fit c.args.part.device c.args.from c.args.states c.args.x _ _ (search rules)),

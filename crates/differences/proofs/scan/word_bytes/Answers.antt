@@ -8,9 +8,9 @@ use Rattle.differences.proofs.scan.word_bytes.Goals as goal
 pub loop-left-init : goal.loop-left-init
 loop-left-init c = (search rules, omega arith, search rules, omega (arith, ones_few c.args.from c.args.x))
 
-pub line_bytes-bytes-requires : goal.line_bytes-bytes-requires
-line_bytes-bytes-requires c =
-    first_below c.args.from c.loop-left.left (search rules) c.loop-left.invariant.0 _ c.loop-left.invariant.2
+pub invariant_of-there : goal.invariant_of-there
+invariant_of-there c =
+    record { is_there = first_below c.args.from c.loop-left.left (search rules) c.loop-left.invariant.0 _ c.loop-left.invariant.2 }
 
 pub loop-left-smaller : goal.loop-left-smaller
 loop-left-smaller c = ones_fall c.args.from c.loop-left.left (search rules) c.loop-left.invariant.0 _ c.without_lowest-left.ensures

@@ -2,6 +2,7 @@
 -- Assumes nothing.
 use mathlib.Core.Path.{refl}
 use mathlib.Core.List.{append-nil}
+use Rattle.cells.specs.Cells.{cut}
 use Rattle.settings.specs.declared.MacrocellField.TheVariants.{Alloc, Inv, ImportUpAlloc, ImportDownAlloc, ExportDir, SumHp, IobOeMux, OeMux, OutMux, ClkMux}
 use Rattle.settings.specs.declared.MacrocellField.TheVariants.{RegMode, RstMux, SetMux, Init, UimOeMux, UimOutInv, IobGnd, IobSlew, Hp}
 use Rattle.names.specs.Names.{spaced, macrocell_parts}
@@ -9,8 +10,8 @@ use Rattle.names.proofs.Spelled.{words_same}
 use Rattle.names.proofs.setting_names.macrocell_words.Goals as goal
 
 pub returns-in-Alloc : goal.returns-in-Alloc
-unfolding spaced
-returns-in-Alloc c = words_same (λ f. spaced (macrocell_parts f)) _ (Alloc _) _ _ c.in-Alloc.is (simp append-nil) c.term_words.ensures
+unfolding spaced cut
+returns-in-Alloc c = words_same (λ f. spaced (macrocell_parts f)) _ (Alloc _) _ _ c.in-Alloc.is (simp append-nil) c.indexed_words.ensures
 
 pub returns-in-Inv : goal.returns-in-Inv
 unfolding spaced
@@ -83,5 +84,5 @@ unfolding spaced
 returns-in-IobSlew c = words_same (λ f. spaced (macrocell_parts f)) _ IobSlew _ _ c.in-IobSlew.is refl c.words_of-in-IobSlew.ensures
 
 pub returns-in-Hp : goal.returns-in-Hp
-unfolding spaced
-returns-in-Hp c = words_same (λ f. spaced (macrocell_parts f)) _ (Hp _) _ _ c.in-Hp.is (simp append-nil) c.term_words-in-Hp.ensures
+unfolding spaced cut
+returns-in-Hp c = words_same (λ f. spaced (macrocell_parts f)) _ (Hp _) _ _ c.in-Hp.is (simp append-nil) c.indexed_words-in-Hp.ensures
