@@ -23,25 +23,24 @@ use setting_bits::in_bytes::{
     usercode_at,
 };
 use setting_places::places::{bits_of, place_of_literal};
-use settings::SettingNumber;
-use settings::numbers::{count_of, number_of_usercode, setting_of, start_of_wire_ands};
+use settings::numbers::{count_of, number_of_usercode, setting_of};
+use settings::{LiteralNumber, SettingNumber};
 
 // Where a literal stands. Refused: 6, where its byte has a bit above its width; an image has no such bits.
 fn literal_location(
-    d: KnownDevice,
+    literal: LiteralNumber,
     layout: Layout,
     bytes: &[u8],
-    number: SettingNumber,
 ) -> Result<Location, Refusal>
-    requires { (length bytes.now ≡ bytes_of d.device layout) × (number.0 < start d.device wire_ands) }
-    ensures { let above = above_in d.device layout bytes.now (setting_of d.device number.0) in MatchResult result
-        (λ at. (at.index ≡ byte_of d.device layout (fuse_of d.device (setting_of d.device number.0) 0))
-        × (at.bit ≡ bit_in d.device layout (fuse_of d.device (setting_of d.device number.0) 0))
-        × (above ≡ bytes_of d.device layout))
-        (λ e. (e ≡ BitAboveWidth above) × (above < bytes_of d.device layout)) }
+    requires { length bytes.now ≡ bytes_of literal.device.device layout }
+    ensures { let d = literal.device.device in let s = setting_of d literal.number.0 in
+        let above = above_in d layout bytes.now s in MatchResult result
+        (λ at. (at.index ≡ byte_of d layout (fuse_of d s 0)) × (at.bit ≡ bit_in d layout (fuse_of d s 0))
+        × (above ≡ bytes_of d layout))
+        (λ e. (e ≡ BitAboveWidth above) × (above < bytes_of d layout)) }
 {
-    let place = place_of_literal(d, number);
-    let at = location_at(d, layout, place);
+    let place = place_of_literal(literal);
+    let at = location_at(literal.device, layout, place);
     let above = above_width(bytes, at.index, width_of(place.byte));
     if layout.is_readout() & (above != 0) {
         return Err(Refusal::BitAboveWidth(at.index as u32));
@@ -49,53 +48,48 @@ fn literal_location(
     Ok(at)
 }
 
-// The device, if it is known, the bytes have its length and the number is that of a literal. Most settings are
-// literals; the operations ask this first, so that the way of a literal is compiled into each of them.
+// The number as that of a literal, if the device is known, the bytes have its length and the number is one. Most
+// settings are literals; the operations ask this first, so that the way of a literal is compiled into each of them.
 fn is_literal(
     d: Device,
     layout: Layout,
     length: usize,
     number: SettingNumber,
-) -> Option<KnownDevice>
+) -> Option<LiteralNumber>
     ensures { MatchOption result
         ((known d && eqb length (bytes_of d layout) && ltb number.0 (start d wire_ands)) ≡ false)
-        (λ part. (part.device ≡ d) × (length ≡ bytes_of d layout) × (number.0 < start d wire_ands)) }
+        (λ x. (x.device.device ≡ d) × (x.number ≡ number) × (length ≡ bytes_of d layout)) }
 {
     let part = KnownDevice::try_from(d).ok()?;
-    let exact = length == bytes_of(part, layout);
-    (exact & (number.0 < start_of_wire_ands(part))).then_some(part)
+    let literal = LiteralNumber::new(part, number)?;
+    (length == bytes_of(part, layout)).then_some(literal)
 }
 
 // The pattern of a literal, by its number. Refused: 6.
-fn read_literal(
-    d: KnownDevice,
-    layout: Layout,
-    bytes: &[u8],
-    number: SettingNumber,
-) -> Result<u32, Refusal>
-    requires { (length bytes.now ≡ bytes_of d.device layout) × (number.0 < start d.device wire_ands) }
-    ensures { number_outcome result ≡ read_pattern d.device layout bytes.now number.0 }
+fn read_literal(literal: LiteralNumber, layout: Layout, bytes: &[u8]) -> Result<u32, Refusal>
+    requires { length bytes.now ≡ bytes_of literal.device.device layout }
+    ensures { number_outcome result ≡ read_pattern literal.device.device layout bytes.now literal.number.0 }
 {
-    let at = literal_location(d, layout, bytes, number)?;
+    let at = literal_location(literal, layout, bytes)?;
     Ok(bit_of(bytes, at.index, at.bit))
 }
 
 // A literal set to a pattern, by its number. Refused: 5, 6.
 fn set_literal(
-    d: KnownDevice,
+    literal: LiteralNumber,
     layout: Layout,
     bytes: &mut [u8],
-    number: SettingNumber,
     pattern: u32,
 ) -> Result<(), Refusal>
-    requires { (length bytes.old ≡ bytes_of d.device layout) × (number.0 < start d.device wire_ands) }
-    ensures { Written (set_pattern d.device layout bytes.old number.0 pattern) (done_outcome result)
-        (with_numbered d.device layout bytes.old number.0 pattern) bytes.old bytes.new }
+    requires { length bytes.old ≡ bytes_of literal.device.device layout }
+    ensures { let d = literal.device.device in let x = literal.number.0 in
+        Written (set_pattern d layout bytes.old x pattern) (done_outcome result)
+        (with_numbered d layout bytes.old x pattern) bytes.old bytes.new }
 {
     if 1 < pattern {
         return Err(Refusal::NoSuchValue);
     }
-    let at = literal_location(d, layout, bytes, number)?;
+    let at = literal_location(literal, layout, bytes)?;
     set_bit(bytes, at.index, at.bit, pattern);
     Ok(())
 }
@@ -171,7 +165,7 @@ pub fn read(d: Device, layout: Layout, bytes: &[u8], number: SettingNumber) -> R
     ensures { number_outcome result ≡ read_pattern d layout bytes.now number.0 }
 {
     match is_literal(d, layout, bytes.len(), number) {
-        Some(part) => read_literal(part, layout, bytes, number),
+        Some(literal) => read_literal(literal, layout, bytes),
         None => read_numbered(d, layout, bytes, number),
     }
 }
@@ -189,7 +183,7 @@ pub fn set(
         (with_numbered d layout bytes.old number.0 pattern) bytes.old bytes.new }
 {
     match is_literal(d, layout, bytes.len(), number) {
-        Some(part) => set_literal(part, layout, bytes, number, pattern),
+        Some(literal) => set_literal(literal, layout, bytes, pattern),
         None => set_numbered(d, layout, bytes, number, pattern),
     }
 }

@@ -16,7 +16,7 @@ use addresses::bytes::address_of_byte;
 use part::places::fuse_of_place;
 use part::{Device, FuseNumber, KnownDevice, Place, Refusal};
 use settings::numbers::{start_of_blocks, start_of_macrocells, start_of_wire_ands};
-use settings::{DeviceSetting, Setting, SettingNumber};
+use settings::{DeviceSetting, LiteralNumber, Setting, SettingNumber};
 
 mod numbered;
 pub mod places;
@@ -103,11 +103,11 @@ pub fn fuse_of_numbered_bit(
     let Ok(part) = KnownDevice::try_from(d) else {
         return through_setting(d.blocks, d.class, number, bit);
     };
+    if let Some(literal) = LiteralNumber::new(part, number) {
+        return Ok(numbered::literal_bit(literal, bit));
+    }
     let x = number.0;
     let wire_ands = start_of_wire_ands(part);
-    if x < wire_ands {
-        return Ok(numbered::literal_bit(part, number, bit));
-    }
     let macrocells = start_of_macrocells(part);
     if x < macrocells {
         return Ok(numbered::wire_and_bit(part, x - wire_ands, bit));

@@ -2,7 +2,7 @@
 // A function here requires that the number or the position is one of the group.
 ghost use Rattle.std.specs.Prelude.{◌≡◌, ◌<◌};
 ghost use Rattle.part.specs.Outcome.Outcome.{accepted};
-ghost use Rattle.settings.specs.Order.{start, size, in_group, setting_of};
+ghost use Rattle.settings.specs.Order.{size, in_group, setting_of};
 ghost use Rattle.settings.specs.Order.Group.{wire_ands, macrocell_settings};
 ghost use Rattle.setting_places.specs.Answer.{option_of, located_fuse};
 ghost use Rattle.setting_places.specs.Operations.{located_bit};
@@ -11,7 +11,7 @@ use super::places::{field_rows, macrocell_place, place_of_literal, wire_and_plac
 use super::{FuseAt, located};
 use part::KnownDevice;
 use part::quotients::divided;
-use settings::SettingNumber;
+use settings::LiteralNumber;
 use settings::fields::{MACROCELL_FIELDS, MACROCELLS};
 use settings::numbers::wire_and_indices;
 
@@ -21,17 +21,15 @@ const FIELD_SHIFT: u32 = 18;
 const FIELD_FACTOR: u64 = (1 << FIELD_SHIFT) / MACROCELL_FIELDS as u64 + 1;
 
 // A bit of a literal, which has one, by its number.
-// That the number is a literal's is asked for, here and in `place_of_literal`: `fuse_of_numbered_bit` tells the groups
-// apart by one comparison each and needs the bounds again for the next group, which a type would hide.
-pub fn literal_bit(d: KnownDevice, number: SettingNumber, bit: u32) -> Option<FuseAt>
-    requires { number.0 < start d.device wire_ands }
-    ensures { accepted (option_of located_fuse result) ≡ located_bit d.device (setting_of d.device number.0) bit }
+pub fn literal_bit(literal: LiteralNumber, bit: u32) -> Option<FuseAt>
+    ensures { accepted (option_of located_fuse result)
+        ≡ located_bit literal.device.device (setting_of literal.device.device literal.number.0) bit }
 {
     if 0 < bit {
         return None;
     }
-    let place = place_of_literal(d, number);
-    Some(located(d, place))
+    let place = place_of_literal(literal);
+    Some(located(literal.device, place))
 }
 
 // A bit of the wire-AND at a position, which has one.

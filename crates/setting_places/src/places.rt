@@ -11,10 +11,10 @@ ghost use Rattle.setting_places.specs.Places.{global_bits, bits_of, fuse_of};
 use part::geometry::MAIN_COLUMNS;
 use part::places::fuse_of_place;
 use part::quotients::{MAIN_COLUMN_FACTOR, divided};
-use part::{BytePlace, Device, FuseNumber, KnownDevice, Place};
+use part::{BytePlace, Device, FuseNumber, Place};
 use settings::numbers::{TERM_LITERALS, WireAndIndices};
 use settings::{
-    BlockField, DeviceSetting, GlobalField, MacrocellField, Polarity, Setting, SettingNumber,
+    BlockField, DeviceSetting, GlobalField, LiteralNumber, MacrocellField, Polarity, Setting,
 };
 
 // The factors that divide the number of a literal by the literals of a term, and that of a term by the columns, with
@@ -161,11 +161,10 @@ fn literal_row(input: u32, polarity: Polarity) -> u32
 
 // The place of a literal, by its number: 72 literals to a term, and the terms of a block run through the 15 columns,
 // bit after bit.
-pub fn place_of_literal(d: KnownDevice, number: SettingNumber) -> Place
-    requires { number.0 < start d.device wire_ands }
-    ensures { result ≡ place_of (setting_of d.device number.0) 0 }
+pub fn place_of_literal(literal: LiteralNumber) -> Place
+    ensures { result ≡ place_of (setting_of literal.device.device literal.number.0) 0 }
 {
-    let terms = divided(number.0, TERM_LITERALS, TERM_FACTOR, TERM_SHIFT);
+    let terms = divided(literal.number.0, TERM_LITERALS, TERM_FACTOR, TERM_SHIFT);
     let columns = divided(terms.quotient, MAIN_COLUMNS, COLUMN_FACTOR, COLUMN_SHIFT);
     let bits = divided(columns.quotient, 6, MAIN_COLUMN_FACTOR, 8);
     let row = literal_row(terms.rest / 2, Polarity::from_index(terms.rest % 2));

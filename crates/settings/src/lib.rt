@@ -11,9 +11,11 @@ use part::{Device, KnownDevice, Refusal};
 
 pub mod device_setting;
 pub mod fields;
+pub mod literal_number;
 pub mod numbers;
 
 pub use device_setting::DeviceSetting;
+pub use literal_number::LiteralNumber;
 
 // Which sense of an input a literal takes: the input itself, or its complement.
 #[derive(Clone, Copy, Debug, PartialEq, Eq)]

@@ -19,8 +19,8 @@ use borrow.Author.Rules.{rules}
 use Rattle.setting_places.proofs.fuse_of_numbered_bit.Goals as goal
 
 module _ (d : Device) (x bit : ℕ) (o : Outcome (Option LocatedFuse)) (k : known d ≡ true) where
-  for_literal : (a : ℕ) → a ≡ start d wire_ands → x < a → o ≡ located_bit d (setting_of d x) bit → o ≡ located_by_number d x bit
-  for_literal a e l f = for_setting d x bit o k (setting_of d x) (omega (arith, ends d literals)) refl f
+  for_literal : x < start d wire_ands → o ≡ located_bit d (setting_of d x) bit → o ≡ located_by_number d x bit
+  for_literal l f = for_setting d x bit o k (setting_of d x) (omega (arith, ends d literals)) refl f
 
   for_wire_and : (a b : ℕ) → a ≡ start d wire_ands → b ≡ start d macrocell_settings → a ≤ x → x < b
       → o ≡ located_bit d (in_group d wire_ands (x - a)) bit → o ≡ located_by_number d x bit
@@ -34,8 +34,9 @@ module _ (d : Device) (x bit : ℕ) (o : Outcome (Option LocatedFuse)) (k : know
       for_setting d x bit o k (in_group d macrocell_settings (x - a)) (omega (arith, ends d macrocell_settings))
       (among_macrocells d x a b _ e f low high refl) g
 
-pub returns-then-x-wire_ands : goal.returns-then-x-wire_ands
-returns-then-x-wire_ands c = rw (← c.in-Ok.ensures) (search (rules, for_literal))
+pub returns-in-Some : goal.returns-in-Some
+returns-in-Some c =
+    rw (← c.in-Ok.ensures, ← c.in-Some.ensures.0, ← c.in-Some.ensures.1) (search (rules, for_literal))
 
 pub returns-then-x-macrocells : goal.returns-then-x-macrocells
 returns-then-x-macrocells c = rw (← c.in-Ok.ensures) (search (rules, for_wire_and))

@@ -9,7 +9,8 @@ pub returns-in_err-at : goal.returns-in_err-at
 returns-in_err-at c = search (rules, refused_with, read_above)
 
 pub bit_of-requires : goal.bit_of-requires
-bit_of-requires c = (search (rules, there), bit_in_lem _ _ c.requires.1 c.args.d.is_known _ _ c.in_ok-at.ensures.1)
+bit_of-requires c =
+    (search (rules, there), bit_in_lem _ _ c.args.literal.is_literal c.args.literal.device.is_known _ _ c.in_ok-at.ensures.1)
 
 pub returns : goal.returns
 returns c = search (rules, read_state)

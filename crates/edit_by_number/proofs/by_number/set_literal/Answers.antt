@@ -12,7 +12,11 @@ pub returns-in_err-at : goal.returns-in_err-at
 returns-in_err-at c = search (rules, written_with, set_above)
 
 pub set_bit-requires : goal.set_bit-requires
-set_bit-requires c = (search (rules, there), bit_in_lem _ _ c.requires.1 c.args.d.is_known _ _ c.in_ok-at.ensures.1, search rules)
+set_bit-requires c = (
+  search (rules, there),
+  bit_in_lem _ _ c.args.literal.is_literal c.args.literal.device.is_known _ _ c.in_ok-at.ensures.1,
+  search rules,
+)
 
 pub returns : goal.returns
 returns c = search (rules, set_state)
