@@ -80,10 +80,10 @@ fn put_exact(there: DeviceFuse, state: u64, out: &mut [u8], at: usize) -> usize
 // shorter slice: the loan of a part of `out` at each line would stand in each loop's invariant.
 fn put_before(there: DeviceFuse, state: u64, out: &mut [u8], at: usize, end: usize) -> usize
     requires { (state < 2) × (at + line_bytes there.device.device there.fuse ≤ end)
-        × (end ≤ length out.old) × (end ≤ 30000000) }
+        × (end ≤ length out.old) }
     ensures { Laid out.old out.new at end (line_with there.device.device there.fuse state) result }
 {
-    if at + 64 <= end {
+    if 64 <= end - at {
         return put_line(there, state, out, at);
     }
     put_exact(there, state, out, at)
@@ -100,7 +100,7 @@ fn put_word(
     end: usize,
 ) -> usize
     requires { (from ≤ 1000000) × (AllBelow (fuse_count part.device) (ones_from from x 64))
-        × (at + lines_bytes part.device (ones_from from x 64) ≤ end) × (end ≤ length out.old) × (end ≤ 30000000) }
+        × (at + lines_bytes part.device (ones_from from x 64) ≤ end) × (end ≤ length out.old) }
     ensures { Laid out.old out.new at end (lines_with part.device from states (ones_from from x 64)) result }
 {
     let mut left = x;
@@ -121,8 +121,7 @@ fn put_word(
 // The lines of all fuses that differ.
 pub fn put_lines(part: KnownDevice, old: &[u8], new: &[u8], out: &mut [u8], at: usize, end: usize)
     requires { (length old.now ≡ image_bytes part.device) × (length new.now ≡ image_bytes part.device)
-        × (at + lines_bytes part.device (differing_fuses part.device old.now new.now) ≡ end) × (end ≤ length out.old)
-        × (end ≤ 30000000) }
+        × (at + lines_bytes part.device (differing_fuses part.device old.now new.now) ≡ end) × (end ≤ length out.old) }
     ensures { Laid out.old out.new at end
         (lines_of part.device old.now new.now (differing_fuses part.device old.now new.now)) end }
 {

@@ -4,8 +4,8 @@ use Rattle.differences.proofs.LaidText.{until_later}
 use borrow.Author.Rules.{rules}
 use Rattle.differences.proofs.scan.put_before.Goals as goal
 
-pub returns-then-at-end : goal.returns-then-at-end
-returns-then-at-end c = search (rules, until_later)
+pub returns-then-end-at-ge64 : goal.returns-then-end-at-ge64
+returns-then-end-at-ge64 c = search (rules, until_later)
 
 pub returns : goal.returns
 returns c = search (rules, until_later)

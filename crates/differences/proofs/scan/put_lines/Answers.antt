@@ -30,7 +30,6 @@ put_word-next-requires c =
       ones_there _ _ _ c.args.part.is_known c.requires.0 c.requires.1 c.loop-i.i _ _ 0 (search rules) word other,
       text_fits _ _ _ c.args.part.is_known c.requires.0 c.requires.1 c.loop-i.i _ _ 0 (search rules) word other _ _
           _ _ _ _ c.loop-i.invariant.2 c.requires.2,
-      omega arith,
       search rules,
     )
 

@@ -17,7 +17,6 @@ put_before-next-requires c =
       state_small c.args.part.device c.args.from c.args.states left (search rules) word _ c.low_bits-state.ensures,
       line_fits c.args.part.device c.args.from c.args.states left (search rules) word _ _ _ _ _ _ _ c.loop-left.invariant.2
           (lines_fit c.args.part.device c.args.from c.args.states c.args.x _ _ (search rules)),
-      omega arith,
       search rules,
     )
 
