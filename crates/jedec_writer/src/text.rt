@@ -33,7 +33,7 @@ pub struct Spot {
 }
 
 // A line of five columns; where the next one begins. Compiled where it is called, as `put_line` is: a function of its
-// own would be slower, as measured.
+// own would be slower, as measured. The widths are numbers for the reason that `put_columns` of `jedec_lines` gives.
 #[inline(always)]
 fn line_out(image: &[u8], widths: [usize; 5], from: Spot, out: &mut [u8]) -> Spot
     requires wide { AllWide widths }
