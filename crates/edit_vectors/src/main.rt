@@ -19,6 +19,7 @@ const MANY: u32 = 1 << 20;
 // OE_MUX of macrocell 0 of block 0, of the smallest part.
 const OE_MUX: u32 = 15563;
 
+// The layout says which function of the interface is asked: each has a name of its own there.
 fn read(layout: Layout, d: Device, bytes: &[u8], setting: u32) -> u64 {
     match layout {
         Layout::Image => xc9500::xc9500_read_in_image(d.blocks, d.class, bytes, setting),

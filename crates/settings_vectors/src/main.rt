@@ -16,7 +16,7 @@ use vectors::SMALLEST;
 // The word of an answer that has no result: no such bit, no setting at the fuse.
 const NONE: u64 = 72057594037927935;
 
-// The words of the answers, packed as the C interface does.
+// The words of the answers, packed as the C interface does, and not by its crate, which is what is compared.
 fn refusal_word(r: Refusal) -> u64 {
     (r.number() as u64) << 56 | r.value() as u64
 }
