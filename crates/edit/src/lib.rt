@@ -16,6 +16,9 @@ use values::Value;
 
 pub mod by_name;
 
+// Image and readout have functions of their own, each one call long: docs/STATEMENTS.md promises these four names and
+// their contracts.
+
 // The value of a setting in an image. Refused: 1, 2, 4.
 pub fn read_in_image(d: Device, image: &[u8], s: Setting) -> Result<Value, Refusal>
     ensures { value_outcome result ≡ read_in d Image image.now s }

@@ -26,6 +26,9 @@ use setting_places::places::{bits_of, place_of_literal};
 use settings::numbers::{count_of, number_of_usercode, setting_of};
 use settings::{LiteralNumber, SettingNumber};
 
+// That the bytes have their length is asked for in the three functions of a literal, as in `setting_bits`: `is_literal`
+// has just shown it, and a type of layout and bytes would have to come twice.
+
 // Where a literal stands. Refused: 6, where its byte has a bit above its width; an image has no such bits.
 fn literal_location(
     literal: LiteralNumber,
@@ -49,7 +52,8 @@ fn literal_location(
 }
 
 // The number as that of a literal, if the device is known, the bytes have its length and the number is one. Most
-// settings are literals; the operations ask this first, so that the way of a literal is compiled into each of them.
+// settings are literals; the operations ask this first, so that the way of a literal is compiled into each of them. Of
+// the bytes it takes the length alone, since it looks at none of them.
 fn is_literal(
     d: Device,
     layout: Layout,
@@ -159,7 +163,8 @@ fn set_numbered(
 }
 
 // The pattern of a setting, by its number: a literal goes a way of its own. Refused: 1, 2, 4, 6. This and `set` are
-// compiled into each operation, where the layout is a constant.
+// compiled into each operation, where the layout is a constant. Each has both ways, whose arguments and answers differ
+// from reading to setting: passed as closures, they would be longer than these two arms.
 #[inline(always)]
 pub fn read(d: Device, layout: Layout, bytes: &[u8], number: SettingNumber) -> Result<u32, Refusal>
     ensures { number_outcome result ≡ read_pattern d layout bytes.now number.0 }

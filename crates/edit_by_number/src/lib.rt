@@ -14,6 +14,9 @@ use settings::SettingNumber;
 
 mod by_number;
 
+// Image and readout have functions of their own: the C interface has four, as `xc9500_read_in_image`, and in each of
+// these the layout is a constant, with which `by_number` is compiled.
+
 // The pattern of a setting in an image, by its number. Refused: 1, 2, 4.
 pub fn read_pattern_in_image(d: Device, image: &[u8], number: SettingNumber) -> Result<u32, Refusal>
     ensures { number_outcome result ≡ read_pattern d Image image.now number.0 }

@@ -7,7 +7,8 @@ ghost use Rattle.patterns.specs.Patterns.{same, candidate, pattern_in, found_pat
 use values::lists::{bits_in, value_in};
 use values::{Kind, Value};
 
-// The only pattern that can stand for a name of FCLK.MUX or FOE.MUX: the lists of the kind say which.
+// The only pattern that can stand for a name of FCLK.MUX or FOE.MUX: the lists of the kind say which. Two tests are as
+// short as a search through 1 and 2 that gives 3 where it finds none, and they are those of the contract.
 fn mux_candidate(kind: Kind, v: Value) -> u32
     ensures { result ≡ cond (same (value_in kind 1) v) 1 (cond (same (value_in kind 2) v) 2 3) }
 {
@@ -20,7 +21,8 @@ fn mux_candidate(kind: Kind, v: Value) -> u32
     }
 }
 
-// The only pattern that can stand for a value.
+// The only pattern that can stand for a value. Each variant holds a type of its own, so the pattern is taken from it
+// where the value is matched.
 #[tactic(auto, unfolding(crate::specs::Patterns::candidate))]
 fn candidate(kind: Kind, v: Value) -> u32
     ensures { result ≡ candidate (value_in kind) v }

@@ -19,6 +19,9 @@ use part::{KnownDevice, Place};
 use setting_places::places::{bits_of, place_of};
 use settings::{DeviceSetting, GlobalField, Setting};
 
+// That bytes have the length of their layout is asked for: a type of layout and bytes would have to come twice, for
+// `&[u8]` and for `&mut [u8]`, and callers that read and then write would make the one from the other in between.
+
 // A byte of an image or a readout, and one of its bits.
 #[derive(Clone, Copy, Debug, PartialEq, Eq)]
 pub struct Location {
@@ -36,7 +39,8 @@ pub fn bytes_of(d: KnownDevice, layout: Layout) -> usize
     }
 }
 
-// Where the fuse at a place stands.
+// Where the fuse at a place stands. That the device has the place is asked for: each of the two callers has just made
+// the place, of a setting that the device has, and a type for it would be opened here at once.
 #[tactic(auto, using(crate::proofs::Steps::located))]
 pub fn location_at(d: KnownDevice, layout: Layout, place: Place) -> Location
     requires { has_place d.device place ≡ true }
@@ -170,7 +174,8 @@ pub fn put_pattern(layout: Layout, bytes: &mut [u8], s: DeviceSetting, pattern: 
     }
 }
 
-// The bits of a byte above a width.
+// The bits of a byte above a width. If the byte itself were passed, each caller would show the same bound where it
+// looks the byte up.
 pub fn above_width(bytes: &[u8], index: usize, width: u32) -> u32
     requires { (index < length bytes.now) × (width < 32) }
     ensures { result ≡ get_or bytes.now index 0 / 2 ^ width }

@@ -85,7 +85,8 @@ pub enum IobSlew {
     Fast = 0,
 }
 
-// Of FCLK[c].MUX and of FOE[e].MUX, where the pattern of a name depends on c, or on e and the class.
+// Of FCLK[c].MUX and of FOE[e].MUX, where the pattern of a name depends on c, or on e and the class: so these names
+// carry no patterns.
 #[derive(Clone, Copy, Debug, PartialEq, Eq)]
 pub enum FclkMux {
     None,

@@ -13,7 +13,8 @@ use super::{
     OutMux, RegMode, RstSetMux, TermAlloc, UimOeMux, Value,
 };
 
-// The lists of document 003, each by its patterns in its order.
+// The lists of document 003, each by its patterns in its order. The eleven differ in their patterns and names alone,
+// and these are what a list is: one function for all would take each list as a table beside it, and search the table.
 impl TryFrom<u32> for TermAlloc {
     type Error = NoName;
 
@@ -189,7 +190,7 @@ fn value_of<T: TryFrom<u32, Error = NoName>, F: Fn(T) -> Value>(pattern: u32, na
     }
 }
 
-// A flag is true at the state 0.
+// A flag is true at the state 0. Its type is `bool`, for which no crate but the library can have a `try_from`.
 fn flag(pattern: u32) -> Value
     ensures { result ≡ named flags pattern }
 {
@@ -212,6 +213,7 @@ fn mux(pattern: u32, v3: Value, v2: Value, v1: Value) -> Value
     }
 }
 
+// FCLK.MUX has its list by c and FOE.MUX by e and the class, which `try_from` is not given.
 #[tactic(auto, unfolding(crate::specs::Values::fclk_muxes))]
 fn fclk_mux(c: u32, pattern: u32) -> Value
     ensures { result ≡ named (fclk_muxes c) pattern }
@@ -248,7 +250,8 @@ fn foe_mux(e: u32, large: bool, pattern: u32) -> Value
     )
 }
 
-// The value that a pattern stands for.
+// The value that a pattern stands for. A kind is data, from the setting that the caller names: a step passed in place
+// of the kind would be chosen by the same match there.
 pub fn value_in(kind: Kind, pattern: u32) -> Value
     ensures { result ≡ value_in kind pattern }
 {
