@@ -21,8 +21,8 @@ fn mux_candidate(kind: Kind, v: Value) -> u32
     }
 }
 
-// The only pattern that can stand for a value. Each variant holds a type of its own, so the pattern is taken from it
-// where the value is matched.
+// The only pattern that can stand for a value. The variants hold values of different types, so the pattern is taken
+// from each where it is matched.
 #[tactic(auto, unfolding(crate::specs::Patterns::candidate))]
 fn candidate(kind: Kind, v: Value) -> u32
     ensures { result ≡ candidate (value_in kind) v }

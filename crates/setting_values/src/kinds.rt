@@ -48,8 +48,8 @@ fn global_kind(d: Device, field: GlobalField) -> Kind
     }
 }
 
-// The kind of value of a setting. Two of the variants hold a field, of different types, which has its own match: a
-// closure could not take both.
+// The kind of value of a setting. In two of the variants it depends on the field, and these fields have different
+// types: a closure could not take both.
 #[tactic(auto, unfolding(crate::specs::Kinds::kind_of))]
 pub fn kind_of(d: Device, s: Setting) -> Kind
     ensures { result ≡ kind_of d s }
