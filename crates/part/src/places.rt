@@ -74,7 +74,7 @@ pub fn width_of(byte: BytePlace) -> u32
     }
 }
 
-// The number of the fuse at a place: the first fuse of its byte, and its bit there.
+// The number of the fuse at a place: the first fuse of its byte, and its bit there, added last as the definition has it.
 // That the device has the place is asked for, and not carried by a type, which would be taken apart here and in each
 // crate above; `fuse_settings` asks the same of a device that need not be known.
 pub fn fuse_of_place(d: KnownDevice, place: Place) -> FuseNumber
@@ -86,7 +86,7 @@ pub fn fuse_of_place(d: KnownDevice, place: Place) -> FuseNumber
     match byte {
         BytePlace::Main { block, row, column } => {
             let start = column_start(9, 6, column);
-            FuseNumber(block * per_block + (row * MAIN_ROW_FUSES + (start + bit)))
+            FuseNumber(block * per_block + (row * MAIN_ROW_FUSES + start) + bit)
         }
         BytePlace::WireAnd {
             block,
@@ -95,8 +95,9 @@ pub fn fuse_of_place(d: KnownDevice, place: Place) -> FuseNumber
             column,
         } => {
             let start = column_start(1, 7, column);
-            let in_subarea = row * WIRE_AND_ROW_FUSES + (start + bit);
-            FuseNumber(block * per_block + (MAIN_FUSES + (subarea * SUBAREA_FUSES + in_subarea)))
+            let in_subarea = row * WIRE_AND_ROW_FUSES + start;
+            let in_block = MAIN_FUSES + (subarea * SUBAREA_FUSES + in_subarea);
+            FuseNumber(block * per_block + in_block + bit)
         }
     }
 }

@@ -95,14 +95,14 @@ overflow_mul-in_subarea c = omega (arith, in_wire_and_lem c)
 pub overflow_add-in_subarea : goal.overflow_add-in_subarea
 overflow_add-in_subarea c = omega (arith, in_wire_and_lem c)
 
-pub overflow_add-in_subarea-in-WireAnd : goal.overflow_add-in_subarea-in-WireAnd
-overflow_add-in_subarea-in-WireAnd c = omega (arith, in_wire_and_lem c)
+pub overflow_add-in_block : goal.overflow_add-in_block
+overflow_add-in_block c = omega (arith, in_wire_and_lem c)
 
 pub overflow_mul-result-in-WireAnd : goal.overflow_mul-result-in-WireAnd
 overflow_mul-result-in-WireAnd c = omega (arith, in_wire_and_lem c)
 
-pub overflow_mul-result-in-WireAnd-2 : goal.overflow_mul-result-in-WireAnd-2
-overflow_mul-result-in-WireAnd-2 c = omega (arith, in_wire_and_lem c)
+pub overflow_mul-in_block : goal.overflow_mul-in_block
+overflow_mul-in_block c = omega (arith, in_wire_and_lem c)
 
 pub overflow_add-result-in-WireAnd : goal.overflow_add-result-in-WireAnd
 overflow_add-result-in-WireAnd c = omega (arith, in_wire_and_lem c)
@@ -110,5 +110,5 @@ overflow_add-result-in-WireAnd c = omega (arith, in_wire_and_lem c)
 pub overflow_add-result-in-WireAnd-2 : goal.overflow_add-result-in-WireAnd-2
 overflow_add-result-in-WireAnd-2 c = omega (arith, in_wire_and_lem c)
 
-pub overflow_add-result-in-WireAnd-3 : goal.overflow_add-result-in-WireAnd-3
-overflow_add-result-in-WireAnd-3 c = omega (arith, in_wire_and_lem c)
+pub overflow_add-in_block-in-WireAnd : goal.overflow_add-in_block-in-WireAnd
+overflow_add-in_block-in-WireAnd c = omega (arith, in_wire_and_lem c)
