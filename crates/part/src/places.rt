@@ -74,7 +74,7 @@ pub fn width_of(byte: BytePlace) -> u32
     }
 }
 
-// The number of the fuse at a place: the first fuse of its byte, and its bit there, added last as the definition has it.
+// The number of the fuse at a place: the first fuse of its byte, and its bit, added last as the definition has it.
 // That the device has the place is asked for, and not carried by a type, which would be taken apart here and in each
 // crate above; `fuse_settings` asks the same of a device that need not be known.
 pub fn fuse_of_place(d: KnownDevice, place: Place) -> FuseNumber
