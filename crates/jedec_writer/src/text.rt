@@ -84,8 +84,7 @@ fn block_out(part: KnownDevice, image: &[u8], from: Spot, out: &mut [u8]) -> Spo
     rows_out(Area::WireAnd, rows, image, behind_main, out)
 }
 
-// The lines of all blocks; the index behind them. Here and in `text_out` the image has the length of the device: a
-// struct of the two would hold a loan, for these two functions.
+// The lines of all blocks; the index behind them. Here and in `text_out` the image has the length of the device.
 fn blocks_out(part: KnownDevice, image: &[u8], out: &mut [u8], at: usize) -> usize
     requires image { length image.now ≡ image_bytes part.device }
     requires fits { at + lines_bytes (pattern part.device) ≤ length out.old }

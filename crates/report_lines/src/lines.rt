@@ -69,8 +69,7 @@ pub fn put_refusal(number: u32, value: u32, out: &mut [u8]) -> usize
     put_line(b" at ", value, out, behind)
 }
 
-// The fuses at 0 of an image. It has the length of the device, here and in `put_counts`, so the count is not refused. A
-// struct of device and image would hold a loan, for these two functions.
+// The fuses at 0 of an image. It has the length of the device, here and in `put_counts`, so the count is not refused.
 fn zeros_in(part: KnownDevice, image: &[u8]) -> u32
     requires { length image.now ≡ image_bytes part.device }
     ensures { result ≡ zeros_below image.now (fuse_count part.device) }
