@@ -33,8 +33,8 @@ fn same_four(old: &[u8], new: &[u8], at: usize) -> bool
     (one & two) & (three & four)
 }
 
-// Bytes that are the same in both are passed over, 32 at a time. Here and in `skip_same` the index goes on in steps, and
-// is the answer also where nothing differs.
+// Bytes that are the same in both are passed over, 32 at a time. Here and in `skip_same` the index goes on in steps,
+// and is the answer also where nothing differs.
 fn skip_fours(old: &[u8], new: &[u8], from: usize) -> usize
     requires { (length new.now ≡ length old.now) × (length old.now ≤ 65536) × (from ≤ length old.now + 8) }
     ensures { (differing_from old.now new.now from
