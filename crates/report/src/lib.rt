@@ -85,7 +85,7 @@ fn put_lines(part: KnownDevice, text: &[u8], image: &mut [u8], out: &mut [u8]) -
 {
     match text_to_image(part.device, text, image) {
         Ok(()) => put_counts(part, image, out),
-        Err(r) => put_refusal(r.number(), r.value(), out),
+        Err(r) => put_refusal(r, out),
     }
 }
 
@@ -102,7 +102,7 @@ fn put_report(text: &[u8], out: &mut [u8]) -> usize
     ensures { Put out.old out.new 0 (report_of text.now) result }
 {
     if MOST_LENGTH < text.len() {
-        return put_refusal(7, MOST_BYTES, out);
+        return put_refusal(Refusal::BadForm(MOST_BYTES), out);
     }
     let part = KnownDevice {
         device: Device {
