@@ -19,7 +19,7 @@ use values::lists::value_in;
 
 // The lowest index of a byte that holds the setting and has a bit above its width: an image has no such bits.
 #[tactic(auto, unfolding(crate::specs::Edit::above_in))]
-fn above_in(layout: Layout, bytes: &[u8], s: DeviceSetting) -> Option<usize>
+pub fn above_in(layout: Layout, bytes: &[u8], s: DeviceSetting) -> Option<usize>
     requires { length bytes.now ≡ bytes_of s.device.device layout }
     ensures { result ≡ below (length bytes.now) (above_in s.device.device layout bytes.now s.setting) }
 {
