@@ -13,6 +13,7 @@ ghost use Rattle.report_lines.specs.Put.{Put};
 ghost use Rattle.report.specs.Report.{of_blocks, first_count, blocks_by, blocks_for, lines_of};
 ghost use Rattle.report.specs.Report.{report_of, bytes_put, at_start};
 
+use image::DeviceImage;
 use jedec_fields::NextSays;
 use jedec_fields::scan::{next_judged, next_star};
 use jedec_judge::FieldSays;
@@ -84,7 +85,7 @@ fn put_lines(part: KnownDevice, text: &[u8], image: &mut [u8], out: &mut [u8]) -
     ensures { Put out.old out.new 0 (lines_of part.device (meaning (fuse_count part.device) text.now)) result }
 {
     match text_to_image(part.device, text, image) {
-        Ok(()) => put_counts(part, image, out),
+        Ok(()) => put_counts(DeviceImage { part, bytes: image }, out),
         Err(r) => put_refusal(r, out),
     }
 }
