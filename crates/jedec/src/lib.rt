@@ -2,13 +2,14 @@
 // share. What a text means and what the writer writes is defined in specs/.
 #![tactic(auto)]
 
-ghost use Rattle.std.specs.Prelude.{◌≡◌, ◌+◌, ◌<◌, ◌≤◌, length, drop, MatchOption, MatchResult};
+ghost use Rattle.std.specs.Prelude.{◌≡◌, ◌<◌, ◌≤◌, length, MatchResult};
 ghost use Rattle.part.specs.declared.Refusal.TheVariants.{BadForm};
 ghost use Rattle.jedec.specs.Characters.{is_blank};
-ghost use Rattle.jedec.specs.Cut.{blanks_before};
 ghost use Rattle.jedec.specs.Meaning.{longest};
 
 use part::Refusal;
+
+pub mod blanks;
 
 // A text starts with STX, and ETX stands after its fields.
 pub const STX: u8 = 2;
@@ -48,20 +49,4 @@ pub fn is_blank(b: u8) -> bool
     ensures { result ≡ is_blank b }
 {
     (b == b' ') | (b == b'\t') | (b == b'\r') | (b == b'\n')
-}
-
-// The offset of the next byte from an offset on that is no blank. It may require that the offset is in the text, which
-// moves on at each call, so no type keeps that. `position` would answer an offset in a part of the text, to which the
-// start is added again.
-pub fn next_other(text: &[u8], at: usize) -> Option<usize>
-    requires { at ≤ length text.now }
-    ensures { MatchOption result (at + blanks_before (drop at text.now) ≡ length text.now)
-        (λ other. (other ≡ at + blanks_before (drop at text.now)) × (other < length text.now)) }
-{
-    for i in at..text.len() {
-        if !is_blank(text[i]) {
-            return Some(i);
-        }
-    }
-    None
 }

@@ -4,7 +4,7 @@ ghost use Rattle.std.specs.Prelude.{◌≤◌, length, drop};
 ghost use Rattle.jedec.specs.Cut.{tail_from};
 ghost use Rattle.jedec_end.specs.End.{TailStands};
 
-use jedec::next_other;
+use jedec::blanks::next_other;
 use jedec_judge::digits::hex_value;
 
 // The transmission sum that stands after an ETX, from an offset on, or the offset of the first wrong byte.

@@ -5,7 +5,8 @@ ghost use Rattle.jedec_fields.specs.Fields.{until_star, Stands};
 
 use super::NextSays;
 use super::lists::list_field;
-use jedec::{ETX, next_other};
+use jedec::ETX;
+use jedec::blanks::next_other;
 use jedec_judge::FieldSays;
 use jedec_judge::letters::judge_field;
 

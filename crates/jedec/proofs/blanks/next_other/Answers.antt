@@ -3,7 +3,7 @@
 use native.Mathlib.Omega.{arith}
 use borrow.Author.Rules.{rules}
 use Rattle.jedec.proofs.Counts.{blanks_stop, blanks_go, blanks_end}
-use Rattle.jedec.proofs.next_other.Goals as goal
+use Rattle.jedec.proofs.blanks.next_other.Goals as goal
 
 pub returns-then-not-is_blank : goal.returns-then-not-is_blank
 returns-then-not-is_blank c = (search (rules, blanks_stop), omega arith)
