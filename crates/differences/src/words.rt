@@ -18,8 +18,7 @@ pub fn word_at(bytes: &[u8], at: usize) -> u64
     cells::words::joined(bytes, at, 8, left)
 }
 
-// Whether 32 bytes from an index on are the same in both. The lengths are the same in each function here: a struct of
-// two slices with that fact would hold two loans, and say `pair.old.now` in each clause.
+// Whether 32 bytes from an index on are the same in both. The lengths are the same in each function here.
 fn same_four(old: &[u8], new: &[u8], at: usize) -> bool
     requires { (at + 32 ≤ length old.now) × (length new.now ≡ length old.now) }
     ensures { result
@@ -34,8 +33,8 @@ fn same_four(old: &[u8], new: &[u8], at: usize) -> bool
     (one & two) & (three & four)
 }
 
-// Bytes that are the same in both are passed over, 32 at a time. A while here and in `skip_same`: the answer is the
-// index where it stops, which a for does not give.
+// Bytes that are the same in both are passed over, 32 at a time. Here and in `skip_same` the index goes on in steps,
+// and is the answer also where nothing differs.
 fn skip_fours(old: &[u8], new: &[u8], from: usize) -> usize
     requires { (length new.now ≡ length old.now) × (length old.now ≤ 65536) × (from ≤ length old.now + 8) }
     ensures { (differing_from old.now new.now from

@@ -3,9 +3,10 @@
 ghost use Rattle.std.specs.Prelude.{◌≡◌, length};
 ghost use Rattle.part.specs.Answer.{done_outcome};
 ghost use Rattle.part.specs.Outcome.{Written};
+ghost use Rattle.part.specs.Outcome.Outcome.{accepted};
 ghost use Rattle.setting_values.specs.Operations.{value_outcome};
 ghost use Rattle.setting_bits.specs.SettingBits.{bytes_of, below};
-ghost use Rattle.edit.specs.Edit.{above_in, read_in, set_in, with_value};
+ghost use Rattle.edit.specs.Edit.{above_in, if_clean, read_in, set_in, with_value};
 
 use part::{Device, KnownDevice, Refusal};
 use patterns::of_values::pattern_in;
@@ -28,6 +29,19 @@ pub fn above_in(layout: Layout, bytes: &[u8], s: DeviceSetting) -> Option<usize>
     }
 }
 
+// Refused: 6, where a byte that holds the setting has a bit above its width.
+#[tactic(auto, using(crate::proofs::Rules::all))]
+pub fn check_above(layout: Layout, bytes: &[u8], there: DeviceSetting) -> Result<(), Refusal>
+    requires { length bytes.now ≡ bytes_of there.device.device layout }
+    ensures { done_outcome result
+        ≡ if_clean there.device.device layout bytes.now there.setting (accepted tt) }
+{
+    match above_in(layout, bytes, there) {
+        Some(above) => Err(Refusal::BitAboveWidth(above as u32)),
+        None => Ok(()),
+    }
+}
+
 // The value of a setting. Refused: 1, 2, 4, 6.
 #[tactic(auto, using(crate::proofs::Rules::all), unfolding(crate::specs::Edit::read_in))]
 pub fn read(d: Device, layout: Layout, bytes: &[u8], s: Setting) -> Result<Value, Refusal>
@@ -38,9 +52,7 @@ pub fn read(d: Device, layout: Layout, bytes: &[u8], s: Setting) -> Result<Value
         return Err(Refusal::WrongLength);
     }
     let there = DeviceSetting::new(part, s)?;
-    if let Some(above) = above_in(layout, bytes, there) {
-        return Err(Refusal::BitAboveWidth(above as u32));
-    }
+    check_above(layout, bytes, there)?;
     let pattern = pattern_at(layout, bytes, there);
     Ok(value_in(kind_of(d, s), pattern))
 }
@@ -57,9 +69,7 @@ pub fn set(d: Device, layout: Layout, bytes: &mut [u8], s: Setting, v: Value) ->
     }
     let there = DeviceSetting::new(part, s)?;
     let pattern = pattern_in(kind_of(d, s), v).ok_or(Refusal::NoSuchValue)?;
-    if let Some(above) = above_in(layout, bytes, there) {
-        return Err(Refusal::BitAboveWidth(above as u32));
-    }
+    check_above(layout, bytes, there)?;
     put_pattern(layout, bytes, there, pattern);
     Ok(())
 }

@@ -12,7 +12,7 @@ ghost use Rattle.setting_bits.specs.SettingBits.{bytes_of, byte_of, bit_in};
 ghost use Rattle.edit.specs.Edit.{above_in};
 ghost use Rattle.edit_by_number.specs.ByNumber.{read_pattern, set_pattern, with_numbered};
 
-use edit::by_name::above_in;
+use edit::by_name::check_above;
 use image::bytes::{bit_of, set_bit};
 use part::places::width_of;
 use part::{Device, KnownDevice, Refusal};
@@ -23,8 +23,8 @@ use setting_bits::in_bytes::{
     usercode_at,
 };
 use setting_places::places::{bits_of, place_of_literal};
-use settings::numbers::{count_of, number_of_usercode, setting_of};
-use settings::{LiteralNumber, SettingNumber};
+use settings::numbers::number_of_usercode;
+use settings::{DeviceSetting, LiteralNumber, SettingNumber};
 
 // That the bytes have their length is asked for in the three functions of a literal, as in `setting_bits`: `is_literal`
 // has just shown it, and a type of layout and bytes would have to come twice.
@@ -112,19 +112,15 @@ fn read_numbered(
     if bytes.len() != bytes_of(part, layout) {
         return Err(Refusal::WrongLength);
     }
-    if count_of(part) <= number.0 {
-        return Err(Refusal::NoSuchSetting);
-    }
-    // Copies are given to what may be compiled apart: so the pointer and the length of `bytes` stay in registers
+    // USERCODE comes before refusal 4: every device has it, so its number is never refused.
+    // Copies are given to what may be compiled apart: so the pointer and the length of `bytes` stay in registers.
     if number.0 == number_of_usercode(part) {
         let whole = bytes;
         return Ok(usercode_at(part, layout, whole));
     }
     let same = bytes;
-    let s = setting_of(part, number);
-    if let Some(above) = above_in(layout, same, s) {
-        return Err(Refusal::BitAboveWidth(above as u32));
-    }
+    let s = DeviceSetting::of_number(part, number)?;
+    check_above(layout, same, s)?;
     Ok(pattern_at(layout, same, s))
 }
 
@@ -144,20 +140,16 @@ fn set_numbered(
     if bytes.len() != bytes_of(part, layout) {
         return Err(Refusal::WrongLength);
     }
-    if count_of(part) <= number.0 {
-        return Err(Refusal::NoSuchSetting);
-    }
+    // As in `read_numbered`, USERCODE comes before refusal 4.
     if number.0 == number_of_usercode(part) {
         put_usercode(part, layout, bytes, pattern);
         return Ok(());
     }
-    let s = setting_of(part, number);
+    let s = DeviceSetting::of_number(part, number)?;
     if !fits(bits_of(s.setting), pattern) {
         return Err(Refusal::NoSuchValue);
     }
-    if let Some(above) = above_in(layout, bytes, s) {
-        return Err(Refusal::BitAboveWidth(above as u32));
-    }
+    check_above(layout, bytes, s)?;
     put_pattern(layout, bytes, s, pattern);
     Ok(())
 }

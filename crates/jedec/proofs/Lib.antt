@@ -9,6 +9,7 @@ pub mod NotGiven
 pub mod Conditions
 pub mod Misplaced
 pub mod Cutting
+pub mod Counts
 pub mod Forms
 pub mod TakenApart
 pub mod FormIff

@@ -9,6 +9,8 @@ ghost use Rattle.jedec.specs.Meaning.{longest};
 
 use part::Refusal;
 
+pub mod blanks;
+
 // A text starts with STX, and ETX stands after its fields.
 pub const STX: u8 = 2;
 

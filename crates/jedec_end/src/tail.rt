@@ -4,21 +4,8 @@ ghost use Rattle.std.specs.Prelude.{◌≤◌, length, drop};
 ghost use Rattle.jedec.specs.Cut.{tail_from};
 ghost use Rattle.jedec_end.specs.End.{TailStands};
 
-use jedec::is_blank;
+use jedec::blanks::next_other;
 use jedec_judge::digits::hex_value;
-
-// After the four digits only blanks may stand: the sum, or the offset of the first wrong byte.
-fn tail_blanks(text: &[u8], at: usize, sum: u32) -> Result<u32, usize>
-    requires { at ≤ length text.now }
-    ensures { TailStands text.now at (tail_from at 0 sum (drop at text.now)) result }
-{
-    for i in at..text.len() {
-        if !is_blank(text[i]) {
-            return Err(i);
-        }
-    }
-    Ok(sum)
-}
 
 // The transmission sum that stands after an ETX, from an offset on, or the offset of the first wrong byte.
 pub fn tail_from(text: &[u8], at: usize) -> Result<u32, usize>
@@ -36,5 +23,8 @@ pub fn tail_from(text: &[u8], at: usize) -> Result<u32, usize>
         };
         sum = sum * 16 + digit;
     }
-    tail_blanks(text, at + 4, sum)
+    match next_other(text, at + 4) {
+        Some(other) => Err(other),
+        None => Ok(sum),
+    }
 }

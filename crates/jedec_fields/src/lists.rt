@@ -31,7 +31,7 @@ fn states_run(bytes: &[u8]) -> StatesRun
         count: 0,
         bits: 0,
     };
-    // This stays a `while`: each turn goes on by as many bytes as it takes, up to nine.
+    // Each turn goes on by as many bytes as it takes, up to nine, so this is no `for`.
     while run.length < bytes.len() {
         let count = states_at(bytes, run.length);
         let taken = count + blank_at(bytes, run.length + count) as usize;

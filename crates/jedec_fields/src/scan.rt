@@ -1,19 +1,17 @@
 // Positions in a text, and the next field judged: for the reader.
 // A function here may require that a position is in the text: it moves on at each call, so no type keeps that.
 ghost use Rattle.std.specs.Prelude.{◌≡◌, ◌+◌, ◌<◌, ◌≤◌, length, drop, MatchOption};
-ghost use Rattle.jedec.specs.Cut.{blanks_before};
 ghost use Rattle.jedec_fields.specs.Fields.{until_star, Stands};
 
 use super::NextSays;
 use super::lists::list_field;
-use jedec::{ETX, is_blank};
+use jedec::ETX;
+use jedec::blanks::next_other;
 use jedec_judge::FieldSays;
 use jedec_judge::letters::judge_field;
 
-// The two searches here are `for`s and not `position`, which would answer an offset in a part of the text, to which the
+// The offset of the next `*` from an offset on. `position` would answer an offset in a part of the text, to which the
 // start is added again.
-
-// The offset of the next `*` from an offset on.
 pub fn next_star(text: &[u8], at: usize) -> Option<usize>
     requires { at ≤ length text.now }
     ensures { MatchOption result (at + until_star (drop at text.now) ≡ length text.now)
@@ -27,27 +25,13 @@ pub fn next_star(text: &[u8], at: usize) -> Option<usize>
     None
 }
 
-// The offset of the next byte from an offset on that is no blank.
-fn skip_blanks(text: &[u8], at: usize) -> Option<usize>
-    requires { at ≤ length text.now }
-    ensures { MatchOption result (at + blanks_before (drop at text.now) ≡ length text.now)
-        (λ start. (start ≡ at + blanks_before (drop at text.now)) × (start < length text.now)) }
-{
-    for i in at..text.len() {
-        if !is_blank(text[i]) {
-            return Some(i);
-        }
-    }
-    None
-}
-
 // What stands next from an offset on, judged, or nothing where the text ends early. Most fields of a text are good
 // L fields, and each byte of these is looked at once.
 pub fn next_judged(text: &[u8], at: usize) -> Option<NextSays>
     requires { at ≤ length text.now }
     ensures { Stands text.now at result }
 {
-    let start = skip_blanks(text, at)?;
+    let start = next_other(text, at)?;
     let b = text[start];
     if b == ETX {
         return Some(NextSays::End(start));

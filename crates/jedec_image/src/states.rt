@@ -46,7 +46,7 @@ fn put_states(bytes: &[u8], image: &mut [u8], fuse: usize)
     let mut bit: u32 = (fuse % 8) as u32;
     let mut low = low_bits(image[index] as u64, bit);
     let mut i: usize = 0;
-    // This stays a `while`: each turn goes on by as many bytes as it takes, up to nine.
+    // Each turn goes on by as many bytes as it takes, up to nine, so this is no `for`.
     while i < bytes.len() {
         let count = states_at(bytes, i);
         low += bits_at(bytes, i, count) << bit;

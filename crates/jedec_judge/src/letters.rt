@@ -39,7 +39,7 @@ fn after_c(bytes: &[u8]) -> FieldSays
 }
 
 // What a field that is no good L field says, by the letters that it starts with. It holds neither STX nor ETX. The
-// match is document 01's table of letters, so it stays one.
+// match is document 01's table of letters.
 fn by_letters(field: &[u8]) -> FieldSays
     requires { NoGoodList field.now }
     ensures { Says (drop 1 field.now) (by_letters field.now) result }

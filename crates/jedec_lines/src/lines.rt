@@ -42,8 +42,7 @@ fn put_column(word: u64, width: usize, out: &mut [u8], at: usize)
 }
 
 // The bits of an image from a fuse on, at least 56 or all that are left: the last lines are
-// taken from the last eight bytes. Here and in `put_line` the image has eight bytes: a struct that holds the fact would
-// hold a loan, for these two functions.
+// taken from the last eight bytes. Here and in `put_line` the image has eight bytes, as that of every device has.
 fn bits_from(image: &[u8], fuse: usize) -> u64
     requires { (8 ≤ length image.now) × (fuse < length image.now * 8) }
     ensures { (ws : List ℕ) → total ws ≤ 56 → fuse + total ws ≤ length image.now * 8

@@ -1,7 +1,7 @@
 -- The frame of a text: its head, its foot, and the whole; what a call answers and leaves in the buffer.
 -- Assumes nothing.
 use mathlib.Core.Path.{◌≡◌, refl, sym, ◌∙◌, ap}
-use mathlib.Core.Bool.{true, false}
+use mathlib.Core.Bool.{true}
 use mathlib.Core.List.{List, [], ◌∷◌, ◌++◌, append_assoc}
 use Prim.Native.Nat.{ℕ, ◌+◌, ◌*◌, ◌-◌, ◌/◌, ◌^◌, ◌≤◌, ◌<◌}
 use native.Mathlib.Omega.{arith}
@@ -17,7 +17,12 @@ use Rattle.part.specs.Device.{known, fuse_count, image_bytes, text_bytes, decima
 use Rattle.part.specs.Sizes.{if_known, if_length}
 use Rattle.part.specs.declared.Device.{Device}
 use Rattle.image.specs.Image.{sum16}
-use Rattle.part.proofs.Checks as checks
+use Rattle.part.specs.Answer.{refusal_number, refusal_value, number_outcome}
+use Rattle.part.specs.declared.Refusal.{Refusal}
+use Rattle.part.proofs.Refused.{written_with}
+use Rattle.image.proofs.Checked.{still_refused, accepted_on}
+use Rattle.std.specs.Prelude.{Result}
+use Rattle.std.specs.Result.{IsErrAnd}
 use Rattle.part.proofs.Targets.{says}
 use Rattle.jedec.specs.Characters.{stx, etx, letter_c, letter_f, letter_l, letter_q, decimal_digit, hex_digit, seven_digits, count_digits, four_hex}
 use Rattle.jedec.specs.WrittenText.{line_end, lines_text, head_text, foot_text, up_to_etx, text_with}
@@ -134,37 +139,38 @@ module _ (d : Device) (image buffer : List ℕ) where
   abbrev At : Outcome ℕ → List ℕ → Type 0
   At answer after = Written (to_text d image (length buffer)) answer (with_text d image buffer) buffer after
 
-  pub no_device : known d ≡ false → At (refused 1 0) buffer
+  pub refused_first : (r : Result ℕ Refusal) (x : Refusal) → IsErrAnd r (λ z. z ≡ x)
+      → refused (refusal_number x) (refusal_value x) ≡ if_known d (if_length (length image) (image_bytes d) (accepted (tt {0})))
+      → At (number_outcome r) buffer
   unfolding to_text
-  no_device h = says (to_text d image (length buffer)) (refused 1 0) (with_text d image buffer) buffer (checks.no_device d _ h)
+  refused_first r x h g =
+      written_with (λ z. z) (to_text d image (length buffer)) r x x (with_text d image buffer) buffer buffer h refl
+      (says (to_text d image (length buffer)) (refused (refusal_number x) (refusal_value x)) (with_text d image buffer) buffer
+      (still_refused d (length image) (image_bytes d) _ _ _ g))
 
-  module _ (k : known d ≡ true) (x : ℕ) (ex : x ≡ image_bytes d) where
-    pub wrong_length : (length image ≡ x → ⊥) → At (refused 2 0) buffer
+  -- An image of its device's length, which is the image that was asked for.
+  module _ (p : Device) (bytes : List ℕ) (k : known p ≡ true) (l : length bytes ≡ image_bytes p) (same : p ≡ d) (all : bytes ≡ image)
+      (y : ℕ) (ey : y ≡ text_bytes p) where
+    needed : y ≡ text_bytes d
+    needed = rw same at ey
+
+    pub too_short : length buffer < y → At (refused 12 y) buffer
     unfolding to_text
-    wrong_length h =
-        says (to_text d image (length buffer)) (refused 2 0) (with_text d image buffer) buffer
-        (checks.other_length (length image) (image_bytes d) _ x ex h ∙ sym (checks.the_device d _ k))
+    too_short h =
+        let short : length buffer < text_bytes d = omega (arith, needed) in
+        says (to_text d image (length buffer)) (refused 12 y) (with_text d image buffer) buffer
+        (ap (refused 12) needed ∙ sym (rw (lt-ltb (length buffer) (text_bytes d) short)) ∙ accepted_on p d bytes image k l same all _)
 
-    module _ (hx : length image ≡ x) (y : ℕ) (ey : y ≡ text_bytes d) where
-      tested : (o : Outcome ℕ) → o ≡ if_known d (if_length (length image) (image_bytes d) o)
-      tested o = sym (checks.the_length (length image) (image_bytes d) o x ex hx) ∙ sym (checks.the_device d _ k)
-
-      pub too_short : length buffer < y → At (refused 12 y) buffer
-      unfolding to_text
-      too_short h =
-          let short : length buffer < text_bytes d = omega arith in
-          says (to_text d image (length buffer)) (refused 12 y) (with_text d image buffer) buffer
-          (ap (refused 12) ey ∙ sym (rw (lt-ltb (length buffer) (text_bytes d) short)) ∙ tested _)
-
-      pub all_passed : y ≤ length buffer → (after : List ℕ) → after ≡ sets buffer 0 (text_of d image) → At (accepted y) after
-      unfolding to_text
-      all_passed h after f =
-          let long : text_bytes d ≤ length buffer = omega arith in
-          let same : accepted y ≡ to_text d image (length buffer) =
-          ap accepted ey ∙ sym (rw (le-ltb (length buffer) (text_bytes d) long)) ∙ tested _ in
-          record {
-            answers = same;
-            holds =
-                f ∙ stored_first buffer (text_of d image) (text_bytes d) (text_length d image) long
-                ∙ ap (λ (o : Outcome ℕ). written o (with_text d image buffer) buffer) same;
-          }
+    pub all_passed : y ≤ length buffer → (after : List ℕ) → after ≡ sets buffer 0 (text_of p bytes) → At (accepted y) after
+    unfolding to_text
+    all_passed h after f =
+        let long : text_bytes d ≤ length buffer = omega (arith, needed) in
+        let put : after ≡ sets buffer 0 (text_of d image) = rw (same, all) at f in
+        let answer : accepted y ≡ to_text d image (length buffer) =
+        ap accepted needed ∙ sym (rw (le-ltb (length buffer) (text_bytes d) long)) ∙ accepted_on p d bytes image k l same all _ in
+        record {
+          answers = answer;
+          holds =
+              put ∙ stored_first buffer (text_of d image) (text_bytes d) (text_length d image) long
+              ∙ ap (λ (o : Outcome ℕ). written o (with_text d image buffer) buffer) answer;
+        }

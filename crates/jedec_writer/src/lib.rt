@@ -7,7 +7,8 @@ ghost use Rattle.part.specs.Answer.{number_outcome};
 ghost use Rattle.part.specs.Outcome.{Written};
 ghost use Rattle.jedec_writer.specs.Pattern.{to_text, with_text};
 
-use part::{Device, KnownDevice, Refusal};
+use image::DeviceImage;
+use part::{Device, Refusal};
 
 mod text;
 
@@ -16,14 +17,11 @@ pub fn image_to_text(d: Device, image: &[u8], text: &mut [u8]) -> Result<u32, Re
     ensures { Written (to_text d image.now (length text.old)) (number_outcome result)
         (with_text d image.now text.old) text.old text.new }
 {
-    let part = KnownDevice::try_from(d)?;
-    if image.len() != part.image_bytes() as usize {
-        return Err(Refusal::WrongLength);
-    }
-    let needed = part.text_bytes();
+    let whole = DeviceImage::new(d, image)?;
+    let needed = whole.part.text_bytes();
     if text.len() < needed as usize {
         return Err(Refusal::BufferTooShort(needed));
     }
-    text::text_out(part, image, text);
+    text::text_out(whole, text);
     Ok(needed)
 }

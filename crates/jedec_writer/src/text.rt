@@ -1,15 +1,16 @@
 // The text of an image: its rows, its blocks, and the frame around the lines.
-// A function here may require that an image has the length of the device, and that what it puts fits the slice.
+// A function here may require that what it puts fits the slice.
 ghost use Rattle.std.specs.Prelude.{◌≡◌, [], ◌∷◌, ◌+◌, ◌≤◌, length};
 ghost use Rattle.std.proofs.lemmas.List.Edits.{sets};
 ghost use Rattle.cells.specs.Cells.{repeat};
-ghost use Rattle.part.specs.Device.{fuse_count, image_bytes, text_bytes};
+ghost use Rattle.part.specs.Device.{fuse_count, text_bytes};
 ghost use Rattle.jedec.specs.WrittenText.{lines_text, head_text, foot_text};
 ghost use Rattle.jedec_lines.specs.Columns.{AllWide};
 ghost use Rattle.jedec_writer.specs.Pattern.{row_lines, block_lines, lines_bytes, pattern, text_of};
 ghost use Rattle.jedec_writer.specs.Spots.{Room, Lined};
 
 use cells::words::put_cells;
+use image::DeviceImage;
 use jedec_lines::characters::{four_hex, line_start};
 use jedec_lines::lines::{LINE_FRAME, put_line};
 use part::geometry::{MAIN_ROWS, WIRE_AND_ROWS, decimal_digits};
@@ -75,26 +76,25 @@ fn rows_out(area: Area, count: u32, image: &[u8], from: Spot, out: &mut [u8]) ->
 }
 
 // The lines of a block.
-fn block_out(part: KnownDevice, image: &[u8], from: Spot, out: &mut [u8]) -> Spot
-    requires { Room (block_lines part.device) image.now from out.old }
-    ensures { Lined (block_lines part.device) image.now out.old out.new from result }
+fn block_out(image: DeviceImage, from: Spot, out: &mut [u8]) -> Spot
+    requires { Room (block_lines image.part.device) image.bytes.now from out.old }
+    ensures { Lined (block_lines image.entry.part.device) image.entry.bytes.now out.old out.new from result }
 {
-    let behind_main = rows_out(Area::Main, MAIN_ROWS, image, from, out);
-    let rows = part.blocks() * WIRE_AND_ROWS;
-    rows_out(Area::WireAnd, rows, image, behind_main, out)
+    let behind_main = rows_out(Area::Main, MAIN_ROWS, image.bytes, from, out);
+    let rows = image.part.blocks() * WIRE_AND_ROWS;
+    rows_out(Area::WireAnd, rows, image.bytes, behind_main, out)
 }
 
-// The lines of all blocks; the index behind them. Here and in `text_out` the image has the length of the device: a
-// struct of the two would hold a loan, for these two functions.
-fn blocks_out(part: KnownDevice, image: &[u8], out: &mut [u8], at: usize) -> usize
-    requires image { length image.now ≡ image_bytes part.device }
-    requires fits { at + lines_bytes (pattern part.device) ≤ length out.old }
-    ensures stored { out.new ≡ sets out.old at (lines_text image.now 0 (pattern part.device)) }
-    ensures behind { result ≡ at + lines_bytes (pattern part.device) }
+// The lines of all blocks; the index behind them.
+fn blocks_out(image: DeviceImage, out: &mut [u8], at: usize) -> usize
+    requires { at + lines_bytes (pattern image.part.device) ≤ length out.old }
+    ensures stored { out.new
+        ≡ sets out.old at (lines_text image.entry.bytes.now 0 (pattern image.entry.part.device)) }
+    ensures behind { result ≡ at + lines_bytes (pattern image.entry.part.device) }
 {
     let mut next = Spot { fuse: 0, at };
-    for block in 0..part.blocks() {
-        next = block_out(part, image, next, out);
+    for block in 0..image.part.blocks() {
+        next = block_out(image, next, out);
     }
     next.at
 }
@@ -127,14 +127,13 @@ fn foot_out(sum: u16, out: &mut [u8], at: usize) -> usize
 }
 
 // The text of an image, and nothing behind it.
-pub fn text_out(part: KnownDevice, image: &[u8], text: &mut [u8])
-    requires image { length image.now ≡ image_bytes part.device }
-    requires fits { text_bytes part.device ≤ length text.old }
-    ensures { text.new ≡ sets text.old 0 (text_of part.device image.now) }
+pub fn text_out(image: DeviceImage, text: &mut [u8])
+    requires { text_bytes image.part.device ≤ length text.old }
+    ensures { text.new ≡ sets text.old 0 (text_of image.entry.part.device image.entry.bytes.now) }
 {
-    let lines = head_out(part, text);
-    let foot = blocks_out(part, image, text, lines);
-    let end = foot_out(image::bytes::sum_of(image), text, foot);
+    let lines = head_out(image.part, text);
+    let foot = blocks_out(image, text, lines);
+    let end = foot_out(image::bytes::sum_of(image.bytes), text, foot);
     let sum = image::bytes::sum_of(&text[..end]);
     put_cells(four_hex(sum), 8, 4, text, end);
 }

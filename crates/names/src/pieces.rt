@@ -11,7 +11,7 @@ pub struct Piece {
     pub len: usize,
 }
 
-// Words of a name in up to three pieces. No array: each is taken by its name, once.
+// Words of a name in up to three pieces. No array: each is taken by its name.
 #[derive(Clone, Copy, Debug, PartialEq, Eq)]
 pub struct Words {
     pub one: Piece,

@@ -59,13 +59,13 @@ module _ (d : Device) (text before image : List ℕ) (k : known d ≡ true) (l :
       let done : to_image_from_text d text before ≡ accepted tt = sym w.answers ∙ ap done_outcome e in
       rw (image_lines d (meaning (fuse_count d) text) image (sym done ∙ read) (rw done at w.holds)) at p
 
-  pub of_refusal : (r : Refusal) (n v : ℕ) → a ≡ Err r → n ≡ refusal_number r → v ≡ refusal_value r
-      → Put out after 0 (refusal_line n v) end → Put out after 0 (lines_of d (meaning (fuse_count d) text)) end
-  of_refusal r n v e en ev p =
-      let said : refused n v ≡ verdict (meaning (fuse_count d) text) = rw (en, ev) (ap done_outcome (sym e)) ∙ w.answers ∙ read in
-      rw (refused_lines d (meaning (fuse_count d) text) n v said) at p
+  pub of_refusal : (r : Refusal) → a ≡ Err r → Put out after 0 (refusal_line (refusal_number r) (refusal_value r)) end
+      → Put out after 0 (lines_of d (meaning (fuse_count d) text)) end
+  of_refusal r e p =
+      let said : done_outcome (Err r) ≡ verdict (meaning (fuse_count d) text) = ap done_outcome (sym e) ∙ w.answers ∙ read in
+      rw (refused_lines d (meaning (fuse_count d) text) (refusal_number r) (refusal_value r) said) at p
 
--- The device for a text has two blocks or four; it is known, and its image fits the buffer.
+-- The device for a text has two blocks or four, and its image fits the buffer.
 two_or_four : (P : ℕ → Type 0) → P 2 → P 4 → (o : Option ℕ) → P (blocks_by o)
 two_or_four P two four none = two
 two_or_four P two four (some n) = go (eqb n (fuse_count (of_blocks 4)))
@@ -78,31 +78,27 @@ pub by_device : (P : ℕ → Type 0) → P 2 → P 4 → (text : List ℕ) → P
 unfolding blocks_for
 by_device P two four text = two_or_four P two four (first_count (fields_in (pieces text).ended (pieces text).rest))
 
-module _ (text : List ℕ) (b : ℕ) (e : b ≡ blocks_for text) where
-  pub device_known : known (of_blocks b) ≡ true
-  unfolding known
-  device_known = rw e (by_device (λ n. known (of_blocks n) ≡ true) refl refl text)
+module _ (text : List ℕ) (d : Device) (e : d ≡ of_blocks (blocks_for text)) (x : ℕ) (f : x ≡ image_bytes d) (made : List ℕ)
+    (l : length made ≡ image_bytes (of_blocks 4)) where
+  pub image_fits : x ≤ length made
+  unfolding fuse_count image_bytes
+  image_fits = rw (f, l, e) (by_device (λ n. image_bytes (of_blocks n) ≤ image_bytes (of_blocks 4)) (omega arith) (omega arith) text)
 
-  module _ (x : ℕ) (f : x ≡ image_bytes (of_blocks b)) (made : List ℕ) (l : length made ≡ image_bytes (of_blocks 4)) where
-    pub image_fits : x ≤ length made
-    unfolding fuse_count image_bytes
-    image_fits = rw (f, l, e) (by_device (λ n. image_bytes (of_blocks n) ≤ image_bytes (of_blocks 4)) (omega arith) (omega arith) text)
+  pub image_part : x ≡ length (take x made)
+  image_part = sym (length-take-le x made image_fits)
 
-    pub image_part : x ≡ length (take x made)
-    image_part = sym (length-take-le x made image_fits)
-
-    pub image_size : length (take x made) ≡ image_bytes (of_blocks b)
-    image_size = sym image_part ∙ f
+  pub image_size : length (take x made) ≡ image_bytes d
+  image_size = sym image_part ∙ f
 
 module _ (text out after : List ℕ) (end : ℕ) where
   pub too_long : most < length text → Put out after 0 (refusal_line 7 most) end → Put out after 0 (report_of text) end
   unfolding outcome_of report_of
   too_long h p = rw (lt-ltb most (length text) h) p
 
-  pub not_too_long : (b : ℕ) → b ≡ blocks_for text → length text ≤ most
-      → Put out after 0 (lines_of (of_blocks b) (meaning (fuse_count (of_blocks b)) text)) end → Put out after 0 (report_of text) end
+  pub not_too_long : (d : Device) → d ≡ of_blocks (blocks_for text) → length text ≤ most
+      → Put out after 0 (lines_of d (meaning (fuse_count d) text)) end → Put out after 0 (report_of text) end
   unfolding outcome_of report_of
-  not_too_long b e h p = rw (le-ltb most (length text) h) (rw e at p)
+  not_too_long d e h p = rw (le-ltb most (length text) h) (rw e at p)
 
 -- A report is short.
 line_short : (word digits : List ℕ) (n : ℕ) → length digits ≤ n → length (line word digits) ≤ length word + n + 1

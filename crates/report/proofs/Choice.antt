@@ -1,7 +1,6 @@
 -- Laws of the block count for a text: the first QF field from an offset on.
 -- Assumes nothing.
 use mathlib.Core.Path.{◌≡◌, refl, sym, ◌∙◌, ap}
-use mathlib.Core.Bool.{true}
 use mathlib.Core.List.{List}
 use mathlib.Core.Option.{Option, or_else}
 use mathlib.Core.Option.Option.{none, some}
@@ -13,28 +12,17 @@ use lib.ListN.{length, take, drop}
 use lib.Seq.{length-take-le}
 use borrow.Author.Tests.{eq-eqb, ne_eqb}
 use Rattle.std.specs.Prelude as code
-use Rattle.part.specs.Device.{known, fuse_count}
+use Rattle.part.specs.Device.{fuse_count}
 use Rattle.jedec.specs.Cut.{pieces, Cut, fields_from}
 use Rattle.jedec.specs.Judge.{judge}
-use Rattle.jedec_judge.specs.Judged.{judged_after, Says}
+use Rattle.jedec_judge.specs.Judged.{number_read, judged_after, Says}
 use Rattle.jedec_fields.specs.Fields.{until_star, fields_at, cut_of, Inside, Stands}
 use Rattle.jedec_judge.specs.declared.FieldSays.{FieldSays}
 use Rattle.jedec_judge.specs.declared.FieldSays.TheVariants as says
 use Rattle.jedec_fields.specs.declared.NextSays.{NextSays}
 use Rattle.jedec_fields.specs.declared.NextSays.TheVariants as next
 use Rattle.jedec_fields.proofs.Fields.{Cuts, pieces_star, Uncut, pieces_none}
-use Rattle.report.specs.Report.{of_blocks, fuse_count_in, first_count, blocks_by, blocks_for}
-
--- The code's test tells four blocks from two.
-pub four_known : known (of_blocks 4) ≡ true
-unfolding known
-four_known = refl
-
-pub reads_four : (count x : ℕ) → x ≡ fuse_count (of_blocks 4) → count ≡ x → 4 ≡ blocks_by (some count)
-reads_four count x e f = sym (rw (eq-eqb count (fuse_count (of_blocks 4)) (f ∙ e)))
-
-pub reads_other : (count x : ℕ) → x ≡ fuse_count (of_blocks 4) → (count ≡ x → ⊥) → 2 ≡ blocks_by (some count)
-reads_other count x e f = sym (rw (ne_eqb count (fuse_count (of_blocks 4)) (λ g. f (g ∙ sym e))))
+use Rattle.report.specs.Report.{of_blocks, fields_in, fuse_count_in, first_count, blocks_by, blocks_for}
 
 -- A field that is no QF field.
 abbrev NoCount : FieldSays → Type 0
@@ -57,13 +45,13 @@ module _ (text : List ℕ) (from at : ℕ) (e : first (fields_at at (drop at tex
   by_next : (m : code.Option NextSays) → n ≡ m → first (cut_of text m) ≡ first (fields_at from (drop from text))
   by_next m w = ap (λ (k : code.Option NextSays). first (cut_of text k)) (sym w) ∙ ap first s.cut ∙ e
 
-  pub text_ends : n ≡ code.None → 2 ≡ blocks_by (first_count (fields_at from (drop from text)).fields)
+  pub text_ends : n ≡ code.None → none ≡ first_count (fields_at from (drop from text)).fields
   unfolding first_count
-  text_ends w = ap blocks_by (by_next code.None w)
+  text_ends w = by_next code.None w
 
-  pub fields_end : (etx : ℕ) → n ≡ code.Some (next.End etx) → 2 ≡ blocks_by (first_count (fields_at from (drop from text)).fields)
+  pub fields_end : (etx : ℕ) → n ≡ code.Some (next.End etx) → none ≡ first_count (fields_at from (drop from text)).fields
   unfolding first_count
-  fields_end etx w = ap blocks_by (by_next (code.Some (next.End etx)) w)
+  fields_end etx w = by_next (code.Some (next.End etx)) w
 
   module _ (start star : ℕ) (fs : FieldSays) (w : n ≡ code.Some (next.Field start star fs)) where
     there : Inside text at (code.Some (next.Field start star fs))
@@ -84,13 +72,12 @@ module _ (text : List ℕ) (from at : ℕ) (e : first (fields_at at (drop at tex
     judged : Says (drop 1 (take (star - start) (drop start text))) (judge (take (star - start) (drop start text))) fs
     judged = rw w at s.judged
 
-    pub a_count : (count r : ℕ) → fs ≡ says.Count count → r ≡ blocks_by (some count)
-        → r ≡ blocks_by (first_count (fields_at from (drop from text)).fields)
+    pub a_count : (count : ℕ) → fs ≡ says.Count count → some count ≡ first_count (fields_at from (drop from text)).fields
     unfolding first_count or_else
-    a_count count r g h =
+    a_count count g =
         let reads : fuse_count_in (judge field) ≡ some count =
         ap fuse_count_in (sym judged.is) ∙ ap (λ (k : FieldSays). fuse_count_in (judged_after (drop 1 field) k)) g in
-        h ∙ ap blocks_by (rw reads at (by_next (code.Some (next.Field start star fs)) w))
+        rw reads at (by_next (code.Some (next.Field start star fs)) w)
 
     pub no_count : NoCount fs → first (fields_at (star + 1) (drop (star + 1) text)) ≡ first (fields_at from (drop from text))
     unfolding first_count or_else
@@ -98,19 +85,42 @@ module _ (text : List ℕ) (from at : ℕ) (e : first (fields_at at (drop at tex
         let reads : fuse_count_in (judge field) ≡ none = ap fuse_count_in (sym judged.is) ∙ no_qf (drop 1 field) fs h in
         rw reads at (by_next (code.Some (next.Field start star fs)) w)
 
+-- What the first QF field of a text reads.
+abbrev pub first_of : List ℕ → Option ℕ
+first_of text = first_count (fields_in (pieces text).ended (pieces text).rest)
+
 -- The fields of a text start behind its first `*`.
-pub no_star : (text : List ℕ) → 0 + until_star (drop 0 text) ≡ length text → 2 ≡ blocks_for text
-unfolding blocks_for first_count
+pub no_star : (text : List ℕ) → 0 + until_star (drop 0 text) ≡ length text → none ≡ first_of text
+unfolding first_count
 no_star text f = let u : Uncut text = pieces_none text (omega (arith, f)) in rw u.ended
 
-pub behind_star : (text : List ℕ) (star r : ℕ) → (star ≡ 0 + until_star (drop 0 text)) × (star < length text)
-    → r ≡ blocks_by (first_count (fields_at (star + 1) (drop (star + 1) text)).fields) → r ≡ blocks_for text
-unfolding blocks_for fields_at
-behind_star text star r e g =
+pub behind_star : (text : List ℕ) (star : ℕ) (o : Option ℕ) → (star ≡ 0 + until_star (drop 0 text)) × (star < length text)
+    → o ≡ first_count (fields_at (star + 1) (drop (star + 1) text)).fields → o ≡ first_of text
+unfolding fields_at
+behind_star text star o e g =
     let is : star ≡ until_star text = e.0 ∙ zero-add (until_star text) in
     let less : until_star text < length text = omega (arith, is, e.1) in
     let cut : Cuts text star = rw is (pieces_star text less) in
     let rest = pieces (drop (suc star) text) in
     let at : length (take star text) + 1 ≡ suc star = rw (length-take-le star text (omega (arith, e.1)), add-one star) in
     g ∙ rw (add-one star, cut.ended, cut.rest)
-    (ap (λ (k : ℕ). blocks_by (first_count (fields_from k rest.ended rest.rest).fields)) (sym at))
+    (ap (λ (k : ℕ). first_count (fields_from k rest.ended rest.rest).fields) (sym at))
+
+-- The code's test tells four blocks from two.
+module _ (text : List ℕ) (x : ℕ) (e : x ≡ fuse_count (of_blocks 4)) (o : code.Option ℕ) (f : number_read o ≡ first_of text) where
+  pub four_read : (count : ℕ) → o ≡ code.Some count → count ≡ x → of_blocks 4 ≡ of_blocks (blocks_for text)
+  unfolding blocks_for
+  four_read count g h =
+      let reads : some count ≡ first_of text = ap number_read (sym g) ∙ f in
+      ap of_blocks (sym (rw (eq-eqb count (fuse_count (of_blocks 4)) (h ∙ e)) at (ap blocks_by (sym reads))))
+
+  pub other_read : (count : ℕ) → o ≡ code.Some count → (count ≡ x → ⊥) → of_blocks 2 ≡ of_blocks (blocks_for text)
+  unfolding blocks_for
+  other_read count g h =
+      let reads : some count ≡ first_of text = ap number_read (sym g) ∙ f in
+      ap of_blocks (sym (ap blocks_by (sym reads) ∙ rw (ne_eqb count (fuse_count (of_blocks 4)) (λ k. h (k ∙ sym e)))))
+
+pub none_read : (text : List ℕ) (o : code.Option ℕ) → number_read o ≡ first_of text → o ≡ code.None
+    → of_blocks 2 ≡ of_blocks (blocks_for text)
+unfolding blocks_for
+none_read text o f g = ap (λ (k : Option ℕ). of_blocks (blocks_by k)) (ap number_read (sym g) ∙ f)

@@ -3,16 +3,18 @@
 #![tactic(auto)]
 
 ghost use Rattle.std.specs.Prelude.{◌≡◌, ◌≤◌, length, drop};
-ghost use Rattle.std.proofs.Math.Option.Option.{some};
 ghost use Rattle.part.specs.Answer.{number_outcome};
 ghost use Rattle.part.specs.Device.{fuse_count, image_bytes};
 ghost use Rattle.part.specs.Outcome.{Written};
+ghost use Rattle.jedec.specs.Cut.{pieces};
 ghost use Rattle.jedec.specs.Meaning.{meaning};
+ghost use Rattle.jedec_judge.specs.Judged.{number_read};
 ghost use Rattle.jedec_fields.specs.Fields.{fields_at};
 ghost use Rattle.report_lines.specs.Put.{Put};
-ghost use Rattle.report.specs.Report.{of_blocks, first_count, blocks_by, blocks_for, lines_of};
+ghost use Rattle.report.specs.Report.{of_blocks, fields_in, first_count, blocks_for, lines_of};
 ghost use Rattle.report.specs.Report.{report_of, bytes_put, at_start};
 
+use image::DeviceImage;
 use jedec_fields::NextSays;
 use jedec_fields::scan::{next_judged, next_star};
 use jedec_judge::FieldSays;
@@ -29,7 +31,7 @@ const MOST_LENGTH: usize = MOST_BYTES as usize;
 // The bytes of an image of four blocks.
 const IMAGE_OF_FOUR: usize = (4 * (MAIN_IMAGE_BYTES + 4 * SUBAREA_IMAGE_BYTES)) as usize;
 
-// The part whose fuse count tells four blocks from two.
+// The two parts that a text can be for. The fuse count of the one of four blocks tells them apart.
 const FOUR: KnownDevice = KnownDevice {
     device: Device {
         blocks: 4,
@@ -37,43 +39,48 @@ const FOUR: KnownDevice = KnownDevice {
     },
 };
 
-// The block count where the first QF field reads a number.
-fn blocks_by(count: u32) -> u32
-    ensures { result ≡ blocks_by (some count) }
-{
-    if count == FOUR.fuse_count() {
-        return 4;
-    }
-    2
-}
+const TWO: KnownDevice = KnownDevice {
+    device: Device {
+        blocks: 2,
+        class: 0,
+    },
+};
 
-// The block count by the first QF field from an offset on. A while let: the next offset comes from the field found.
-fn blocks_from(text: &[u8], from: usize) -> u32
+// What the first QF field from an offset on reads. A while let: the next offset comes from the field found.
+fn count_from(text: &[u8], from: usize) -> Option<u32>
     requires { from ≤ length text.now }
-    ensures { result ≡ blocks_by (first_count (fields_at from (drop from text.now)).fields) }
+    ensures { number_read result ≡ first_count (fields_at from (drop from text.now)).fields }
 {
     let mut at = from;
     while let Some(next) = next_judged(text, at) {
         match next {
             NextSays::Field { star, says, .. } => {
                 if let FieldSays::Count(count) = says {
-                    return blocks_by(count);
+                    return Some(count);
                 }
                 at = star + 1;
             }
-            NextSays::End(_) => return 2,
+            NextSays::End(_) => return None,
         }
     }
-    2
+    None
 }
 
-// The block count for a text.
-fn blocks_for(text: &[u8]) -> u32
-    ensures { result ≡ blocks_for text.now }
+// What the first QF field of a text reads.
+fn first_count(text: &[u8]) -> Option<u32>
+    ensures { number_read result ≡ first_count (fields_in (pieces text.now).ended (pieces text.now).rest) }
 {
-    match next_star(text, 0) {
-        Some(star) => blocks_from(text, star + 1),
-        None => 2,
+    let star = next_star(text, 0)?;
+    count_from(text, star + 1)
+}
+
+// The part for a text. A text without a QF field is for two blocks.
+fn part_for(text: &[u8]) -> KnownDevice
+    ensures { result.device ≡ of_blocks (blocks_for text.now) }
+{
+    match first_count(text) {
+        Some(count) if count == FOUR.fuse_count() => FOUR,
+        _ => TWO,
     }
 }
 
@@ -84,8 +91,8 @@ fn put_lines(part: KnownDevice, text: &[u8], image: &mut [u8], out: &mut [u8]) -
     ensures { Put out.old out.new 0 (lines_of part.device (meaning (fuse_count part.device) text.now)) result }
 {
     match text_to_image(part.device, text, image) {
-        Ok(()) => put_counts(part, image, out),
-        Err(r) => put_refusal(r.number(), r.value(), out),
+        Ok(()) => put_counts(DeviceImage { part, bytes: image }, out),
+        Err(r) => put_refusal(r, out),
     }
 }
 
@@ -102,14 +109,9 @@ fn put_report(text: &[u8], out: &mut [u8]) -> usize
     ensures { Put out.old out.new 0 (report_of text.now) result }
 {
     if MOST_LENGTH < text.len() {
-        return put_refusal(7, MOST_BYTES, out);
+        return put_refusal(Refusal::BadForm(MOST_BYTES), out);
     }
-    let part = KnownDevice {
-        device: Device {
-            blocks: blocks_for(text),
-            class: 0,
-        },
-    };
+    let part = part_for(text);
     let bytes = part.image_bytes() as usize;
     let mut image = image_buffer();
     put_lines(part, text, &mut image[..bytes], out)

@@ -17,7 +17,8 @@ use Rattle.image.specs.Image.{sum16, zeros_below}
 use Rattle.jedec.specs.Characters.{lf, decimal_digit, hex_digit, digits_of, count_digits, four_hex}
 use Rattle.jedec_lines.proofs.HexDigits.{hex_cut}
 use Rattle.jedec.proofs.Numbers.{digits_length}
-use Rattle.report_lines.specs.ReportLines.{word_blocks, word_fuses, word_zero, word_sum, line, count_lines}
+use Rattle.report_lines.specs.ReportLines.{word_blocks, word_fuses, word_zero, word_sum, word_refused, word_at}
+use Rattle.report_lines.specs.ReportLines.{line, count_lines, refusal_line}
 use Rattle.report_lines.specs.Put.{Put}
 
 -- Bytes copied over a part of a slice are put there.
@@ -81,6 +82,15 @@ pub word_number : (before middle after word : List ℕ) (x at behind digits : �
 word_number before middle after word x at behind digits p e f =
     then before middle after word (count_digits x) at behind (behind + digits) p
     (record { holds = f ∙ rw e; ends = rw (digits_length 10 decimal_digit (decimal_digits x) x) (ap (λ (n : ℕ). behind + n) e) })
+
+-- Two words, each with its number, are the line of a refusal.
+pub two_words : (before middle after : List ℕ) (number value x y next end : ℕ)
+    → Put before middle 0 (word_refused ++ count_digits x) next → x ≡ number
+    → Put middle after next (line word_at (count_digits y)) end → y ≡ value → Put before after 0 (refusal_line number value) end
+unfolding refusal_line
+two_words before middle after number value x y next end p e q f =
+    then before middle after (word_refused ++ count_digits number) (line word_at (count_digits value)) 0 next end
+    (rw e at p) (rw f at q)
 
 -- A word, four hex digits and LF are a line.
 pub hex_line : (out one two three word : List ℕ) (at behind end sum four : ℕ) → Put out one at word behind → four ≡ number (four_hex sum)

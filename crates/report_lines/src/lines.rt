@@ -1,17 +1,19 @@
 // The lines of a report, put into a slice: the counts of an image, and a refusal.
-// A function here may require that the lines fit the slice, and that an image has the length of its device.
+// A function here may require that the lines fit the slice.
 ghost use Rattle.std.specs.Prelude.{◌≡◌, ◌++◌, ◌+◌, ◌≤◌, length};
 ghost use Rattle.std.proofs.lemmas.List.Edits.{sets};
-ghost use Rattle.part.specs.Device.{fuse_count, image_bytes};
+ghost use Rattle.part.specs.Answer.{refusal_number, refusal_value};
+ghost use Rattle.part.specs.Device.{fuse_count};
 ghost use Rattle.image.specs.Image.{zeros_below};
 ghost use Rattle.jedec.specs.Characters.{decimal_digit, digits_of, count_digits, four_hex};
 ghost use Rattle.report_lines.specs.ReportLines.{word_sum, line, count_lines, refusal_line};
 ghost use Rattle.report_lines.specs.Put.{Put};
 
 use cells::words::put_cells;
+use image::DeviceImage;
 use image::bytes::sum_of;
 use jedec_lines::characters::four_hex;
-use part::KnownDevice;
+use part::Refusal;
 use part::geometry::decimal_digits;
 
 // Some bytes put into a slice from an index on; the index behind them. Each function here takes slice and index: a
@@ -61,21 +63,19 @@ fn put_line(word: &[u8], x: u32, out: &mut [u8], at: usize) -> usize
 
 // The line of a refusal. Any slice of 64 bytes or more will do, here and in `put_counts`: an array of 64 bytes in the
 // type would ask more of callers.
-pub fn put_refusal(number: u32, value: u32, out: &mut [u8]) -> usize
+pub fn put_refusal(r: Refusal, out: &mut [u8]) -> usize
     requires { 64 ≤ length out.old }
-    ensures { Put out.old out.new 0 (refusal_line number value) result }
+    ensures { Put out.old out.new 0 (refusal_line (refusal_number r) (refusal_value r)) result }
 {
-    let behind = put_number(b"refused ", number, out, 0);
-    put_line(b" at ", value, out, behind)
+    let behind = put_number(b"refused ", r.number(), out, 0);
+    put_line(b" at ", r.value(), out, behind)
 }
 
-// The fuses at 0 of an image. It has the length of the device, here and in `put_counts`, so the count is not refused. A
-// struct of device and image would hold a loan, for these two functions.
-fn zeros_in(part: KnownDevice, image: &[u8]) -> u32
-    requires { length image.now ≡ image_bytes part.device }
-    ensures { result ≡ zeros_below image.now (fuse_count part.device) }
+// The fuses at 0 of an image. It has the length of the device, so the count is not refused.
+fn zeros_in(image: DeviceImage) -> u32
+    ensures { result ≡ zeros_below image.entry.bytes.now (fuse_count image.entry.part.device) }
 {
-    image::zero_count(part.device, image).unwrap()
+    image::zero_count(image.part.device, image.bytes).unwrap()
 }
 
 // The line of a fuse sum.
@@ -89,12 +89,12 @@ fn put_sum(sum: u16, out: &mut [u8], at: usize) -> usize
 }
 
 // The four lines of an image.
-pub fn put_counts(part: KnownDevice, image: &[u8], out: &mut [u8]) -> usize
-    requires { (length image.now ≡ image_bytes part.device) × (64 ≤ length out.old) }
-    ensures { Put out.old out.new 0 (count_lines part.device image.now) result }
+pub fn put_counts(image: DeviceImage, out: &mut [u8]) -> usize
+    requires { 64 ≤ length out.old }
+    ensures { Put out.old out.new 0 (count_lines image.entry.part.device image.entry.bytes.now) result }
 {
-    let one = put_line(b"blocks ", part.blocks(), out, 0);
-    let two = put_line(b"fuses ", part.fuse_count(), out, one);
-    let three = put_line(b"zero ", zeros_in(part, image), out, two);
-    put_sum(sum_of(image), out, three)
+    let one = put_line(b"blocks ", image.part.blocks(), out, 0);
+    let two = put_line(b"fuses ", image.part.fuse_count(), out, one);
+    let three = put_line(b"zero ", zeros_in(image), out, two);
+    put_sum(sum_of(image.bytes), out, three)
 }

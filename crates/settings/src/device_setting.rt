@@ -1,5 +1,5 @@
 // A setting that its device has.
-// What needs one takes this type, so that refusal 4 is decided once, where the value is made.
+// What needs one takes this type, so that refusal 4 is decided where the value is made, and nowhere below.
 ghost use Rattle.std.specs.Prelude.{◌≡◌, true, false, ◌<◌, ◌≤◌, MatchResult};
 ghost use Rattle.settings.specs.Settings.{has_setting};
 ghost use Rattle.settings.specs.Order.{count_of, setting_of};

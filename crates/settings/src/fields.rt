@@ -90,7 +90,7 @@ fn listed_at(k: u32, count: u32, first: u32, past: u32) -> u32
 }
 
 // Each kind of field and its index in the listing order, both ways. The way back is no `TryFrom`: each caller has a
-// remainder or a row, at which it cannot fail.
+// remainder, a difference or a row, at which it cannot fail.
 impl Polarity {
     pub fn index(self) -> u32
         ensures { result ≡ polarity_index self }

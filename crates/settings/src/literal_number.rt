@@ -1,5 +1,5 @@
 // The number of a literal, with the device that has it: the literals have the first numbers.
-// What goes by the number of a literal takes this type, so that it is told from the others once.
+// What goes by the number of a literal takes this type, so that it is told from the others where the value is made.
 ghost use Rattle.std.specs.Prelude.{◌≡◌, ◌<◌, ◌≤◌, MatchOption};
 ghost use Rattle.settings.specs.Order.{start};
 ghost use Rattle.settings.specs.Order.Group.{wire_ands};

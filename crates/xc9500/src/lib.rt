@@ -1,6 +1,6 @@
 // What the C interface answers: xc9500_c exports these functions, include/xc9500.h declares them. Numbers are u32, each
 // answer is one u64. Each function only calls its library function and packs the answer: specs/Packed.antt says how.
-// Functions here that differ in one name alone are those that C calls by name.
+// Functions here that differ in one name alone are those whose exports C calls by name.
 #![tactic(auto)]
 
 ghost use Rattle.std.specs.Prelude.{◌≡◌, length};

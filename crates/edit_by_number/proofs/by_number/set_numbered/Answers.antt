@@ -10,8 +10,8 @@ use Rattle.edit_by_number.proofs.by_number.set_numbered.Goals as goal
 pub returns-then-number-number_of_usercode : goal.returns-then-number-number_of_usercode
 returns-then-number-number_of_usercode c =
     rw (← c.in_ok-part.ensures)
-    (sets_code _ _ _ _ _ _ _ c.in_ok-part.part.is_known c.bytes_of.ensures c.if-bytes-bytes_of.false
-    c.count_of.ensures c.if-count_of-number.false c.number_of_usercode.ensures c.if-number-number_of_usercode.true
+    (sets_code _ _ _ _ _ _ c.in_ok-part.part.is_known c.bytes_of.ensures c.if-bytes-bytes_of.false
+    c.number_of_usercode.ensures c.if-number-number_of_usercode.true
     (λ i. search rules) _ _ c.ranges.pattern.fits c.put_usercode.ensures)
 
 pub returns : goal.returns

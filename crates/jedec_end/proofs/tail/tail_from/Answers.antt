@@ -1,6 +1,6 @@
 -- `tail_from` meets its contract: the digits so far, and what is left of the text.
 -- Assumes nothing.
-use mathlib.Core.Path.{◌≡◌, ◌∙◌}
+use mathlib.Core.Path.{◌≡◌, sym, ◌∙◌, ap}
 use mathlib.Core.List.{List}
 use mathlib.Core.Option.Option.{none, some}
 use Prim.Native.Nat.{ℕ, ◌+◌, ◌*◌, ◌-◌, ◌^◌, ◌≤◌, ◌<◌}
@@ -8,27 +8,37 @@ use native.Mathlib.Nat.{pow-suc, pow-le-pow_right, lt_of_lt_of_le}
 use native.Mathlib.Numerals.{add-one}
 use native.Mathlib.Omega.{arith}
 use lib.Arith.{digits_lt}
-use lib.ListN.{length, get_or, drop}
+use lib.ListN.{length, get_or, drop, length-drop}
 use borrow.Author.Rules.{rules}
-use Rattle.std.specs.Prelude.{Result, Err}
+use Rattle.std.specs.Prelude.{Ok, Err}
 use Rattle.jedec.specs.Characters.{hex_value}
-use Rattle.jedec.specs.Cut.{tail_from}
+use Rattle.jedec.specs.Cut.{blanks_before, tail_from}
+use Rattle.jedec.specs.Cut.Tail.{wrong}
 use Rattle.jedec_judge.proofs.DigitsRead.{digit_below, hex_below}
 use Rattle.jedec_end.specs.End.{TailStands}
-use Rattle.jedec_end.proofs.Tails.{tail_early, tail_wrong, tail_digit}
+use Rattle.jedec_end.proofs.Tails.{blanks_alone, other_first, tail_early, tail_wrong, tail_digit}
 use Rattle.jedec_end.proofs.tail.tail_from.Invariants.{Run}
 use Rattle.jedec_end.proofs.tail.tail_from.Goals as goal
 
 module _ (text : List ℕ) (at sum read : ℕ) (r : Run text at sum read) where
-  then_blanks : (s : Result ℕ ℕ) → 4 ≤ read → TailStands text (at + 4) (tail_from (at + 4) 0 sum (drop (at + 4) text)) s
-      → TailStands text at (tail_from at 4 0 (drop at text)) s
-  then_blanks s l t =
-      let z : read ≡ 4 = omega (arith, r.few) in
-      let whole : tail_from (at + 4) 0 sum (drop (at + 4) text) ≡ tail_from at 4 0 (drop at text) = rw z at r.rest in
-      record { is = t.is ∙ whole; fits = t.fits }
+  module _ (l : 4 ≤ read) where
+    whole : tail_from (at + 4) 0 sum (drop (at + 4) text) ≡ tail_from at 4 0 (drop at text)
+    whole = let z : read ≡ 4 = omega (arith, r.few) in rw z at r.rest
 
-  blanks_within : 4 ≤ read → at + 4 ≤ length text
-  blanks_within l = omega (arith, r.inside, r.few)
+    left_after : length (drop (at + 4) text) + (at + 4) ≡ length text
+    left_after = omega (arith, r.inside, length-drop (at + 4) text)
+
+    then_blanks : at + 4 + blanks_before (drop (at + 4) text) ≡ length text
+        → TailStands text at (tail_from at 4 0 (drop at text)) (Ok sum)
+    then_blanks e =
+        let all : blanks_before (drop (at + 4) text) ≡ length (drop (at + 4) text) = omega (arith, left_after) in
+        record { is = sym (blanks_alone (drop (at + 4) text) (at + 4) sum all) ∙ whole; fits = tt }
+
+    then_other : (other : ℕ) → other ≡ at + 4 + blanks_before (drop (at + 4) text) → other < length text
+        → TailStands text at (tail_from at 4 0 (drop at text)) (Err other)
+    then_other other e f =
+        let less : blanks_before (drop (at + 4) text) < length (drop (at + 4) text) = omega (arith, left_after) in
+        record { is = ap wrong e ∙ sym (other_first (drop (at + 4) text) (at + 4) sum less) ∙ whole; fits = omega arith }
 
   module _ (more : read < 4) where
     left : 0 < 4 - read
@@ -86,5 +96,8 @@ overflow_add-sum c = record { fits = search (rules, no_overflow_for) }
 pub loop-read-preserved : goal.loop-read-preserved
 loop-read-preserved c = search (rules, one_more, c.in-Some.ensures)
 
-pub returns : goal.returns
-returns c = search (rules, then_blanks)
+pub returns-in-Some-next_other : goal.returns-in-Some-next_other
+returns-in-Some-next_other c = search (rules, then_other)
+
+pub returns-in-None : goal.returns-in-None
+returns-in-None c = search (rules, then_blanks)

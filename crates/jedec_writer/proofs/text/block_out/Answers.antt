@@ -11,7 +11,7 @@ unfolding block_lines
 rows_out-behind_main-requires c = room_first _ c.requires
 
 pub overflow_mul-rows : goal.overflow_mul-rows
-overflow_mul-rows c = omega (arith, blocks_small c.args.part.device c.args.part.is_known)
+overflow_mul-rows c = omega (arith, blocks_small c.args.image.part.device c.args.image.part.is_known)
 
 pub rows_out-requires : goal.rows_out-requires
 unfolding block_lines

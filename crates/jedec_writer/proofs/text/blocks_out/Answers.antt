@@ -16,6 +16,6 @@ loop-block-preserved c = search (rules, next_lined)
 
 pub returns : goal.returns
 returns c =
-    let all = pattern_lined c.args.part.device _ _ _ _ _ _ _ c.loop-block.invariant c.loop-block.auto.block-end c.loop-block-test.false
-    c.blocks-block-end.ensures in
+    let all = pattern_lined c.args.image.part.device _ _ _ _ _ _ _ c.loop-block.invariant c.loop-block.auto.block-end
+    c.loop-block-test.false c.blocks-block-end.ensures in
     record { stored = all.stored; behind = all.byte_on }

@@ -7,4 +7,5 @@ use Rattle.jedec_writer.proofs.Sizes.{first_spot}
 use Rattle.jedec_writer.proofs.text.blocks_out.Given as goal
 
 abbrev pub invariant-loop-block : goal.invariant-loop-block
-invariant-loop-block l = Lined (repeat l.block (block_lines l.part.device)) l.image l.initial.out l.out (first_spot l.at) l.next
+invariant-loop-block l =
+    Lined (repeat l.block (block_lines l.image.part.device)) l.image.bytes.now l.initial.out l.out (first_spot l.at) l.next

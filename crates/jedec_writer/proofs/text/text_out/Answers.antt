@@ -5,31 +5,31 @@ use Rattle.jedec_writer.proofs.TextParts.{text_parts, text_of_lem}
 use Rattle.jedec_writer.proofs.text.text_out.Goals as goal
 
 pub head_out-lines-requires : goal.head_out-lines-requires
-head_out-lines-requires c = omega (arith, text_parts c.args.part.device, c.requires.fits)
+head_out-lines-requires c = omega (arith, text_parts c.args.image.part.device, c.requires)
 
-pub blocks_out-foot-requires-clause-fits : goal.blocks_out-foot-requires-clause-fits
-blocks_out-foot-requires-clause-fits c =
-    omega (arith, text_parts c.args.part.device, c.requires.fits, c.head_out-lines.ensures.behind)
+pub blocks_out-foot-requires : goal.blocks_out-foot-requires
+blocks_out-foot-requires c =
+    omega (arith, text_parts c.args.image.part.device, c.requires, c.head_out-lines.ensures.behind)
 
 pub foot_out-end-requires : goal.foot_out-end-requires
 foot_out-end-requires c =
-    omega (arith, text_parts c.args.part.device, c.requires.fits, c.head_out-lines.ensures.behind, c.blocks_out-foot.ensures.behind)
+    omega (arith, text_parts c.args.image.part.device, c.requires, c.head_out-lines.ensures.behind, c.blocks_out-foot.ensures.behind)
 
 pub slice_bounds-sum_of-end : goal.slice_bounds-sum_of-end
 slice_bounds-sum_of-end c =
-    omega (arith, text_parts c.args.part.device, c.requires.fits, c.head_out-lines.ensures.behind, c.blocks_out-foot.ensures.behind)
+    omega (arith, text_parts c.args.image.part.device, c.requires, c.head_out-lines.ensures.behind, c.blocks_out-foot.ensures.behind)
 
 pub slice_bounds-sum_of-end-2 : goal.slice_bounds-sum_of-end-2
 slice_bounds-sum_of-end-2 c =
     sym (length-take-le _ _
-    (omega (arith, text_parts c.args.part.device, c.requires.fits, c.head_out-lines.ensures.behind, c.blocks_out-foot.ensures.behind)))
+    (omega (arith, text_parts c.args.image.part.device, c.requires, c.head_out-lines.ensures.behind, c.blocks_out-foot.ensures.behind)))
 
 pub put_cells-requires : goal.put_cells-requires
 put_cells-requires c =
     omega (
       arith,
-      text_parts c.args.part.device,
-      c.requires.fits,
+      text_parts c.args.image.part.device,
+      c.requires,
       c.head_out-lines.ensures.behind,
       c.blocks_out-foot.ensures.behind,
       c.foot_out-end.ensures.behind,
@@ -37,6 +37,6 @@ put_cells-requires c =
 
 pub returns : goal.returns
 returns c =
-    text_of_lem c.args.part.device _ _ _ _ _ _ _ _ _ _ _ _ c.requires.fits c.head_out-lines.ensures.stored c.head_out-lines.ensures.behind
+    text_of_lem c.args.image.part.device _ _ _ _ _ _ _ _ _ _ _ _ c.requires c.head_out-lines.ensures.stored c.head_out-lines.ensures.behind
     c.blocks_out-foot.ensures.stored c.blocks_out-foot.ensures.behind c.sum_of.ensures c.foot_out-end.ensures.stored
     c.foot_out-end.ensures.behind c.sum_of-sum.ensures c.four_hex.ensures c.put_cells.ensures

@@ -24,7 +24,9 @@ the_count : (r : Result ℕ Refusal) (x y : ℕ) → number_outcome r ≡ accept
 the_count r x y e f = cc
 
 pub unwrap-requires : goal.unwrap-requires
-unwrap-requires c = not_refused _ _ (counted c.args.part.device _ _ c.args.part.is_known c.requires c.zero_count.ensures)
+unwrap-requires c = not_refused _ _ (counted c.args.image.part.device _ _ c.args.image.part.is_known c.args.image.fits c.zero_count.ensures)
 
 pub returns : goal.returns
-returns c = the_count _ _ _ (counted c.args.part.device _ _ c.args.part.is_known c.requires c.zero_count.ensures) c.unwrap.ensures
+returns c =
+    the_count _ _ _ (counted c.args.image.part.device _ _ c.args.image.part.is_known c.args.image.fits c.zero_count.ensures)
+    c.unwrap.ensures

@@ -1,9 +1,9 @@
--- `skip_blanks` meets its contract: the bytes passed, and the count over those still to come.
+-- `next_other` meets its contract: the bytes passed, and the count over those still to come.
 -- Assumes nothing.
 use native.Mathlib.Omega.{arith}
 use borrow.Author.Rules.{rules}
-use Rattle.jedec_fields.proofs.Counts.{blanks_stop, blanks_go, blanks_end}
-use Rattle.jedec_fields.proofs.scan.skip_blanks.Goals as goal
+use Rattle.jedec.proofs.Counts.{blanks_stop, blanks_go, blanks_end}
+use Rattle.jedec.proofs.blanks.next_other.Goals as goal
 
 pub returns-then-not-is_blank : goal.returns-then-not-is_blank
 returns-then-not-is_blank c = (search (rules, blanks_stop), omega arith)
