@@ -7,6 +7,7 @@ ghost use Rattle.addresses.specs.Address.{field, address_of_byte, byte_of_addres
 
 use super::DeviceAddress;
 use part::geometry::{MAIN_BYTES, MAIN_COLUMNS, MAIN_PORTIONS, SUBAREA_BYTES, WIRE_AND_COLUMNS};
+use part::known_device::in_block;
 use part::places::{main_row, portion_of_fuse, wire_and_row};
 use part::quotients::{MAIN_COLUMN_FACTOR, WIRE_AND_COLUMN_FACTOR, divided};
 use part::{BytePlace, FuseNumber, KnownDevice};
@@ -140,7 +141,7 @@ pub fn index_of_byte(d: KnownDevice, byte: BytePlace) -> u32
     requires { has_byte d.device byte ≡ true }
     ensures { result ≡ index_of_byte d.device byte }
 {
-    let per_block = d.in_block(MAIN_BYTES, SUBAREA_BYTES);
+    let per_block = in_block(d, MAIN_BYTES, SUBAREA_BYTES);
     match byte {
         BytePlace::Main { block, row, column } => block * per_block + (row * MAIN_COLUMNS + column),
         BytePlace::WireAnd {

@@ -35,6 +35,14 @@ impl TryFrom<Device> for KnownDevice {
     }
 }
 
+// What a block has, of so much in its main area and so much in each of its subareas.
+pub fn in_block(d: KnownDevice, main: u32, subarea: u32) -> u32
+    requires { (main ≤ 65535) × (subarea ≤ 65535) }
+    ensures { result ≡ in_block d.device main subarea }
+{
+    main + d.device.blocks * subarea
+}
+
 impl KnownDevice {
     // How many function blocks it has.
     pub fn blocks(self) -> u32
@@ -50,20 +58,12 @@ impl KnownDevice {
         self.device.is_large()
     }
 
-    // What a block has, of so much in its main area and so much in each of its subareas.
-    pub fn in_block(self, main: u32, subarea: u32) -> u32
-        requires { (main ≤ 65535) × (subarea ≤ 65535) }
-        ensures { result ≡ in_block self.device main subarea }
-    {
-        main + self.device.blocks * subarea
-    }
-
     // What all blocks have, of so much in a main area and so much in a subarea.
     fn in_device(self, main: u32, subarea: u32) -> u32
         requires { (main ≤ 65535) × (subarea ≤ 65535) }
         ensures { result ≡ in_device self.device main subarea }
     {
-        let each = self.in_block(main, subarea);
+        let each = in_block(self, main, subarea);
         self.device.blocks * each
     }
 

@@ -10,6 +10,7 @@ use super::geometry::{
     MAIN_COLUMNS, MAIN_FUSES, MAIN_PORTIONS, MAIN_ROW_FUSES, MAIN_ROWS, PORTION_ROWS,
     SUBAREA_FUSES, WIRE_AND_COLUMNS, WIRE_AND_ROW_FUSES, WIRE_AND_ROWS,
 };
+use super::known_device::in_block;
 use super::quotients::{
     MAIN_COLUMN_FACTOR, QuotientAndRest, WIRE_AND_COLUMN_FACTOR, block_factor, divided,
     shifted_product,
@@ -82,7 +83,7 @@ pub fn fuse_of_place(d: KnownDevice, place: Place) -> FuseNumber
     ensures { result.0 ≡ fuse_of_place d.device place }
 {
     let Place { byte, bit } = place;
-    let per_block = d.in_block(MAIN_FUSES, SUBAREA_FUSES);
+    let per_block = in_block(d, MAIN_FUSES, SUBAREA_FUSES);
     match byte {
         BytePlace::Main { block, row, column } => {
             let start = column_start(9, 6, column);
@@ -143,7 +144,7 @@ pub fn portions_before(d: KnownDevice, block: u32) -> u32
     requires { block < 16 }
     ensures { result * subarea_fuses ≡ block * block_fuses d.device }
 {
-    let per_block = d.in_block(MAIN_PORTIONS, 1);
+    let per_block = in_block(d, MAIN_PORTIONS, 1);
     block * per_block
 }
 

@@ -3,6 +3,7 @@
 ghost use Rattle.std.specs.Prelude.{◌≡◌, length};
 ghost use Rattle.readout_rows.specs.Widths.{row_widths, pair_widths, block_widths, whole_bytes};
 
+use part::known_device::in_block;
 use part::{Area, KnownDevice, geometry};
 
 // The rows of the main area of a block and of a wire-AND subarea.
@@ -69,12 +70,16 @@ pub fn pair_readout_bytes(area: Area) -> usize
 pub fn block_image_bytes(part: KnownDevice) -> usize
     ensures { result ≡ whole_bytes (block_widths part.device) }
 {
-    part.in_block(geometry::MAIN_IMAGE_BYTES, geometry::SUBAREA_IMAGE_BYTES) as usize
+    in_block(
+        part,
+        geometry::MAIN_IMAGE_BYTES,
+        geometry::SUBAREA_IMAGE_BYTES,
+    ) as usize
 }
 
 // The bytes of a block in a readout.
 pub fn block_bytes(part: KnownDevice) -> usize
     ensures { result ≡ length (block_widths part.device) }
 {
-    part.in_block(geometry::MAIN_BYTES, geometry::SUBAREA_BYTES) as usize
+    in_block(part, geometry::MAIN_BYTES, geometry::SUBAREA_BYTES) as usize
 }

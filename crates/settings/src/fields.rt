@@ -3,7 +3,7 @@
 ghost use Rattle.std.specs.Prelude.{◌≡◌, ◌<◌, ◌≤◌};
 ghost use Rattle.settings.specs.Settings.{has_setting};
 ghost use Rattle.settings.specs.Fields.{foes, listed, polarity_index, macrocell_index, block_index, global_fields};
-ghost use Rattle.settings.specs.Fields.{macrocell_fields, global_index};
+ghost use Rattle.settings.specs.Fields.{global_index};
 ghost use Rattle.settings.specs.Order.{polarity_at, macrocell_field_at, block_field_at};
 ghost use Rattle.settings.specs.Order.{global_field_at};
 ghost use Rattle.settings.specs.declared.GlobalField.TheVariants.{Usercode};
@@ -136,7 +136,6 @@ impl MacrocellField {
     }
 
     pub fn from_index(x: u32) -> MacrocellField
-        requires { x < macrocell_fields }
         ensures { result ≡ macrocell_field_at x }
     {
         match x {

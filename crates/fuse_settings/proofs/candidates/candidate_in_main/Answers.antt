@@ -20,13 +20,6 @@ module _ (row i : ℕ) (e : i ≡ field_index_at_row row) where
   not_before : (r : ℕ) → r ≡ first_row (macrocell_field_at i) → 12 ≤ row → row < 55 → r ≤ row
   not_before r g low high = omega (arith, first r g, at_row row low high)
 
-pub from_index-field-requires : goal.from_index-field-requires
-from_index-field-requires c = omega (
-  arith,
-  c.field_index_at_row-index.ensures,
-  at_row c.args.row c.if-row-lt12.false c.if-row-lt55.true,
-)
-
 pub field_rows-first-requires : goal.field_rows-first-requires
 field_rows-first-requires c =
     starts c.args.row _ c.field_index_at_row-index.ensures c.if-row-lt12.false
