@@ -2,7 +2,7 @@
 -- Assumes nothing.
 use Rattle.std.proofs.Common.{◌≡◌, ℕ, ◌<◌, ◌≤◌, List, [], ◌++◌, Bool, true, false, arith, refl, sym, ap, ◌∙◌, subst, length, take, append-nil, length-append, length-take-le}
 use Rattle.std.specs.Prelude.{cond, ltb, Option, None, Some, Ok, Err, IfSome, IsOk, OnOk}
-use Rattle.part.specs.Answer.{number_outcome}
+use Rattle.part.specs.Answer.{number_outcome, refusal_number, refusal_value}
 use Rattle.part.specs.declared.Refusal.{Refusal}
 use Rattle.std.specs.declared.result.Result.{Result}
 use Rattle.std.specs.Io.KnownBytes.{Appends, Consumes, IsAtEnd}
@@ -11,17 +11,21 @@ use Rattle.part.specs.Outcome.Outcome.{accepted, refused}
 use Rattle.report.specs.Report.{most, outcome_of, report_of, bytes_put}
 use Rattle.report.proofs.Answers.{report_short}
 
--- A buffer of 64 bytes is never too short.
-pub not_refused : (text buffer : List ℕ) (r : Result ℕ Refusal) → length buffer ≡ 64 → number_outcome r ≡ bytes_put (report_of text) buffer
-    → IsOk r
-not_refused text buffer (Ok n) l e = refl
-not_refused text buffer (Err x) l e =
+-- A buffer of 64 bytes is never too short: no refusal is the answer, and so the answer is a number.
+pub not_refused : (text buffer : List ℕ) (number value : ℕ) → length buffer ≡ 64 → refused number value ≡ bytes_put (report_of text) buffer
+    → ⊥
+not_refused text buffer number value l e =
     let short : length (report_of text) ≤ length buffer = omega (arith, l, report_short text) in
-    let put : number_outcome (Err x) ≡ accepted (length (report_of text)) =
+    let put : refused number value ≡ accepted (length (report_of text)) =
     e ∙ ap (λ t. cond t (refused 12 (length (report_of text))) (accepted (length (report_of text))))
     (le-ltb (length buffer) (length (report_of text)) short) in
     let z : ◌≡◌ {A = ℕ} 0 1 = cc in
-    absurd (omega arith)
+    omega arith
+
+pub always_put : (text buffer : List ℕ) (r : Result ℕ Refusal) → length buffer ≡ 64 → number_outcome r ≡ bytes_put (report_of text) buffer
+    → IsOk r
+always_put text buffer (Ok n) l e = refl
+always_put text buffer (Err x) l e = absurd (not_refused text buffer (refusal_number x) (refusal_value x) l e)
 
 -- Two texts that are too long have the same refusal.
 long_outcome : (text : List ℕ) → 65536 < length text → outcome_of text ≡ refused 7 most

@@ -6,4 +6,5 @@ pub mod Answer
 pub mod Lowest
 pub mod Place
 pub mod Sizes
+pub mod Words
 pub mod Cases

@@ -59,11 +59,11 @@ module _ (d : Device) (text before image : List ℕ) (k : known d ≡ true) (l :
       let done : to_image_from_text d text before ≡ accepted tt = sym w.answers ∙ ap done_outcome e in
       rw (image_lines d (meaning (fuse_count d) text) image (sym done ∙ read) (rw done at w.holds)) at p
 
-  pub of_refusal : (r : Refusal) → a ≡ Err r → Put out after 0 (refusal_line (refusal_number r) (refusal_value r)) end
-      → Put out after 0 (lines_of d (meaning (fuse_count d) text)) end
-  of_refusal r e p =
-      let said : done_outcome (Err r) ≡ verdict (meaning (fuse_count d) text) = ap done_outcome (sym e) ∙ w.answers ∙ read in
-      rw (refused_lines d (meaning (fuse_count d) text) (refusal_number r) (refusal_value r) said) at p
+  pub of_refusal : (r : Refusal) (n v : ℕ) → a ≡ Err r → n ≡ refusal_number r → v ≡ refusal_value r
+      → Put out after 0 (refusal_line n v) end → Put out after 0 (lines_of d (meaning (fuse_count d) text)) end
+  of_refusal r n v e en ev p =
+      let said : refused n v ≡ verdict (meaning (fuse_count d) text) = rw (en, ev) (ap done_outcome (sym e)) ∙ w.answers ∙ read in
+      rw (refused_lines d (meaning (fuse_count d) text) n v said) at p
 
 -- The device for a text has two blocks or four, and its image fits the buffer.
 two_or_four : (P : ℕ → Type 0) → P 2 → P 4 → (o : Option ℕ) → P (blocks_by o)
@@ -94,6 +94,11 @@ module _ (text out after : List ℕ) (end : ℕ) where
   pub too_long : most < length text → Put out after 0 (refusal_line 7 most) end → Put out after 0 (report_of text) end
   unfolding outcome_of report_of
   too_long h p = rw (lt-ltb most (length text) h) p
+
+  -- The same where the code asks a refusal for its number and value.
+  pub told_too_long : (n v : ℕ) → n ≡ 7 → v ≡ most → most < length text → Put out after 0 (refusal_line n v) end
+      → Put out after 0 (report_of text) end
+  told_too_long n v en ev h p = too_long h (rw (en, ev) at p)
 
   pub not_too_long : (d : Device) → d ≡ of_blocks (blocks_for text) → length text ≤ most
       → Put out after 0 (lines_of d (meaning (fuse_count d) text)) end → Put out after 0 (report_of text) end

@@ -92,7 +92,7 @@ fn put_lines(part: KnownDevice, text: &[u8], image: &mut [u8], out: &mut [u8]) -
 {
     match text_to_image(part.device, text, image) {
         Ok(()) => put_counts(DeviceImage { part, bytes: image }, out),
-        Err(r) => put_refusal(r, out),
+        Err(r) => put_refusal(r.number(), r.value(), out),
     }
 }
 
@@ -109,7 +109,8 @@ fn put_report(text: &[u8], out: &mut [u8]) -> usize
     ensures { Put out.old out.new 0 (report_of text.now) result }
 {
     if MOST_LENGTH < text.len() {
-        return put_refusal(Refusal::BadForm(MOST_BYTES), out);
+        let r = Refusal::BadForm(MOST_BYTES);
+        return put_refusal(r.number(), r.value(), out);
     }
     let part = part_for(text);
     let bytes = part.image_bytes() as usize;

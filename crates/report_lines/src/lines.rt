@@ -2,7 +2,6 @@
 // A function here may require that the lines fit the slice.
 ghost use Rattle.std.specs.Prelude.{◌≡◌, ◌++◌, ◌+◌, ◌≤◌, length};
 ghost use Rattle.std.proofs.lemmas.List.Edits.{sets};
-ghost use Rattle.part.specs.Answer.{refusal_number, refusal_value};
 ghost use Rattle.part.specs.Device.{fuse_count};
 ghost use Rattle.image.specs.Image.{zeros_below};
 ghost use Rattle.jedec.specs.Characters.{decimal_digit, digits_of, count_digits, four_hex};
@@ -13,7 +12,6 @@ use cells::words::put_cells;
 use image::DeviceImage;
 use image::bytes::sum_of;
 use jedec_lines::characters::four_hex;
-use part::Refusal;
 use part::geometry::decimal_digits;
 
 // Some bytes put into a slice from an index on; the index behind them. Each function here takes slice and index: a
@@ -61,14 +59,14 @@ fn put_line(word: &[u8], x: u32, out: &mut [u8], at: usize) -> usize
     put(b"\n", out, behind)
 }
 
-// The line of a refusal. Any slice of 64 bytes or more will do, here and in `put_counts`: an array of 64 bytes in the
-// type would ask more of callers.
-pub fn put_refusal(r: Refusal, out: &mut [u8]) -> usize
+// The line of a refusal, by its number and value: any two, as the definition has it, so no `Refusal` is asked for. Any
+// slice of 64 bytes or more will do, here and in `put_counts`: an array of 64 bytes in the type would ask more of callers.
+pub fn put_refusal(number: u32, value: u32, out: &mut [u8]) -> usize
     requires { 64 ≤ length out.old }
-    ensures { Put out.old out.new 0 (refusal_line (refusal_number r) (refusal_value r)) result }
+    ensures { Put out.old out.new 0 (refusal_line number value) result }
 {
-    let behind = put_number(b"refused ", r.number(), out, 0);
-    put_line(b" at ", r.value(), out, behind)
+    let behind = put_number(b"refused ", number, out, 0);
+    put_line(b" at ", value, out, behind)
 }
 
 // The fuses at 0 of an image. It has the length of the device, so the count is not refused.

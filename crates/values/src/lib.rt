@@ -150,6 +150,11 @@ pub enum Kind {
 }
 
 impl fmt::Display for NoName {
+    ghost use Rattle.std.specs.Prelude.{Some};
+    ghost use Rattle.values.specs.Words.{no_name_text};
+
+    ghost output = { λ n. Some (no_name_text n) };
+
     fn fmt<W: fmt::Write>(&self, f: &mut fmt::Formatter<W>) -> fmt::Result {
         write!(f, "the pattern {} has no name in its list", self.0)
     }
