@@ -11,7 +11,8 @@ use jedec_judge::FieldSays;
 use jedec_judge::letters::judge_field;
 
 // The offset of the next `*` from an offset on. `position` would answer an offset in a part of the text, to which the
-// start is added again.
+// start is added again. A function of its own: compiled into the reader its loop would count two more numbers on.
+#[inline(never)]
 pub fn next_star(text: &[u8], at: usize) -> Option<usize>
     requires { at ≤ length text.now }
     ensures { MatchOption result (at + until_star (drop at text.now) ≡ length text.now)

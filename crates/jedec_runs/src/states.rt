@@ -72,9 +72,15 @@ pub fn bits_at(bytes: &[u8], at: usize, count: usize) -> u64
     joined(bytes, at, 1, count)
 }
 
-// Whether a blank stands at an offset.
+// Whether a blank stands at an offset. Two tests, each with a return of its own: the compiler then branches on them, and
+// the next offset does not wait for a number that they would be made.
 pub fn blank_at(bytes: &[u8], at: usize) -> bool
     ensures { IsBlankAt bytes.now at (bool_byte result) }
 {
-    at < bytes.len() && is_blank(bytes[at])
+    if at < bytes.len() {
+        if is_blank(bytes[at]) {
+            return true;
+        }
+    }
+    false
 }
