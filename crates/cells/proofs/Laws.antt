@@ -10,6 +10,7 @@
 --   cut_sets                    cells stored part by part
 --   word_at                     the bytes from an index on, joined, are a part of the number of all
 --   piece                       cells cut from such a word are cut from the number of all
+--   join_none                   no cells join to 0
 --   join_eight                  eight bytes, each worth 256 times the one before it, joined
 use mathlib.Core.Path.{◌≡◌, refl, sym, ◌∙◌, ap, ap₂, subst}
 use mathlib.Core.List.{List, [], ◌∷◌, ◌++◌}
@@ -171,6 +172,11 @@ piece bytes ws p s k h g =
     ∙ ap (λ (t : ℕ). cut ws (x / 2 ^ s % 2 ^ t)) f
     ∙ cut_low ws (x / 2 ^ s) (j - total ws)
     ∙ ap (cut ws) (shr-shr (number bytes) (p * 8) s))
+
+-- No cells.
+pub join_none : (cells : List ℕ) (at : ℕ) → 0 ≡ join (replicate 0 8) (drop at cells)
+unfolding join
+join_none cells at = refl
 
 -- Eight bytes as one word, the first lowest.
 module _ (l : List ℕ) (at : ℕ) (bytes : (i : ℕ) → Fits w8 (get_or l i 0)) where

@@ -1,6 +1,6 @@
 -- USERCODE's bits stand by pairs: where each pair stands, and a pair more read or put in place.
 -- Stated once for images and readouts.
-use mathlib.Core.Path.{◌≡◌, sym, ◌∙◌, ap, ap₂}
+use mathlib.Core.Path.{◌≡◌, refl, sym, ◌∙◌, ap, ap₂}
 use mathlib.Core.Bool.{true}
 use mathlib.Core.List.{List}
 use Prim.Native.Nat.{ℕ, suc, ◌+◌, ◌*◌, ◌-◌, ◌/◌, ◌%◌, ◌^◌, ◌<◌, ◌≤◌}
@@ -17,11 +17,15 @@ use Rattle.part.specs.declared.Place.{Place}
 use Rattle.image.specs.Bits.{bit_of, bit_at, with_bit, gathered}
 use Rattle.image.proofs.Bits.{gathered_small}
 use Rattle.image.proofs.Pairs.{next_bit}
+use Rattle.settings.specs.Fields.{macrocell_index}
 use Rattle.settings.specs.Settings.{has_setting}
-use Rattle.settings.specs.declared.GlobalField.TheVariants.{Usercode}
+use Rattle.settings.specs.declared.GlobalField.TheVariants.{FsrInv, FclkInv, FoeInv, FclkMux, FoeMux, Usercode}
 use Rattle.settings.specs.declared.Setting.{Setting}
-use Rattle.settings.specs.declared.Setting.TheVariants.{Global}
-use Rattle.setting_places.specs.Places.{place_of, bits_of, fuse_of}
+use Rattle.settings.specs.declared.Setting.TheVariants.{Literal, WireAnd, Macrocell, Block, Global}
+use Rattle.settings.proofs.CodeNumbers.{has_macrocell}
+use Rattle.settings.proofs.FieldIndices.{macrocell_at}
+use Rattle.setting_places.specs.Places.{place_of, rows, bits_of, fuse_of}
+use Rattle.setting_places.proofs.OnePlaceEach.{rows_few}
 use Rattle.setting_bits.specs.declared.Layout.{Layout}
 use Rattle.setting_bits.specs.declared.Layout.TheVariants.{Image, Readout}
 use Rattle.setting_bits.specs.SettingBits.{bytes_of, byte_of, bit_in, state_of, with_state, with_bits}
@@ -30,6 +34,23 @@ use Rattle.setting_bits.proofs.Steps.{place_inverse, bits_read, state_small}
 
 abbrev pub usercode : Setting
 usercode = Global Usercode
+
+-- No other setting has 32 bits.
+pub the_usercode : (d : Device) (s : Setting) → has_setting d s ≡ true → bits_of s ≡ 32 → s ≡ usercode
+unfolding bits_of
+the_usercode d (Literal block j k l polarity) h e = absurd (omega arith)
+the_usercode d (WireAnd i j k l) h e = absurd (omega arith)
+the_usercode d (Macrocell block m f) h e =
+    let its = (has_macrocell d (Macrocell block m f) h block m f refl).2 in
+    let few : rows f ≤ 3 = rw (← macrocell_at f its) (rows_few (macrocell_index f) its) in
+    absurd (omega arith)
+the_usercode d (Block block f) h e = absurd (omega arith)
+the_usercode d (Global FsrInv) h e = absurd (omega arith)
+the_usercode d (Global (FclkInv c)) h e = absurd (omega arith)
+the_usercode d (Global (FoeInv i)) h e = absurd (omega arith)
+the_usercode d (Global (FclkMux c)) h e = absurd (omega arith)
+the_usercode d (Global (FoeMux i)) h e = absurd (omega arith)
+the_usercode d (Global Usercode) h e = refl
 
 -- Every device has it.
 pub usercode_there : (d : Device) → has_setting d usercode ≡ true
