@@ -47,8 +47,8 @@ fn states_run(bytes: &[u8]) -> StatesRun
     run
 }
 
-// A good L field, found and judged at once by what follows the L; any other is bad. A function of its own: compiled into
-// the reader its loops would keep their numbers in memory.
+// A good L field, found and judged at once by what follows the L; any other is bad. It stays a function of its own:
+// compiled into the reader, its loops would keep their numbers in memory.
 #[inline(never)]
 pub fn list_field(bytes: &[u8]) -> Option<ListField>
     ensures { ListStands bytes.now result }

@@ -11,7 +11,8 @@ use jedec_judge::FieldSays;
 use jedec_judge::letters::judge_field;
 
 // The offset of the next `*` from an offset on. `position` would answer an offset in a part of the text, to which the
-// start is added again. A function of its own: compiled into the reader its loop would count two more numbers on.
+// start is added again. It stays a function of its own: compiled into the reader, its loop would
+// count further numbers on.
 #[inline(never)]
 pub fn next_star(text: &[u8], at: usize) -> Option<usize>
     requires { at ≤ length text.now }

@@ -72,8 +72,8 @@ pub fn bits_at(bytes: &[u8], at: usize, count: usize) -> u64
     joined(bytes, at, 1, count)
 }
 
-// Whether a blank stands at an offset. Two tests, each with a return of its own: the compiler then branches on them, and
-// the next offset does not wait for a number that they would be made.
+// Whether a blank stands at an offset. The second test has a return of its own: so the compiler branches on it, and the
+// next offset does not wait for a number that is made of it.
 pub fn blank_at(bytes: &[u8], at: usize) -> bool
     ensures { IsBlankAt bytes.now at (bool_byte result) }
 {

@@ -1,4 +1,4 @@
--- What a refusal prints: the words that `Display` writes for it, with the number that it returns besides in decimal digits.
+-- What a refusal prints: the words that `Display` writes for it, with what it returns besides in decimal digits.
 -- Assumes nothing.
 use Rattle.std.specs.Prelude.{ℕ, List, ◌++◌, codes, decimal}
 use Rattle.part.specs.declared.Refusal.{Refusal}

@@ -1,5 +1,5 @@
-// What a device has: its rows, columns, fuses and bytes, and the sizes of a known device.
-// For the crates above, so that each number is derived once: a function here may require that the device is known.
+// What a device has: its rows, columns, fuses and bytes. The sizes of a known device stand in `known_device`.
+// For the crates above, so that each number is derived once.
 ghost use Rattle.std.specs.Prelude.{◌≡◌, true, ◌+◌, ◌*◌, ◌/◌, ◌<◌, ◌≤◌};
 ghost use Rattle.part.specs.Device.{is_block_count, known, blocks_of, is_large};
 ghost use Rattle.part.specs.Device.{in_block, in_device, fuse_count, image_bytes};

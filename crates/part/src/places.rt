@@ -1,5 +1,5 @@
 // Where each byte and each fuse lies: the width and the first fuse of a byte; block, row and place of a fuse.
-// For the crates above: a function here may require that the device is known and has the byte or the fuse.
+// For the crates above: a function here may require that the device has the byte or the fuse.
 ghost use Rattle.std.specs.Prelude.{◌≡◌, true, ◌+◌, ◌*◌, ◌-◌, ◌/◌, ◌%◌, ◌^◌, ◌<◌, ◌≤◌};
 ghost use Rattle.part.specs.Device.{blocks_of, column_width, column_start, main_fuses, main_row_fuses};
 ghost use Rattle.part.specs.Device.{wire_and_row_fuses, subarea_fuses, block_fuses, fuse_count};

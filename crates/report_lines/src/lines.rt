@@ -60,7 +60,7 @@ fn put_line(word: &[u8], x: u32, out: &mut [u8], at: usize) -> usize
 }
 
 // The line of a refusal, by its number and value: any two, as the definition has it, so no `Refusal` is asked for. Any
-// slice of 64 bytes or more will do, here and in `put_counts`: an array of 64 bytes in the type would ask more of callers.
+// slice of 64 bytes or more will do, here and in `put_counts`: an array of 64 bytes in the type would ask more.
 pub fn put_refusal(number: u32, value: u32, out: &mut [u8]) -> usize
     requires { 64 ≤ length out.old }
     ensures { Put out.old out.new 0 (refusal_line number value) result }

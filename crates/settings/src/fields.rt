@@ -1,5 +1,5 @@
 // Which settings a device has, and the index of each field in the listing order, both ways.
-// For the crates above: nothing here is part of the public interface.
+// For the crates above; of the public interface are the methods alone, as their types are.
 ghost use Rattle.std.specs.Prelude.{◌≡◌, ◌<◌, ◌≤◌};
 ghost use Rattle.settings.specs.Settings.{has_setting};
 ghost use Rattle.settings.specs.Fields.{foes, listed, polarity_index, macrocell_index, block_index, global_fields};

@@ -1,5 +1,5 @@
 // The value that a pattern stands for in settings of a kind, by the lists of document 003, and the bits of a kind.
-// For the crates above: nothing here is part of the public interface.
+// For the crates above; of the public interface are the `try_from` of the lists alone, as their types are.
 #![tactic(auto, unfolding(crate::specs::Values::named))]
 
 ghost use Rattle.std.specs.Prelude.{◌≡◌, cond, [], ◌∷◌, Result, MatchResult};
