@@ -11,7 +11,7 @@ use Rattle.part.specs.Device.{known, in_block, in_device, main_rows, main_row_fu
 use Rattle.part.specs.Device.{subarea_fuses, wire_and_row_text, fuse_count, image_bytes, text_bytes, decimal_digits}
 use Rattle.part.specs.declared.Area.TheVariants.{Main, WireAnd}
 use Rattle.part.specs.declared.Device.{Device}
-use Rattle.part.proofs.Devices.{by_count, known_count, fuses_small, image_whole}
+use Rattle.part.proofs.Devices.{by_count, known_count, blocks_small, fuses_small, image_whole}
 use Rattle.image.specs.Bits.{tabulate}
 use Rattle.jedec.specs.Characters.{digits_of, letter_l, seven_digits, count_digits}
 use Rattle.jedec.specs.WrittenText.{pattern_fuses}
@@ -41,11 +41,11 @@ pub wire_and_lines : row_lines WireAnd ≡ (8 ∷ 7 ∷ 7 ∷ 7 ∷ 7 ∷ []) �
 unfolding row_lines tabulate
 wire_and_lines = refl
 
-main_size : (pattern_fuses (row_lines Main) ≡ main_row_fuses) × (lines_bytes (row_lines Main) ≡ main_row_text)
+pub main_size : (pattern_fuses (row_lines Main) ≡ main_row_fuses) × (lines_bytes (row_lines Main) ≡ main_row_text)
 unfolding row_lines tabulate pattern_fuses lines_bytes total
 main_size = (refl, refl)
 
-wire_and_size : (pattern_fuses (row_lines WireAnd) ≡ wire_and_row_fuses) × (lines_bytes (row_lines WireAnd) ≡ wire_and_row_text)
+pub wire_and_size : (pattern_fuses (row_lines WireAnd) ≡ wire_and_row_fuses) × (lines_bytes (row_lines WireAnd) ≡ wire_and_row_text)
 unfolding row_lines tabulate pattern_fuses lines_bytes total
 wire_and_size = (refl, refl)
 
@@ -69,6 +69,11 @@ block_size d =
       rw (fuses_append rows (repeat more row), main_rows_lem.0, fuses_repeat more row, w.0) (omega arith),
       rw (bytes_append rows (repeat more row), main_rows_lem.1, bytes_repeat more row, w.1) (omega arith),
     )
+
+-- A block's fuses, and the bytes of its lines, are at most 65535.
+pub block_small : (d : Device) → known d ≡ true
+    → (in_block d main_fuses subarea_fuses ≤ 65535) × (in_block d main_text subarea_text ≤ 65535)
+block_small d k = omega (arith, blocks_small d k)
 
 -- A device has as many fuses and bytes of lines as its blocks together.
 device_fuses : (d : Device) → d.blocks * pattern_fuses (block_lines d) ≡ fuse_count d
