@@ -78,7 +78,8 @@ module _ (x bit width states : ℕ) (inside : bit + width ≤ 8) (less : width <
       let off : old * 2 ^ bit % 2 ^ 8 ≡ old * 2 ^ bit = exact old (mod-lt (x / 2 ^ bit) (pow_pos width)) in
       rw (one, off, exact states few, add-mul (x / 2 ^ bit / 2 ^ width * 2 ^ width) states (2 ^ bit)) (omega (arith, whole))
 
-  bits_small : x < 2 ^ 8 → put_bits x bit width states < 2 ^ 8
+  -- A byte stays a byte.
+  pub bits_small : x < 2 ^ 8 → put_bits x bit width states < 2 ^ 8
   unfolding put_bits
   bits_small h =
       let m = 8 - bit - width in
