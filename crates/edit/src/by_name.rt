@@ -29,7 +29,9 @@ pub fn above_in(layout: Layout, bytes: &[u8], s: DeviceSetting) -> Option<usize>
     }
 }
 
-// Refused: 6, where a byte that holds the setting has a bit above its width.
+// Refused: 6, where a byte that holds the setting has a bit above its width. Compiled where it is called: as a function
+// of its own it returns in memory.
+#[inline(always)]
 #[tactic(auto, using(crate::proofs::Rules::all))]
 pub fn check_above(layout: Layout, bytes: &[u8], there: DeviceSetting) -> Result<(), Refusal>
     requires { length bytes.now ≡ bytes_of there.device.device layout }

@@ -34,7 +34,8 @@ impl DeviceSetting {
         }
     }
 
-    // The setting of a number, if the device has so many. Refused: 4.
+    // The setting of a number, if the device has so many. Refused: 4. Compiled where it is called, as `new` is.
+    #[inline(always)]
     pub fn of_number(device: KnownDevice, number: SettingNumber) -> Result<DeviceSetting, Refusal>
         ensures { MatchResult result
             (λ x. (x.device ≡ device) × (x.setting ≡ setting_of device.device number.0)
