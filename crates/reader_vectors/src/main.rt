@@ -5,12 +5,17 @@
 ghost use Rattle.std.specs.Prelude.{◌<◌, ◌≤◌, length, IfSome};
 
 use part::Device;
-use std::alloc::Global;
 use std::io;
 use std::io::{BufWriter, Write};
 use vectors::at_most;
 
 const ETX: u8 = 3;
+
+// The device with the most fuses.
+const LARGEST: Device = Device {
+    blocks: 16,
+    class: 0,
+};
 
 // The QF field starts at 3, so its F stands at 4 and its digits behind that.
 const BEHIND_QF: usize = 5;
@@ -296,20 +301,28 @@ impl Reading {
 }
 
 // Reads texts for one device, in a text and an image of its sizes.
-fn device<W: Write>(alloc: Global, out: &mut W, d: Device) -> io::Result<()> {
+fn device<W: Write>(out: &mut W, reading: &mut Reading, d: Device) -> io::Result<()> {
     let sizes = vectors::sizes(d);
-    let mut reading = Reading {
-        d,
-        text: vec![in alloc; 0; sizes.text_bytes as usize]?,
-        image: vec![in alloc; 0; sizes.image_bytes as usize]?,
-    };
+    reading.d = d;
+    reading.text.clear();
+    reading.text.resize(sizes.text_bytes as usize, 0)?;
+    reading.image.clear();
+    reading.image.resize(sizes.image_bytes as usize, 0)?;
     reading.ask(out)
 }
 
+// Text and image have the capacity of the largest device from the start: so memory that is not there shows before a line
+// is written.
 fn main(rt: HostRuntime) -> io::Result<()> {
     let mut out = BufWriter::new(rt.alloc(), io::writer(&rt))?;
+    let largest = vectors::sizes(LARGEST);
+    let mut reading = Reading {
+        d: LARGEST,
+        text: Vec::with_capacity(rt.alloc(), largest.text_bytes as usize)?,
+        image: Vec::with_capacity(rt.alloc(), largest.image_bytes as usize)?,
+    };
     for d in (0..vectors::DEVICES).map(vectors::device) {
-        device(rt.alloc(), &mut out, d)?;
+        device(&mut out, &mut reading, d)?;
     }
     out.flush()
 }

@@ -3,39 +3,42 @@
 #![tactic(auto)]
 
 use part::Device;
-use std::alloc::Global;
 use std::io;
 use std::io::{BufWriter, Write};
-use vectors::one_less;
+use vectors::{at_most, one_less};
 
-// The answer of a call, and the digest of the caller's whole buffer of so many bytes.
+// The bytes that a buffer may have beyond those of a text.
+const MORE: u32 = 7;
+
+// The answer of a call, and the digest of the caller's whole buffer of so many bytes: the first of those that there are.
 fn written<W: Write>(
-    alloc: Global,
     out: &mut W,
     name: &[u8],
     d: Device,
     image: &[u8],
-    buffer: usize,
+    text: &mut [u8],
+    buffer: u32,
 ) -> io::Result<()> {
-    let mut text = vec![in alloc; 0; buffer]?;
-    vectors::fill(&mut text, 4);
-    let answer = xc9500::xc9500_image_to_text(d.blocks, d.class, image, &mut text);
-    vectors::put(out, name, vectors::digest_of(&text))?;
+    let n = at_most(buffer as usize, text.len());
+    let text = &mut text[..n];
+    vectors::fill(text, 4);
+    let answer = xc9500::xc9500_image_to_text(d.blocks, d.class, image, text);
+    vectors::put(out, name, vectors::digest_of(text))?;
     vectors::put_answer(out, answer)
 }
 
 // Buffer for a text of n bytes: exact, one byte short, a few more, and none.
 fn each_buffer<W: Write>(
-    alloc: Global,
     out: &mut W,
     d: Device,
     image: &[u8],
+    text: &mut [u8],
     n: u32,
 ) -> io::Result<()> {
-    written(alloc, out, b" exact", d, image, n as usize)?;
-    written(alloc, out, b" short", d, image, one_less(n) as usize)?;
-    written(alloc, out, b" longer", d, image, n as usize + 7)?;
-    written(alloc, out, b" empty", d, image, 0)?;
+    written(out, b" exact", d, image, text, n)?;
+    written(out, b" short", d, image, text, one_less(n))?;
+    written(out, b" longer", d, image, text, n.saturating_add(MORE))?;
+    written(out, b" empty", d, image, text, 0)?;
     vectors::end_line(out)
 }
 
@@ -50,36 +53,49 @@ fn fill_image(image: &mut [u8], kind: u32) {
 
 // An image of a length and a kind, with buffers for a text of n bytes.
 fn on_image<W: Write>(
-    alloc: Global,
     out: &mut W,
     d: Device,
+    image: &mut [u8],
+    text: &mut [u8],
     length: u32,
     kind: u32,
     n: u32,
 ) -> io::Result<()> {
-    let mut image = vec![in alloc; 0; length as usize]?;
-    fill_image(&mut image, kind);
+    let bytes = at_most(length as usize, image.len());
+    let image = &mut image[..bytes];
+    fill_image(image, kind);
     vectors::put_device(out, d)?;
     vectors::put(out, b" image", length as u64)?;
     vectors::put(out, b" kind", kind as u64)?;
-    each_buffer(alloc, out, d, &image, n)
+    each_buffer(out, d, image, text, n)
 }
 
 // Images of the right length of each kind, then one too short and one too long.
-fn device<W: Write>(alloc: Global, out: &mut W, d: Device) -> io::Result<()> {
+fn device<W: Write>(out: &mut W, d: Device, image: &mut [u8], text: &mut [u8]) -> io::Result<()> {
     let sizes = vectors::sizes(d);
     let length = sizes.image_bytes;
     for kind in 0..4 {
-        on_image(alloc, out, d, length, kind, sizes.text_bytes)?;
+        on_image(out, d, image, text, length, kind, sizes.text_bytes)?;
     }
-    on_image(alloc, out, d, one_less(length), 2, sizes.text_bytes)?;
-    on_image(alloc, out, d, length % 65536 + 1, 2, sizes.text_bytes)
+    on_image(out, d, image, text, one_less(length), 2, sizes.text_bytes)?;
+    on_image(out, d, image, text, length % 65536 + 1, 2, sizes.text_bytes)
 }
 
+// The bytes of the longest text that any device has.
+fn longest() -> u32 {
+    (0..vectors::DEVICES)
+        .map(vectors::device)
+        .fold(0, |most, d| most.max(vectors::sizes(d).text_bytes))
+}
+
+// Image and text are the largest that there are, once for all calls: so memory that is not there shows before a line is
+// written.
 fn main(rt: HostRuntime) -> io::Result<()> {
     let mut out = BufWriter::new(rt.alloc(), io::writer(&rt))?;
+    let mut image = vec![in rt.alloc(); 0; vectors::BUFFER]?;
+    let mut text = vec![in rt.alloc(); 0; longest().saturating_add(MORE) as usize]?;
     for d in (0..vectors::DEVICES).map(vectors::device) {
-        device(rt.alloc(), &mut out, d)?;
+        device(&mut out, d, &mut image, &mut text)?;
     }
     out.flush()
 }
