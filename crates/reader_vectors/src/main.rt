@@ -311,8 +311,8 @@ fn device<W: Write>(out: &mut W, reading: &mut Reading, d: Device) -> io::Result
     reading.ask(out)
 }
 
-// Text and image have the capacity of the largest device from the start: so memory that is not there shows before a line
-// is written.
+// Text and image have the capacity of the largest device from the start: so memory that is not there shows before any
+// line is written.
 fn main(rt: HostRuntime) -> io::Result<()> {
     let mut out = BufWriter::new(rt.alloc(), io::writer(&rt))?;
     let largest = vectors::sizes(LARGEST);

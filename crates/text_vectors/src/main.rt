@@ -10,7 +10,7 @@ use vectors::{at_most, one_less};
 // The bytes that a buffer may have beyond those of a text.
 const MORE: u32 = 7;
 
-// The answer of a call, and the digest of the caller's whole buffer of so many bytes: the first of those that there are.
+// The answer of a call, and the digest of the caller's whole buffer: so many of the bytes that there are.
 fn written<W: Write>(
     out: &mut W,
     name: &[u8],
@@ -88,8 +88,8 @@ fn longest() -> u32 {
         .fold(0, |most, d| most.max(vectors::sizes(d).text_bytes))
 }
 
-// Image and text are the largest that there are, once for all calls: so memory that is not there shows before a line is
-// written.
+// Image and text are the largest that there are, once for all calls: so memory that is not there shows before any line
+// is written.
 fn main(rt: HostRuntime) -> io::Result<()> {
     let mut out = BufWriter::new(rt.alloc(), io::writer(&rt))?;
     let mut image = vec![in rt.alloc(); 0; vectors::BUFFER]?;
