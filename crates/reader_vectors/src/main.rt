@@ -2,20 +2,22 @@
 // without F. The file stdout beside src/ is what the independent program prints.
 #![tactic(auto)]
 
-ghost use Rattle.std.specs.Prelude.{◌<◌, ◌≤◌, length, IfSome};
+ghost use Rattle.std.specs.Prelude.{◌≡◌, ◌<◌, ◌≤◌, length, IfSome};
 
 use part::Device;
+use std::alloc::Global;
 use std::io;
 use std::io::{BufWriter, Write};
 use vectors::at_most;
 
 const ETX: u8 = 3;
 
-// The device with the most fuses.
-const LARGEST: Device = Device {
-    blocks: 16,
-    class: 0,
-};
+// A buffer for the longest text that is written.
+fn buffer_for_text() -> [u8; 411293]
+    ensures { 411293 ≡ length result }
+{
+    [0; 411293]
+}
 
 // The QF field starts at 3, so its F stands at 4 and its digits behind that.
 const BEHIND_QF: usize = 5;
@@ -116,59 +118,70 @@ fn put_states(text: &mut [u8], at: usize, fuses: u32) -> usize {
     to
 }
 
-// A device, a text that is read for it, and the image that it is read into.
+// A device, and a text that is read for it. The image that it is read into is passed apart: of a struct that holds two
+// slices, both could not be lent at once.
 #[derive(Drop)]
-struct Reading {
+struct Reading<'a> {
     d: Device,
-    text: Vec<u8>,
-    image: Vec<u8>,
+    text: &'a mut [u8],
 }
 
-impl Reading {
+impl<'a> Reading<'a> {
     // Reads the whole text.
-    fn read_whole<W: Write>(&mut self, out: &mut W, name: &[u8]) -> io::Result<()> {
-        read(out, name, self.d, &self.text, &mut self.image)
+    fn read_whole<W: Write>(
+        &mut self,
+        out: &mut W,
+        image: &mut [u8],
+        name: &[u8],
+    ) -> io::Result<()> {
+        read(out, name, self.d, self.text, image)
     }
 
     // Reads the first bytes of the text.
-    fn read_first<W: Write>(&mut self, out: &mut W, name: &[u8], length: usize) -> io::Result<()> {
+    fn read_first<W: Write>(
+        &mut self,
+        out: &mut W,
+        image: &mut [u8],
+        name: &[u8],
+        length: usize,
+    ) -> io::Result<()> {
         let n = at_most(length, self.text.len());
-        read(out, name, self.d, &self.text[..n], &mut self.image)
+        read(out, name, self.d, &self.text[..n], image)
     }
 
     // Reads into an image that is too short for any device.
-    fn read_short_image<W: Write>(&mut self, out: &mut W) -> io::Result<()> {
-        let n = at_most(2267, self.image.len());
-        read(
-            out,
-            b" image short",
-            self.d,
-            &self.text,
-            &mut self.image[..n],
-        )
+    fn read_short_image<W: Write>(&mut self, out: &mut W, image: &mut [u8]) -> io::Result<()> {
+        let n = at_most(2267, image.len());
+        read(out, b" image short", self.d, self.text, &mut image[..n])
     }
 
     // Reads the text whole, without its last byte, its first half, and none; and into an image that is too short.
-    fn lengths<W: Write>(&mut self, out: &mut W) -> io::Result<()> {
+    fn lengths<W: Write>(&mut self, out: &mut W, image: &mut [u8]) -> io::Result<()> {
         let n = self.text.len();
-        self.read_whole(out, b" whole")?;
-        self.read_first(out, b" short", n - at_most(1, n))?;
-        self.read_first(out, b" half", n / 2)?;
-        self.read_first(out, b" empty", 0)?;
-        self.read_short_image(out)?;
+        self.read_whole(out, image, b" whole")?;
+        self.read_first(out, image, b" short", n - at_most(1, n))?;
+        self.read_first(out, image, b" half", n / 2)?;
+        self.read_first(out, image, b" empty", 0)?;
+        self.read_short_image(out, image)?;
         vectors::end_line(out)
     }
 
     // Changes one byte, reads the text, and puts the byte back.
-    fn changed<W: Write>(&mut self, out: &mut W, at: usize, byte: u8) -> io::Result<()> {
+    fn changed<W: Write>(
+        &mut self,
+        out: &mut W,
+        image: &mut [u8],
+        at: usize,
+        byte: u8,
+    ) -> io::Result<()> {
         if at < self.text.len() {
             let old = self.text[at];
             self.text[at] = byte;
             vectors::put(out, b"at", at as u64)?;
             vectors::put(out, b" byte", byte as u64)?;
-            self.read_whole(out, b" image")?;
+            self.read_whole(out, image, b" image")?;
             vectors::end_line(out)?;
-            put_byte(&mut self.text, at, old);
+            put_byte(self.text, at, old);
         }
         Ok(())
     }
@@ -177,6 +190,7 @@ impl Reading {
     fn changed_behind<W: Write>(
         &mut self,
         out: &mut W,
+        image: &mut [u8],
         from: usize,
         mark: u8,
         behind: usize,
@@ -184,67 +198,73 @@ impl Reading {
     ) -> io::Result<()>
         requires { behind ≤ 1 }
     {
-        match next_byte(&self.text, from, mark) {
-            Some(at) => self.changed(out, at + behind, byte),
+        match next_byte(self.text, from, mark) {
+            Some(at) => self.changed(out, image, at + behind, byte),
             None => Ok(()),
         }
     }
 
     // Reads the text thirty times, each time with one byte changed.
-    fn damaged<W: Write>(&mut self, out: &mut W) -> io::Result<()> {
+    fn damaged<W: Write>(&mut self, out: &mut W, image: &mut [u8]) -> io::Result<()> {
         let mut word: u64 = 7;
         for k in 0..30 {
             word = vectors::next(word);
             let at = place(k, word / 16, self.text.len());
             word = vectors::next(word);
-            self.changed(out, at, OTHERS[(word / 65536 % 6) as usize])?;
+            self.changed(out, image, at, OTHERS[(word / 65536 % 6) as usize])?;
         }
         Ok(())
     }
 
     // Reads the text without its F: whole, and twelve times with the next line made a comment or the next state after a
     // blank made a blank, in turn.
-    fn read_without_start<W: Write>(&mut self, out: &mut W) -> io::Result<()> {
-        take_start(&mut self.text);
-        self.read_whole(out, b"no F image")?;
+    fn read_without_start<W: Write>(&mut self, out: &mut W, image: &mut [u8]) -> io::Result<()> {
+        take_start(self.text);
+        self.read_whole(out, image, b"no F image")?;
         vectors::end_line(out)?;
         let mut word: u64 = 11;
         for k in 0..12 {
             word = vectors::next(word);
             let from = from_place(k / 2, word / 16, self.text.len());
             if k % 2 == 0 {
-                self.changed_behind(out, from, b'L', 0, b'N')?;
+                self.changed_behind(out, image, from, b'L', 0, b'N')?;
             } else {
-                self.changed_behind(out, from, b' ', 1, b' ')?;
+                self.changed_behind(out, image, from, b' ', 1, b' ')?;
             }
         }
         Ok(())
     }
 
     // Reads the text with another number in its last line.
-    fn last_line_elsewhere<W: Write>(&mut self, out: &mut W) -> io::Result<()> {
+    fn last_line_elsewhere<W: Write>(&mut self, out: &mut W, image: &mut [u8]) -> io::Result<()> {
         let from = self.text.len() - at_most(70, self.text.len());
-        self.changed_behind(out, from, b'L', 1, b'9')
+        self.changed_behind(out, image, from, b'L', 1, b'9')
     }
 
     // Reads the text without F and without its first line with another fault besides: of the form (7), of the count
     // (8), of the last line's number (9), of the transmission sum (11). Its fuse sum (10) is that of other fuses
     // already.
-    fn two_faults<W: Write>(&mut self, out: &mut W) -> io::Result<()> {
-        replace_next(&mut self.text, 0, b'L', b'N');
+    fn two_faults<W: Write>(&mut self, out: &mut W, image: &mut [u8]) -> io::Result<()> {
+        replace_next(self.text, 0, b'L', b'N');
         let last = self.text.len() - at_most(1, self.text.len());
-        self.changed(out, last, b'x')?;
-        self.changed(out, BEHIND_QF, b'9')?;
-        self.last_line_elsewhere(out)?;
-        self.changed(out, last, b'1')
+        self.changed(out, image, last, b'x')?;
+        self.changed(out, image, BEHIND_QF, b'9')?;
+        self.last_line_elsewhere(out, image)?;
+        self.changed(out, image, last, b'1')
     }
 
     // Ends the text at an offset, with a transmission sum that is not given, and reads it.
-    fn read_ended<W: Write>(&mut self, out: &mut W, name: &[u8], at: usize) -> io::Result<()> {
-        let star = put_bytes(&mut self.text, at, b"*");
-        let etx = put_byte(&mut self.text, star, ETX);
-        let end = put_bytes(&mut self.text, etx, b"0000");
-        self.read_first(out, name, end)?;
+    fn read_ended<W: Write>(
+        &mut self,
+        out: &mut W,
+        image: &mut [u8],
+        name: &[u8],
+        at: usize,
+    ) -> io::Result<()> {
+        let star = put_bytes(self.text, at, b"*");
+        let etx = put_byte(self.text, star, ETX);
+        let end = put_bytes(self.text, etx, b"0000");
+        self.read_first(out, image, name, end)?;
         vectors::end_line(out)
     }
 
@@ -252,77 +272,79 @@ impl Reading {
     fn one_list<W: Write>(
         &mut self,
         out: &mut W,
+        image: &mut [u8],
         name: &[u8],
         at: usize,
         fuses: u32,
     ) -> io::Result<()> {
-        let states = put_bytes(&mut self.text, at, b"L0 ");
-        let end = put_states(&mut self.text, states, fuses);
-        self.read_ended(out, name, end)
+        let states = put_bytes(self.text, at, b"L0 ");
+        let end = put_states(self.text, states, fuses);
+        self.read_ended(out, image, name, end)
     }
 
     // Reads the text with a C and an F behind it, and nothing else, behind its QF.
-    fn start_behind_sum<W: Write>(&mut self, out: &mut W, at: usize) -> io::Result<()> {
-        let end = put_bytes(&mut self.text, at, b"C0000*F0");
-        self.read_ended(out, b"F behind C image", end)
+    fn start_behind_sum<W: Write>(
+        &mut self,
+        out: &mut W,
+        image: &mut [u8],
+        at: usize,
+    ) -> io::Result<()> {
+        let end = put_bytes(self.text, at, b"C0000*F0");
+        self.read_ended(out, image, b"F behind C image", end)
     }
 
     // Reads texts with other fields behind the QF: one L of every fuse, one of all but the last, and an F behind a C.
-    fn other_fields<W: Write>(&mut self, out: &mut W) -> io::Result<()> {
+    fn other_fields<W: Write>(&mut self, out: &mut W, image: &mut [u8]) -> io::Result<()> {
         let fuses = vectors::sizes(self.d).fuses;
-        let start = next_byte(&self.text, BEHIND_QF, b'N').unwrap_or(self.text.len());
-        self.one_list(out, b"one L image", start, fuses)?;
+        let start = next_byte(self.text, BEHIND_QF, b'N').unwrap_or(self.text.len());
+        self.one_list(out, image, b"one L image", start, fuses)?;
         self.one_list(
             out,
+            image,
             b"one state less image",
             start,
             vectors::one_less(fuses),
         )?;
-        self.start_behind_sum(out, start)
+        self.start_behind_sum(out, image, start)
     }
 
     // Reads the text of an image that looks random, written for a device that is known, as the text of the device.
-    fn ask<W: Write>(&mut self, out: &mut W) -> io::Result<()> {
+    fn ask<W: Write>(&mut self, out: &mut W, image: &mut [u8]) -> io::Result<()> {
         let d = self.d;
         let known = d.is_known();
         let writer = if known { d } else { vectors::SMALLEST };
-        vectors::fill(&mut self.image, 2);
-        xc9500::xc9500_image_to_text(writer.blocks, writer.class, &self.image, &mut self.text);
+        vectors::fill(image, 2);
+        xc9500::xc9500_image_to_text(writer.blocks, writer.class, image, self.text);
         vectors::put_device(out, d)?;
-        self.lengths(out)?;
+        self.lengths(out, image)?;
         if known {
-            self.damaged(out)?;
-            self.read_without_start(out)?;
-            self.two_faults(out)?;
-            self.other_fields(out)?;
+            self.damaged(out, image)?;
+            self.read_without_start(out, image)?;
+            self.two_faults(out, image)?;
+            self.other_fields(out, image)?;
         }
         Ok(())
     }
 }
 
 // Reads texts for one device, in a text and an image of its sizes.
-fn device<W: Write>(out: &mut W, reading: &mut Reading, d: Device) -> io::Result<()> {
+fn device<W: Write>(alloc: Global, out: &mut W, d: Device, text: &mut [u8]) -> io::Result<()> {
     let sizes = vectors::sizes(d);
-    reading.d = d;
-    reading.text.clear();
-    reading.text.resize(sizes.text_bytes as usize, 0)?;
-    reading.image.clear();
-    reading.image.resize(sizes.image_bytes as usize, 0)?;
-    reading.ask(out)
+    let n = at_most(sizes.text_bytes as usize, text.len());
+    let mut image = vec![in alloc; 0; sizes.image_bytes as usize]?;
+    let mut reading = Reading {
+        d,
+        text: &mut text[..n],
+    };
+    reading.ask(out, &mut image)
 }
 
-// Text and image have the capacity of the largest device from the start: so memory that is not there shows before any
-// line is written.
+// The text is no `Vec`: memory for it on the heap is taken besides that of the stack, so the program would need more.
 fn main(rt: HostRuntime) -> io::Result<()> {
     let mut out = BufWriter::new(rt.alloc(), io::writer(&rt))?;
-    let largest = vectors::sizes(LARGEST);
-    let mut reading = Reading {
-        d: LARGEST,
-        text: Vec::with_capacity(rt.alloc(), largest.text_bytes as usize)?,
-        image: Vec::with_capacity(rt.alloc(), largest.image_bytes as usize)?,
-    };
+    let mut text = buffer_for_text();
     for d in (0..vectors::DEVICES).map(vectors::device) {
-        device(&mut out, &mut reading, d)?;
+        device(rt.alloc(), &mut out, d, &mut text)?;
     }
     out.flush()
 }

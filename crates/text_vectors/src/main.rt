@@ -2,6 +2,8 @@
 // The file stdout beside src/ is what the independent program prints.
 #![tactic(auto)]
 
+ghost use Rattle.std.specs.Prelude.{◌≡◌, length};
+
 use part::Device;
 use std::io;
 use std::io::{BufWriter, Write};
@@ -9,6 +11,13 @@ use vectors::{at_most, one_less};
 
 // The bytes that a buffer may have beyond those of a text.
 const MORE: u32 = 7;
+
+// A buffer for the longest text and that many bytes after it.
+fn buffer_for_text() -> [u8; 411300]
+    ensures { 411300 ≡ length result }
+{
+    [0; 411300]
+}
 
 // The answer of a call, and the digest of the caller's whole buffer: so many of the bytes that there are.
 fn written<W: Write>(
@@ -81,19 +90,12 @@ fn device<W: Write>(out: &mut W, d: Device, image: &mut [u8], text: &mut [u8]) -
     on_image(out, d, image, text, length % 65536 + 1, 2, sizes.text_bytes)
 }
 
-// The bytes of the longest text that any device has.
-fn longest() -> u32 {
-    (0..vectors::DEVICES)
-        .map(vectors::device)
-        .fold(0, |most, d| most.max(vectors::sizes(d).text_bytes))
-}
-
-// Image and text are the largest that there are, once for all calls: so memory that is not there shows before any line
-// is written.
+// Image and text are as long as the longest that are asked for, once for all calls. The text is no `Vec`: memory for it
+// on the heap is taken besides that of the stack, so the program would need more.
 fn main(rt: HostRuntime) -> io::Result<()> {
     let mut out = BufWriter::new(rt.alloc(), io::writer(&rt))?;
     let mut image = vec![in rt.alloc(); 0; vectors::BUFFER]?;
-    let mut text = vec![in rt.alloc(); 0; longest().saturating_add(MORE) as usize]?;
+    let mut text = buffer_for_text();
     for d in (0..vectors::DEVICES).map(vectors::device) {
         device(&mut out, d, &mut image, &mut text)?;
     }
